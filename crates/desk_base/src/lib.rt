@@ -1,0 +1,24 @@
+//! What every crate of the desk stands on: texts of bytes, lists of them, and want of memory.
+#![tactic(auto)]
+
+mod texts;
+
+pub use texts::{Text, TextList};
+
+use std::alloc::{AllocError, AllocFailed};
+
+/// Memory ran out. It is merged with no other fault.
+#[derive(Clone, Copy, Debug, PartialEq, Eq)]
+pub struct Memory;
+
+impl From<AllocError> for Memory {
+    fn from(_: AllocError) -> Memory {
+        Memory
+    }
+}
+
+impl<T: Drop> From<AllocFailed<T>> for Memory {
+    fn from(_: AllocFailed<T>) -> Memory {
+        Memory
+    }
+}
