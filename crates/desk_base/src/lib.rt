@@ -3,9 +3,8 @@
 
 mod texts;
 
-pub use texts::{Text, TextList};
-
 use std::alloc::{AllocError, AllocFailed};
+pub use texts::{Text, TextList};
 
 /// Memory ran out. It is merged with no other fault.
 #[derive(Clone, Copy, Debug, PartialEq, Eq)]
