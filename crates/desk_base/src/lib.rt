@@ -10,6 +10,13 @@ pub use texts::{Text, TextList};
 #[derive(Clone, Copy, Debug, PartialEq, Eq)]
 pub struct Memory;
 
+/// New bytes, and how many of the things that they were made of changed.
+#[derive(Debug, Drop)]
+pub struct Changed {
+    pub bytes: Text,
+    pub changed: u32,
+}
+
 impl From<AllocError> for Memory {
     fn from(_: AllocError) -> Memory {
         Memory
