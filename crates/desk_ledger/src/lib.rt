@@ -1,13 +1,8 @@
-// A library with one function.
+//! The ledger of a run: what was written to each target, from which source, by the digest of its bytes.
 #![tactic(auto)]
 
-ghost use Rattle.std.specs.Prelude.{◌≡◌};
-ghost use Rattle.desk_ledger.specs.Echo.{echo_of};
+mod digest;
+mod keeper;
 
-// The `ensures` clause is the contract: what `echo` returns is `echo_of` of its argument, a definition
-// in `specs/Echo.antt`, which a caller's clause can cite too.
-pub fn echo(x: usize) -> usize
-    ensures { result ≡ echo_of x }
-{
-    x
-}
+pub use digest::{Digest, Digester, digest_of};
+pub use keeper::{Header, Held, Keeper, KeeperFault, Row};
