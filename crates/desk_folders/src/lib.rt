@@ -1,0 +1,6 @@
+//! Folders of files: what a run reads from and writes to, over a disk or in memory.
+#![tactic(auto)]
+
+mod folders;
+
+pub use folders::{FolderFault, Folders, GenFile};

@@ -1,0 +1,40 @@
+-- What a ledger contains: a header, and rows by their targets.
+use Rattle.std.specs.Prelude.{◌≡◌, ◌⊎◌, ◌<◌, ◌≤◌, ◌-◌, ◌^◌, ℕ, List, Option, Some}
+use Rattle.std.specs.Ordering.{nat_cmp}
+use Rattle.std.specs.Cmp.Lexicographic.{slice_cmp}
+use Rattle.std.specs.FinMap as fin
+use Rattle.std.specs.FinMap.{FinMap}
+use Rattle.desk_base.specs.Names.{Text}
+use Rattle.desk_ledger.specs.declared.digest.Digest.{Digest}
+use Rattle.desk_ledger.specs.declared.keeper.Header.{Header}
+use Rattle.desk_ledger.specs.declared.keeper.Row.{Row}
+use Rattle.desk_ledger.specs.declared.keeper.Held.{Held}
+
+-- a count is greater than before, or stands at its last value
+abbrev pub Rose : ℕ → ℕ → Type 0
+Rose old new = (old < new) ⊎ (2 ^ 64 - 1 ≤ new)
+
+-- what was written to each target, and from what
+abbrev pub Rows : Type 0
+Rows = FinMap (slice_cmp nat_cmp) Held
+
+pub record Ledger : Type 0 where
+  pub header : Option Header
+  pub rows : Rows
+
+-- the row of a target
+abbrev pub row_at : Text → Held → Row
+row_at target held = record { target = target; source = held.source; digest = held.digest }
+
+-- what a row says of its target
+abbrev pub held_in : Row → Held
+held_in row = record { source = row.source; digest = row.digest }
+
+abbrev pub with_header : Header → Ledger → Ledger
+with_header header l = record l { header = Some header }
+
+abbrev pub with_row : Row → Ledger → Ledger
+with_row row l = record l { rows = fin.insert l.rows row.target (held_in row) }
+
+abbrev pub without_row : Text → Ledger → Ledger
+without_row target l = record l { rows = fin.remove l.rows target }

@@ -1,0 +1,48 @@
+-- Laws of ledgers: what changes of rows leave, and of counts that rise.
+use Rattle.std.proofs.Common.{◌≢◌, cond, false, ◌≡◌, ℕ, ◌≤◌, List, Some, None, Option, ap, ◌∙◌, rules, arith}
+use Rattle.std.specs.Ordering.{nat_cmp, eq_by_cmp}
+use Rattle.std.proofs.lemmas.Cmp.{nat_list_cmp_total}
+use Rattle.std.specs.FinMap as fin
+use Rattle.std.specs.FinMap.{FinMap, gets, same_map, slice_cmp-IsAntisymmetric, nat_cmp-IsAntisymmetric}
+use Rattle.std.proofs.lemmas.Bool.{false_from_ne_true}
+use Rattle.std.proofs.lemmas.Map.Text.{is_eq-slice_cmp}
+use Rattle.std.proofs.lemmas.Slice.Eq.{bytes_eq-Decides}
+use Rattle.std.specs.Cmp.Lexicographic.{slice_cmp}
+use Rattle.desk_base.specs.Names.{Text}
+use Rattle.desk_ledger.specs.declared.keeper.Held.{Held}
+use Rattle.desk_ledger.specs.Ledger.{Rows, Rose}
+
+pub same_rows : (m n : Rows) → ((q : Text) → fin.get m q ≡ fin.get n q) → m ≡ n
+same_rows m n h = same_map nat_list_cmp_total (slice_cmp-IsAntisymmetric nat_cmp-IsAntisymmetric) m n h
+
+pub text_differs : (q p : Text) → q ≢ p → eq_by_cmp (slice_cmp nat_cmp) q p ≡ false
+text_differs q p apart = is_eq-slice_cmp q p ∙ false_from_ne_true _ (λ e. apart (grind (arith, bytes_eq-Decides q p, e)))
+
+pub get-insert-same : (m : Rows) (p : Text) (x : Held) → fin.get (fin.insert m p x) p ≡ Some x
+get-insert-same m p x = grind (gets, rules)
+
+pub get-insert-other : (m : Rows) (p : Text) (x : Held) (other : Text) → other ≢ p → fin.get (fin.insert m p x) other ≡ fin.get m other
+get-insert-other m p x other apart =
+    fin.get-insert nat_list_cmp_total m p x other ∙ ap (λ b. cond b (Some x) (fin.get m other)) (text_differs other p apart)
+
+pub get-remove-same : (m : Rows) (p : Text) → fin.get (fin.remove m p) p ≡ None
+get-remove-same m p = grind (gets, rules)
+
+pub get-remove-other : (m : Rows) (p other : Text) → other ≢ p → fin.get (fin.remove m p) other ≡ fin.get m other
+get-remove-other m p other apart =
+    fin.get-remove nat_list_cmp_total m p other ∙ ap (λ b. cond b None (fin.get m other)) (text_differs other p apart)
+
+pub insert-insert : (m : Rows) (p : Text) (x y : Held) → fin.insert (fin.insert m p x) p y ≡ fin.insert m p y
+insert-insert m p x y = same_rows _ _ (λ q. grind (gets, rules))
+
+pub insert-remove : (m : Rows) (p : Text) (x : Held) → fin.insert (fin.remove m p) p x ≡ fin.insert m p x
+insert-remove m p x = same_rows _ _ (λ q. grind (gets, rules))
+
+pub remove-insert : (m : Rows) (p : Text) (x : Held) → fin.remove (fin.insert m p x) p ≡ fin.remove m p
+remove-insert m p x = same_rows _ _ (λ q. grind (gets, rules))
+
+pub Rose-earlier : (a b c : ℕ) → a ≤ b → Rose b c → Rose a c
+Rose-earlier a b c h r = grind arith
+
+pub Rose-later : (a b c : ℕ) → Rose a b → b ≤ c → Rose a c
+Rose-later a b c r h = grind arith
