@@ -1,1 +1,10 @@
 pub mod Words
+pub mod Runs
+pub mod Works
+pub mod Truth
+pub mod Stands
+pub mod Stops
+pub mod Reports
+pub mod Answers
+pub mod Endings
+pub mod Clauses

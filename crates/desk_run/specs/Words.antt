@@ -4,7 +4,7 @@ use Rattle.std.specs.List.{slice_split, list_any, starts_with}
 use Rattle.std.specs.Str.{bytes_eq, is_utf8}
 use Rattle.desk_base.specs.Names.{Text, is_empty, slash}
 use Rattle.desk_base.specs.Paths.{here, written_root}
-use Rattle.desk_run.specs.declared.words.Root.{Root}
+use Rattle.desk_run.specs.declared.roots.Root.{Root}
 use Rattle.desk_run.specs.declared.words.Task.{Task}
 use Rattle.desk_run.specs.declared.words.Task.TheVariants.{Run}
 

@@ -1,19 +1,11 @@
-//! The words of a run, and the roots that they name.
+//! The words of a run.
 
-ghost use Rattle.std.specs.Prelude.{◌≡◌, Some, None, Ok, Err, IfOk, IfSome, IsTrue, option_map, OnOk, filter, not, ◌++◌, ◌∷◌, []};
-ghost use Rattle.std.specs.List.{list_any};
-ghost use Rattle.std.specs.Str.{is_utf8};
-ghost use Rattle.desk_run.specs.Words.{is_value, parts, is_upward, is_dropped, named_parts, is_absolute, root_of, task_of, written, lies_in, overlap, first_nested, run_of_roots, are_options};
+ghost use Rattle.std.specs.Prelude.{◌≡◌, Some, None, Err, IfOk};
+ghost use Rattle.desk_run.specs.Words.{root_of, task_of, run_of_roots, are_options};
 
-use desk_base::{Memory, Text, TextList};
+use crate::roots::Root;
+use desk_base::{Memory, Text};
 use std::alloc::Global;
-
-/// A folder or file that a word names: the segments between its `/`, without empty ones and `.`.
-#[derive(Debug, Drop)]
-pub struct Root {
-    pub absolute: bool,
-    pub segments: TextList,
-}
 
 /// What words ask for.
 #[derive(Debug, Drop)]
@@ -42,76 +34,6 @@ impl From<Memory> for WordsFault {
 
     fn from(_: Memory) -> WordsFault {
         WordsFault::Memory
-    }
-}
-
-/// Whether bytes are UTF-8.
-fn is_utf8(bytes: &[u8]) -> bool
-    ensures { result ≡ is_utf8 bytes.now }
-{
-    str::from_utf8(bytes).is_ok()
-}
-
-/// Whether a word may be the value of an option.
-fn is_value(word: &[u8]) -> bool
-    ensures { result ≡ is_value word.now }
-{
-    match word {
-        [] => false,
-        [b'-', ..] => false,
-        _ => word.len() <= 1024 && is_utf8(word),
-    }
-}
-
-/// Whether a part of a value leads nowhere.
-fn is_dropped(part: &[u8]) -> bool
-    ensures { result ≡ is_dropped part.now }
-{
-    part.is_empty() || part == b".".as_slice()
-}
-
-/// Whether a value leads to a folder above.
-fn leads_upward(value: &[u8]) -> bool
-    ensures { result ≡ list_any is_upward (parts value.now) }
-{
-    value.split(|byte| *byte == b'/').any(|part| part == b"..".as_slice())
-}
-
-/// Adds a part unless it leads nowhere.
-fn push_named(alloc: Global, list: &mut TextList, part: &[u8]) -> Result<(), Memory>
-    ensures { OnOk result (list.new ≡ list.old ++ filter (λ part. not (is_dropped part)) (part.now ∷ [])) }
-{
-    if is_dropped(part) {
-        Ok(())
-    } else {
-        list.push(Text::from_bytes(alloc, part)?)
-    }
-}
-
-/// The parts of a value that are no empty text and no `.`.
-fn named_parts(alloc: Global, value: &[u8]) -> Result<TextList, Memory>
-    ensures { IfOk result (λ list. list ≡ named_parts value.now) }
-{
-    let mut list = TextList::empty(alloc);
-    for part in value.split(|byte| *byte == b'/') {
-        push_named(alloc, &mut list, part)?;
-    }
-    Ok(list)
-}
-
-impl Root {
-    /// The root that a value names; none where it isn't a value, or has a part `..`.
-    fn read(alloc: Global, value: &[u8]) -> Result<Option<Root>, Memory>
-        ensures { IfOk result (λ root. root ≡ root_of value.now) }
-    {
-        if !is_value(value) || leads_upward(value) {
-            return Ok(None);
-        }
-        let segments = named_parts(alloc, value)?;
-        Ok(Some(Root {
-            absolute: value.starts_with(b"/"),
-            segments,
-        }))
     }
 }
 

@@ -2,7 +2,7 @@ use Rattle.std.proofs.Common.{◌==◌, rules, tests}
 use Rattle.std.proofs.lemmas.Iterator.Search.{any_from_yields_List}
 use Rattle.std.proofs.lemmas.Iterator.Splits.{YieldsList-from_slice_split}
 use Rattle.desk_run.specs.Words.{is_upward}
-use Rattle.desk_run.proofs.words.leads_upward.Goals as goal
+use Rattle.desk_run.proofs.roots.leads_upward.Goals as goal
 
 pub returns : goal.returns
 returns c =

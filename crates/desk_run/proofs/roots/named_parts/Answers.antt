@@ -5,7 +5,7 @@ use Rattle.std.proofs.lemmas.List.Elements.{filter-append}
 use Rattle.std.proofs.lemmas.Iterator.Consumers.{YieldsList-end}
 use Rattle.std.proofs.lemmas.Iterator.Splits.{YieldsList-from_slice_split}
 use Rattle.desk_run.specs.Words.{is_dropped}
-use Rattle.desk_run.proofs.words.named_parts.Goals as goal
+use Rattle.desk_run.proofs.roots.named_parts.Goals as goal
 
 pub loop-part-preserved : goal.loop-part-preserved
 loop-part-preserved c = rw (map-append, filter-append, ← c.loop-part.invariant) c.in_ok-push_named.ensures
