@@ -9,6 +9,8 @@ use Rattle.desk_report.specs.declared.status.Status.TheVariants.{Done, Memory, F
 use Rattle.desk_report.specs.Written.{WritesFront, writing}
 use Rattle.desk_run.specs.declared.planning.Work.{Work}
 use Rattle.desk_run.specs.declared.roots.Roots.{Roots}
+use Rattle.desk_run.specs.declared.stops.Halt.{Halt}
+use Rattle.desk_run.specs.declared.stops.Halt.TheVariants as halt
 use Rattle.desk_run.specs.Runs.{Run, TargetsApart}
 use Rattle.desk_run.specs.Works.{works_of, files_after, ledger_after}
 use Rattle.desk_run.specs.Truth.{IsOurs}
@@ -28,13 +30,6 @@ pub record Tells (f : Option Contents) (k : Option Ledger) (P : Contents → Led
   pub folders : f ≡ Some m
   pub ledger : k ≡ Some l
   pub holds : P m l
-
--- the answer of words alone, or want of memory
-abbrev pub StopsAtWords : List Text → Status → Type 0
-StopsAtWords words Memory = Unit {0}
-StopsAtWords words Usage = roots_of_words words ≡ Err Usage
-StopsAtWords words (NestedRoots first second) = roots_of_words words ≡ Err (NestedRoots first second)
-StopsAtWords words _ = ⊥
 
 -- a run whose words and rules are read and whose files stand against nothing
 pub record IsReady (words : List Text) (m : Contents) (run : Run) : Type 0 where
@@ -63,17 +58,33 @@ pub record SetsHeader (words : List Text) (f : Option Contents) (k k' : Option L
 abbrev pub LedgerEarly : List Text → Option Contents → Option Ledger → Option Ledger → Type 0
 LedgerEarly words f k k' = (k' ≡ k) ⊎ SetsHeader words f k k'
 
--- before the first file is written, a run may stop so
-abbrev pub StopsEarly : List Text → Option Contents → Option Ledger → Option Ledger → ℕ → ℕ → ℕ → ℕ → Status → Type 0
-StopsEarly words f k k' f1 f2 k1 k2 Memory = LedgerEarly words f k k'
-StopsEarly words f k k' f1 f2 k1 k2 (FolderFault done) = (done ≡ 0) × (k' ≡ k) × Rose f1 f2
-StopsEarly words f k k' f1 f2 k1 k2 (LedgerFault done) = (done ≡ 0) × LedgerEarly words f k k' × Rose k1 k2
-StopsEarly words f k k' f1 f2 k1 k2 Usage = (k' ≡ k) × (roots_of_words words ≡ Err Usage)
-StopsEarly words f k k' f1 f2 k1 k2 (NestedRoots first second) = (k' ≡ k) × (roots_of_words words ≡ Err (NestedRoots first second))
-StopsEarly words f k k' f1 f2 k1 k2 (BadRules fault) = (k' ≡ k) × WhereTold f k (λ m l. first_answer words m l ≡ BadRules fault)
-StopsEarly words f k k' f1 f2 k1 k2 (OtherRun kept wanted) = (k' ≡ k) × WhereTold f k (λ m l. first_answer words m l ≡ OtherRun kept wanted)
-StopsEarly words f k k' f1 f2 k1 k2 (NotBuilt path) = (k' ≡ k) × WhereTold f k (λ m l. first_answer words m l ≡ NotBuilt path)
-StopsEarly words f k k' f1 f2 k1 k2 _ = ⊥
+-- what the causes of a status are, where nothing is told
+abbrev pub WordsCause : List Text → Status → Type 0
+WordsCause words Usage = roots_of_words words ≡ Err Usage
+WordsCause words (NestedRoots first second) = roots_of_words words ≡ Err (NestedRoots first second)
+WordsCause words _ = Unit {0}
+
+-- a status with which words, folders or ledger stand against a run
+abbrev pub is_answer : Status → Bool
+is_answer Usage = true
+is_answer (NestedRoots first second) = true
+is_answer (BadRules fault) = true
+is_answer (OtherRun kept wanted) = true
+is_answer (NotBuilt path) = true
+is_answer _ = false
+
+-- it is the first answer
+pub record IsAnswer (words : List Text) (f : Option Contents) (k : Option Ledger) (status : Status) : Type 0 where
+  pub is : is_answer status ≡ true
+  pub cause : WordsCause words status
+  pub first : WhereTold f k (λ m l. first_answer words m l ≡ status)
+
+-- before the first file is written, a run may halt so
+abbrev pub HaltsEarly : List Text → Option Contents → Option Ledger → Option Ledger → ℕ → ℕ → ℕ → ℕ → Halt → Type 0
+HaltsEarly words f k k' f1 f2 k1 k2 halt.Memory = LedgerEarly words f k k'
+HaltsEarly words f k k' f1 f2 k1 k2 halt.Folders = (k' ≡ k) × Rose f1 f2
+HaltsEarly words f k k' f1 f2 k1 k2 halt.Ledger = LedgerEarly words f k k' × Rose k1 k2
+HaltsEarly words f k k' f1 f2 k1 k2 (halt.Answer status) = (k' ≡ k) × IsAnswer words f k status
 
 pub record AllWritten (to : Text) (works : List Work) (f f' : Option Contents) (k k' : Option Ledger) : Type 0 where
   pub folders : f' ≡ option_map (files_after to works) f
@@ -103,9 +114,7 @@ abbrev pub HasCauses : List Text → Status → ℕ → ℕ → ℕ → ℕ → 
 HasCauses words (FolderFault done) f f' k k' o o' = Rose f f'
 HasCauses words (LedgerFault done) f f' k k' o o' = Rose k k'
 HasCauses words OutputFault f f' k k' o o' = Rose o o'
-HasCauses words Usage f f' k k' o o' = roots_of_words words ≡ Err Usage
-HasCauses words (NestedRoots first second) f f' k k' o o' = roots_of_words words ≡ Err (NestedRoots first second)
-HasCauses words _ f f' k k' o o' = Unit {0}
+HasCauses words status f f' k k' o o' = WordsCause words status
 
 -- a run has begun to write, and stands here
 pub record HasBegun (words : List Text) (m0 : Contents) (l0 : Ledger) (m : Contents) (l : Ledger) (done : ℕ) : Type 0 where

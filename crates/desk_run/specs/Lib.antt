@@ -5,6 +5,9 @@ pub mod Truth
 pub mod Stands
 pub mod Stops
 pub mod Reports
+pub mod Images
+pub mod Meaning
 pub mod Answers
+pub mod Halts
 pub mod Endings
 pub mod Clauses

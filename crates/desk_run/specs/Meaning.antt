@@ -18,6 +18,7 @@ use Rattle.desk_run.specs.declared.roots.Root.{Root}
 use Rattle.desk_run.specs.declared.words.Task.{Task}
 use Rattle.desk_run.specs.declared.words.Task.TheVariants as task
 use Rattle.desk_run.specs.declared.roots.Roots.{Roots}
+use Rattle.desk_run.specs.declared.rules.Ruled.{Ruled}
 use Rattle.desk_run.specs.declared.TheConstants.{SIZE}
 use Rattle.desk_run.specs.Words.{task_of, first_nested, written}
 use Rattle.desk_run.specs.Images.{target, image}
@@ -52,11 +53,6 @@ named_files (file ∷ files) = fin.insert (named_files files) file.path file.byt
 -- length, which has eight bytes and four, big-endian
 abbrev pub digest_entry : File → Text
 digest_entry file = to_be_bytes w64 (length file.path) ++ (file.path ++ (to_be_bytes w32 (length file.bytes) ++ file.bytes))
-
--- rules, and the digest of their files
-pub record Ruled : Type 0 where
-  pub rules : Rules
-  pub digest : Digest
 
 abbrev pub with_digest : List File → Result Rules RuleFault → Result Ruled Status
 with_digest files (Ok rules) = Ok (record { rules = rules; digest = digest (flat_map digest_entry files) })

@@ -1,4 +1,4 @@
--- Where the writing may stop, and what it leaves there.
+-- Where a run may stop, and what the writing leaves there.
 use Rattle.std.specs.Prelude.{◌≡◌, ◌⊎◌, ℕ, ◌++◌, List, ◌∷◌, length, Option, option_map, true}
 use Rattle.desk_base.specs.Names.{Text}
 use Rattle.desk_base.specs.Paths.{full}
@@ -13,6 +13,8 @@ use Rattle.desk_report.specs.declared.status.Status.TheVariants as status
 use Rattle.desk_run.specs.declared.planning.Work.{Work}
 use Rattle.desk_run.specs.declared.stops.Stop.{Stop}
 use Rattle.desk_run.specs.declared.stops.Stop.TheVariants.{Memory, Folders, Ledger as LedgerStop}
+use Rattle.desk_run.specs.declared.stops.Halt.{Halt}
+use Rattle.desk_run.specs.declared.stops.Halt.TheVariants as halt
 use Rattle.desk_run.specs.Works.{writes, cleared, files_after, ledger_after}
 
 abbrev pub stop_of_folders : FolderFault → Stop
@@ -52,15 +54,21 @@ pub record StoppedAt (to : Text) (works : List Work) (done : ℕ) (f f' : Option
   pub count : length before ≡ done
   pub broken : Broken to work (option_map (files_after to before) f) f' (option_map (ledger_after before) k) k'
 
-abbrev pub status_of_folders : FolderFault → Status
-status_of_folders folder.Failed = status.FolderFault 0
-status_of_folders folder.Memory = status.Memory
-
-abbrev pub status_of_keeper : KeeperFault → Status
-status_of_keeper keeper.Failed = status.LedgerFault 0
-status_of_keeper keeper.Memory = status.Memory
-
 abbrev pub status_of_stop : Stop → ℕ → Status
 status_of_stop Memory done = status.Memory
 status_of_stop Folders done = status.FolderFault done
 status_of_stop LedgerStop done = status.LedgerFault done
+
+abbrev pub halt_of_folders : FolderFault → Halt
+halt_of_folders folder.Failed = halt.Folders
+halt_of_folders folder.Memory = halt.Memory
+
+abbrev pub halt_of_keeper : KeeperFault → Halt
+halt_of_keeper keeper.Failed = halt.Ledger
+halt_of_keeper keeper.Memory = halt.Memory
+
+abbrev pub status_of_halt : Halt → Status
+status_of_halt halt.Memory = status.Memory
+status_of_halt halt.Folders = status.FolderFault 0
+status_of_halt halt.Ledger = status.LedgerFault 0
+status_of_halt (halt.Answer status) = status

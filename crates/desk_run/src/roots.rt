@@ -1,13 +1,15 @@
 //! Roots: the folders and the ledger that words name.
 
-ghost use Rattle.std.specs.Prelude.{◌≡◌, ◌⊎◌, Some, Ok, Err, IfOk, IfErr, OnOk, option_map, filter, not, ◌++◌, ◌∷◌, []};
+ghost use Rattle.std.specs.Prelude.{◌≡◌, Some, Ok, Err, IfOk, IfErr, OnOk, option_map, filter, not, ◌++◌, ◌∷◌, []};
 ghost use Rattle.std.specs.List.{list_any};
 ghost use Rattle.std.specs.Str.{is_utf8};
 ghost use Rattle.desk_base.specs.Names.{written as joined};
 ghost use Rattle.desk_run.specs.Words.{is_value, parts, is_upward, is_dropped, named_parts, root_of, written, lies_in, overlap, first_nested};
-ghost use Rattle.desk_report.specs.declared.status.Status.TheVariants.{NestedRoots, Memory};
+ghost use Rattle.desk_report.specs.declared.status.Status.TheVariants.{NestedRoots};
+ghost use Rattle.desk_run.specs.Halts.{HaltsAtTask, HaltsAtWords};
 ghost use Rattle.desk_run.specs.Meaning.{nested_status, roots_of_task, roots_of_words};
 
+use crate::stops::Halt;
 use crate::words::{Task, WordsFault, read_words};
 use desk_base::{Memory, Text, TextList};
 use desk_report::Status;
@@ -49,7 +51,9 @@ fn is_dropped(part: &[u8]) -> bool
 fn leads_upward(value: &[u8]) -> bool
     ensures { result ≡ list_any is_upward (parts value.now) }
 {
-    value.split(|byte| *byte == b'/').any(|part| part == b"..".as_slice())
+    value
+        .split(|byte| *byte == b'/')
+        .any(|part| part == b"..".as_slice())
 }
 
 /// Adds a part unless it leads nowhere.
@@ -108,7 +112,11 @@ impl Root {
     fn lies_in(&self, other: &Root) -> bool
         ensures { result ≡ lies_in self.now other.now }
     {
-        self.absolute == other.absolute && self.segments.as_slice().starts_with(other.segments.as_slice())
+        self.absolute == other.absolute
+            && self
+                .segments
+                .as_slice()
+                .starts_with(other.segments.as_slice())
     }
 
     /// Whether one of two roots lies in the other.
@@ -152,7 +160,13 @@ fn nested(alloc: Global, first: &Root, second: &Root) -> Result<Status, Memory>
 }
 
 /// The first nested pair of a task's roots, as a status.
-fn first_nested(alloc: Global, rules: &Root, from: &Root, to: &Root, ledger: &Root) -> Result<Option<Status>, Memory>
+fn first_nested(
+    alloc: Global,
+    rules: &Root,
+    from: &Root,
+    to: &Root,
+    ledger: &Root,
+) -> Result<Option<Status>, Memory>
     ensures { IfOk result (λ status. status ≡ option_map nested_status (first_nested rules.now from.now to.now ledger.now)) }
 {
     if from.overlaps(to) {
@@ -171,7 +185,13 @@ fn first_nested(alloc: Global, rules: &Root, from: &Root, to: &Root, ledger: &Ro
 }
 
 /// The roots as they are written.
-fn written_roots(alloc: Global, rules: &Root, from: &Root, to: &Root, ledger: &Root) -> Result<Roots, Memory>
+fn written_roots(
+    alloc: Global,
+    rules: &Root,
+    from: &Root,
+    to: &Root,
+    ledger: &Root,
+) -> Result<Roots, Memory>
     ensures { IfOk result (λ roots. roots ≡ record { rules = written rules.now; from = written from.now; to = written to.now; ledger = written ledger.now }) }
 {
     let rules = rules.written(alloc)?;
@@ -187,9 +207,9 @@ fn written_roots(alloc: Global, rules: &Root, from: &Root, to: &Root, ledger: &R
 }
 
 /// The roots of a task, or the status of the first pair of them that is nested, or want of memory.
-fn roots_of_task(alloc: Global, task: &Task) -> Result<Roots, Status>
+fn roots_of_task(alloc: Global, task: &Task) -> Result<Roots, Halt>
     ensures ok { IfOk result (λ roots. roots_of_task (Some task.now) ≡ Ok roots) }
-    ensures err { IfErr result (λ status. (status ≡ Memory) ⊎ (roots_of_task (Some task.now) ≡ Err status)) }
+    ensures err { IfErr result (HaltsAtTask (Some task.now)) }
 {
     let Task::Run {
         rules,
@@ -199,19 +219,19 @@ fn roots_of_task(alloc: Global, task: &Task) -> Result<Roots, Status>
         ..
     } = task;
     match first_nested(alloc, rules, from, to, ledger)? {
-        Some(status) => Err(status),
+        Some(status) => Err(Halt::Answer(status)),
         None => Ok(written_roots(alloc, rules, from, to, ledger)?),
     }
 }
 
 /// The roots that words name, or the status of words that name none, or want of memory.
-pub(crate) fn roots_of_words(alloc: Global, words: &[Text]) -> Result<Roots, Status>
+pub(crate) fn roots_of_words(alloc: Global, words: &[Text]) -> Result<Roots, Halt>
     ensures ok { IfOk result (λ roots. roots_of_words words.now ≡ Ok roots) }
-    ensures err { IfErr result (λ status. (status ≡ Memory) ⊎ (roots_of_words words.now ≡ Err status)) }
+    ensures err { IfErr result (HaltsAtWords words.now) }
 {
     match read_words(alloc, words) {
         Ok(task) => roots_of_task(alloc, &task),
-        Err(WordsFault::Usage) => Err(Status::Usage),
-        Err(WordsFault::Memory) => Err(Status::Memory),
+        Err(WordsFault::Usage) => Err(Halt::Answer(Status::Usage)),
+        Err(WordsFault::Memory) => Err(Halt::Memory),
     }
 }
