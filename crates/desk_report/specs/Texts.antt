@@ -1,7 +1,7 @@
 -- The texts of the report and of the faults. A text is the join of its pieces, and each line ends with LF.
 use Rattle.std.specs.Prelude.{ℕ, List, [], ◌∷◌, ◌++◌, codes, decimal}
 use Rattle.desk_base.specs.Names.{Text}
-use Rattle.desk_base.specs.Shown.{shown, hex_digit}
+use Rattle.desk_base.specs.Shown.{shown}
 use Rattle.hex.specs.Hex.{encode_lower}
 use Rattle.desk_ledger.specs.declared.keeper.Header.{Header}
 use Rattle.desk_report.specs.declared.lines.Detail.{Detail}

@@ -2,9 +2,10 @@
 #![tactic(auto)]
 
 mod lines;
+mod pieces;
 mod sink;
 mod status;
 
-pub use lines::{Detail, Line, Summary};
+pub use lines::{Detail, Line, Summary, write_line, write_summary};
 pub use sink::{Sink, SinkFault};
-pub use status::Status;
+pub use status::{Status, write_fault};
