@@ -1,2 +1,4 @@
 pub mod Written
 pub mod Texts
+pub mod Pieces
+pub mod InMemory

@@ -1,5 +1,5 @@
 -- What a sink tells of the bytes that were written to it.
-use Rattle.std.specs.Prelude.{◌≡◌, ◌++◌, ℕ, List, Option, option_map}
+use Rattle.std.specs.Prelude.{◌≡◌, ◌++◌, Option, option_map}
 use Rattle.desk_base.specs.Names.{Text}
 
 -- with these bytes behind what was written

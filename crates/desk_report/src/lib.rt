@@ -2,9 +2,14 @@
 #![tactic(auto)]
 
 mod lines;
+mod memory;
+mod pieces;
 mod sink;
+mod standard;
 mod status;
 
-pub use lines::{Detail, Line, Summary};
+pub use lines::{Detail, Line, Summary, write_line, write_summary};
+pub use memory::MemorySink;
 pub use sink::{Sink, SinkFault};
-pub use status::Status;
+pub use standard::StdSink;
+pub use status::{Status, write_fault};

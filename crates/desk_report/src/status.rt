@@ -1,10 +1,17 @@
 //! How a run ended.
 
-ghost use Rattle.std.specs.Prelude.{◌≡◌};
-ghost use Rattle.desk_report.specs.Texts.{code_of};
+ghost use Rattle.std.specs.Prelude.{◌≡◌, ◌≤◌, [], ◌∷◌, OnOk, OnErr, codes, decimal};
+ghost use Rattle.desk_base.specs.Shown.{shown};
+ghost use Rattle.desk_ledger.specs.Ledger.{Rose};
+ghost use Rattle.desk_report.specs.Written.{writing, WritesFront};
+ghost use Rattle.desk_report.specs.Texts.{code_of, joined, fault_text};
+ghost use Rattle.desk_report.specs.declared.status.Status.TheVariants as case;
 
+use crate::pieces::{Piece, write_pieces};
+use crate::{Sink, SinkFault};
 use desk_base::Text;
 use desk_ledger::Header;
+use desk_rules::RuleFault;
 
 /// How a run ended. `done` counts the files, in the order of their paths, before the one at which a call
 /// failed.
@@ -24,6 +31,8 @@ pub enum Status {
     Usage,
     /// One of these roots lies in the other.
     NestedRoots { first: Text, second: Text },
+    /// The rule files make no rule set.
+    BadRules(RuleFault),
     /// The ledger belongs to another run.
     OtherRun { kept: Header, wanted: Header },
     /// The file, or the root, is of a form that isn't built.
@@ -43,8 +52,147 @@ impl Status {
             Status::OutputFault => 13,
             Status::Usage => 20,
             Status::NestedRoots { .. } => 21,
+            Status::BadRules(_) => 22,
             Status::OtherRun { .. } => 27,
             Status::NotBuilt { .. } => 30,
         }
     }
+}
+
+/// Writes the line of a status, in few writes; for `Done` it does nothing. After an error a front of the
+/// line was written. It takes no memory.
+pub fn write_fault<O: Sink>(status: &Status, out: &mut O) -> Result<(), SinkFault>
+    ensures ok { OnOk result (O.told out.new ≡ writing (fault_text status.now) (O.told out.old)) }
+    ensures err { OnErr result (WritesFront (fault_text status.now) (O.told out.old) (O.told out.new)) }
+    ensures quiet { status.now ≡ Status.Done → out.new ≡ out.old }
+    ensures counts { O.faults out.old ≤ O.faults out.new }
+    ensures failed { OnErr result (Rose (O.faults out.old) (O.faults out.new)) }
+{
+    match status {
+        Status::Done => Ok(()),
+        Status::Memory => write_plain(b"migrate: 10 out of memory\n", out),
+        Status::FolderFault { done } => write_counted(
+            b"migrate: 11 folder fault done=",
+            *done,
+            out,
+        ),
+        Status::LedgerFault { done } => write_counted(
+            b"migrate: 12 ledger fault done=",
+            *done,
+            out,
+        ),
+        Status::OutputFault => write_plain(b"migrate: 13 output fault\n", out),
+        Status::Usage => write_plain(
+            b"migrate: 20 usage: migrate run --rules R --from A --to B --ledger L\n",
+            out,
+        ),
+        Status::NestedRoots { first, second } => write_pair(
+            b"migrate: 21 nested roots ",
+            first,
+            second,
+            out,
+        ),
+        Status::BadRules(RuleFault::PlainLine) => write_plain(b"migrate: 22 plain line\n", out),
+        Status::OtherRun { kept, wanted } => write_other_run(kept, wanted, out),
+        Status::NotBuilt { path } => write_named(b"migrate: 30 not built ", path, out),
+    }
+}
+
+/// Writes this text.
+fn write_plain<O: Sink>(text: &[u8], out: &mut O) -> Result<(), SinkFault>
+    ensures ok { OnOk result (O.told out.new ≡ writing text.now (O.told out.old)) }
+    ensures err { OnErr result (WritesFront text.now (O.told out.old) (O.told out.new)) }
+    ensures counts { O.faults out.old ≤ O.faults out.new }
+    ensures failed { OnErr result (Rose (O.faults out.old) (O.faults out.new)) }
+{
+    out.write(text)
+}
+
+/// Writes a line of this text and a number.
+fn write_counted<O: Sink>(text: &[u8], count: u32, out: &mut O) -> Result<(), SinkFault>
+    ensures ok { OnOk result (O.told out.new ≡ writing (joined (text.now ∷ decimal count ∷ codes "\n" ∷ [])) (O.told out.old)) }
+    ensures err { OnErr result (WritesFront (joined (text.now ∷ decimal count ∷ codes "\n" ∷ [])) (O.told out.old) (O.told out.new)) }
+    ensures counts { O.faults out.old ≤ O.faults out.new }
+    ensures failed { OnErr result (Rose (O.faults out.old) (O.faults out.new)) }
+{
+    write_pieces(
+        out,
+        &[
+            Piece::Plain(text),
+            Piece::Number(count as u64),
+            Piece::Plain(b"\n"),
+        ],
+    )
+}
+
+/// Writes a line of this text and a shown text.
+fn write_named<'x, O: Sink>(text: &'x [u8], name: &'x Text, out: &mut O) -> Result<(), SinkFault>
+    ensures ok { OnOk result (O.told out.new ≡ writing (joined (text.now ∷ shown name.now ∷ codes "\n" ∷ [])) (O.told out.old)) }
+    ensures err { OnErr result (WritesFront (joined (text.now ∷ shown name.now ∷ codes "\n" ∷ [])) (O.told out.old) (O.told out.new)) }
+    ensures counts { O.faults out.old ≤ O.faults out.new }
+    ensures failed { OnErr result (Rose (O.faults out.old) (O.faults out.new)) }
+{
+    write_pieces(
+        out,
+        &[
+            Piece::Plain(text),
+            Piece::Shown(name.as_bytes()),
+            Piece::Plain(b"\n"),
+        ],
+    )
+}
+
+/// Writes a line of this text and two shown texts.
+fn write_pair<'x, O: Sink>(
+    text: &'x [u8],
+    first: &'x Text,
+    second: &'x Text,
+    out: &mut O,
+) -> Result<(), SinkFault>
+    ensures ok { OnOk result (O.told out.new ≡ writing (joined (text.now ∷ shown first.now ∷ codes " " ∷ shown second.now ∷ codes "\n" ∷ [])) (O.told out.old)) }
+    ensures err { OnErr result (WritesFront (joined (text.now ∷ shown first.now ∷ codes " " ∷ shown second.now ∷ codes "\n" ∷ [])) (O.told out.old) (O.told out.new)) }
+    ensures counts { O.faults out.old ≤ O.faults out.new }
+    ensures failed { OnErr result (Rose (O.faults out.old) (O.faults out.new)) }
+{
+    write_pieces(
+        out,
+        &[
+            Piece::Plain(text),
+            Piece::Shown(first.as_bytes()),
+            Piece::Plain(b" "),
+            Piece::Shown(second.as_bytes()),
+            Piece::Plain(b"\n"),
+        ],
+    )
+}
+
+/// Writes the line of a ledger that belongs to another run.
+fn write_other_run<'x, O: Sink>(
+    kept: &'x Header,
+    wanted: &'x Header,
+    out: &mut O,
+) -> Result<(), SinkFault>
+    ensures ok { OnOk result (O.told out.new ≡ writing (fault_text (case.OtherRun kept.now wanted.now)) (O.told out.old)) }
+    ensures err { OnErr result (WritesFront (fault_text (case.OtherRun kept.now wanted.now)) (O.told out.old) (O.told out.new)) }
+    ensures counts { O.faults out.old ≤ O.faults out.new }
+    ensures failed { OnErr result (Rose (O.faults out.old) (O.faults out.new)) }
+{
+    write_pieces(
+        out,
+        &[
+            Piece::Plain(b"migrate: 27 other run kept "),
+            Piece::Shown(kept.from.as_bytes()),
+            Piece::Plain(b" "),
+            Piece::Shown(kept.to.as_bytes()),
+            Piece::Plain(b" "),
+            Piece::Hex(&kept.rules.0),
+            Piece::Plain(b" wanted "),
+            Piece::Shown(wanted.from.as_bytes()),
+            Piece::Plain(b" "),
+            Piece::Shown(wanted.to.as_bytes()),
+            Piece::Plain(b" "),
+            Piece::Hex(&wanted.rules.0),
+            Piece::Plain(b"\n"),
+        ],
+    )
 }
