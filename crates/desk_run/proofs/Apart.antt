@@ -7,7 +7,6 @@ use Rattle.std.proofs.lemmas.Bool.{and_parts, and_from}
 use Rattle.std.proofs.lemmas.Slice.Eq.{bytes_eq-Decides}
 use Rattle.desk_base.specs.Names.{Text, slash, is_empty, is_whole, written}
 use Rattle.desk_base.specs.Paths.{here, top, is_segment, is_relative_path, written_root, written_segments, folder, full}
-
 use Rattle.desk_run.specs.declared.roots.Root.{Root}
 use Rattle.desk_run.specs.Words.{overlap, written as written_of}
 use Rattle.desk_run.specs.Runs.{RootsApart}

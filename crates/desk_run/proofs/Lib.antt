@@ -1,3 +1,10 @@
 pub mod Joined
 pub mod Apart
 pub mod Rooted
+pub mod Entries
+pub mod Counting
+pub mod Splits
+pub mod After
+pub mod Truths
+pub mod Reading
+pub mod Writing

@@ -15,7 +15,7 @@ use Rattle.desk_run.specs.Words.{parts, is_upward, is_dropped, named_parts, is_v
 use Rattle.desk_run.specs.declared.roots.Roots.{Roots}
 use Rattle.desk_run.specs.Words.{overlap, first_nested}
 use Rattle.desk_run.specs.Meaning.{roots_apart, roots_of_task, roots_of_words}
-use Rattle.desk_run.specs.Runs.{RootsApart}
+use Rattle.desk_run.specs.Roots.{AreRoots}
 use Rattle.desk_run.proofs.Apart.{is_named, before, full_relative, full_absolute, roots_apart as apart_roots}
 
 split_whole : (t : Text) → list_all (is_whole slash) (parts t) ≡ true
@@ -156,13 +156,6 @@ task_named (a ∷ b ∷ c ∷ []) task eq = cc
 task_named (a ∷ b ∷ []) task eq = cc
 task_named (a ∷ []) task eq = cc
 task_named [] task eq = cc
-
--- what is known of the roots of words
-pub record AreRoots (roots : Roots) : Type 0 where
-  pub rules_is_root : is_root roots.rules ≡ true
-  pub from_is_root : is_root roots.from ≡ true
-  pub below_to : (p : Text) → is_relative_path p ≡ true → is_full_path (full roots.to p) ≡ true
-  pub apart : RootsApart roots.from roots.to
 
 if_some_no : {X : Type 0} (b : Bool) (x : X) (o : Option X) → (if b then Some x else o) ≡ None → (b ≡ false) × (o ≡ None)
 if_some_no true x o e = cc

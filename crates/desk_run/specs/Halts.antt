@@ -1,17 +1,23 @@
 -- Where the steps before the first write may halt.
-use Rattle.std.specs.Prelude.{◌≡◌, ◌⊎◌, ℕ, List, Option, Some, None, Bool, true, false, Result, Err, IfSome}
+use Rattle.std.specs.Prelude.{◌≡◌, ◌⊎◌, ◌<◌, ℕ, List, length, Option, Some, None, Bool, true, false, Result, Err, IfSome}
 use Rattle.desk_base.specs.Names.{Text}
-use Rattle.desk_folders.specs.Contents.{Contents, Rose, files_below}
+use Rattle.desk_folders.specs.Contents.{Contents, File, Rose, files_below, paths_below}
 use Rattle.desk_ledger.specs.declared.keeper.Header.{Header}
 use Rattle.desk_ledger.specs.Ledger.{Ledger}
 use Rattle.desk_report.specs.declared.status.Status.{Status}
 use Rattle.desk_report.specs.declared.status.Status.TheVariants.{BadRules, NotBuilt, OtherRun}
+use Rattle.desk_rules.specs.Rules.{Rules}
+use Rattle.desk_rules.specs.declared.RuleFault.{RuleFault}
+use Rattle.desk_run.specs.declared.image.Image.{Image}
+use Rattle.desk_run.specs.declared.files.Source.{Source}
 use Rattle.desk_run.specs.declared.stops.Halt.{Halt}
 use Rattle.desk_run.specs.declared.stops.Halt.TheVariants.{Memory, Folders, Ledger as LedgerHalt, Answer}
 use Rattle.desk_run.specs.declared.words.Task.{Task}
+use Rattle.desk_run.specs.declared.TheConstants.{MOST}
 use Rattle.desk_run.specs.Runs.{Run}
 use Rattle.desk_run.specs.Meaning.{roots_of_task, roots_of_words, ruled}
-use Rattle.desk_run.specs.Answers.{files_answer, other_run}
+use Rattle.desk_run.specs.Answers.{files_answer, other_run, some_answer}
+use Rattle.desk_run.specs.Sources.{is_fit, first_unfit}
 
 -- at a task's roots
 abbrev pub HaltsAtTask : Option Task → Halt → Type 0
@@ -49,6 +55,57 @@ HaltsAtFiles run told f f' Memory = Unit {0}
 HaltsAtFiles run told f f' Folders = Rose f f'
 HaltsAtFiles run told f f' (Answer status) = (is_files_status status ≡ true) × IfSome told (λ m. files_answer run m ≡ Some status)
 HaltsAtFiles run told f f' _ = ⊥
+
+-- where files are read
+abbrev pub HaltsReading : ℕ → ℕ → Halt → Type 0
+HaltsReading f f' Memory = Unit {0}
+HaltsReading f f' Folders = Rose f f'
+HaltsReading f f' _ = ⊥
+
+-- where the files below a root are read, of which there may be too many
+abbrev pub HaltsAtSources : Text → Option Contents → ℕ → ℕ → Halt → Type 0
+HaltsAtSources from told f f' Memory = Unit {0}
+HaltsAtSources from told f f' Folders = Rose f f'
+HaltsAtSources from told f f' (Answer status) = (status ≡ NotBuilt from) × IfSome told (λ m. MOST < length (paths_below from m))
+HaltsAtSources from told f f' _ = ⊥
+
+-- the answer that this path is of a form that isn't built
+abbrev pub IsNotBuilt : Text → Halt → Type 0
+IsNotBuilt path halt = (halt ≡ Memory) ⊎ (halt ≡ Answer (NotBuilt path))
+
+-- at a file that isn't built
+abbrev pub HaltsAtUnfit : (Text → Text → Option Image) → List Source → Source → Halt → Type 0
+HaltsAtUnfit image all source Memory = Unit {0}
+HaltsAtUnfit image all source (Answer status) = (is_fit image all source ≡ false) × (status ≡ NotBuilt source.path)
+HaltsAtUnfit image all source _ = ⊥
+
+-- at the first of them
+abbrev pub HaltsAtCheck : (Text → Text → Option Image) → List Source → Halt → Type 0
+HaltsAtCheck image all Memory = Unit {0}
+HaltsAtCheck image all (Answer status) = (is_files_status status ≡ true) × (some_answer (first_unfit image all all) ≡ Some status)
+HaltsAtCheck image all _ = ⊥
+
+-- where the rules of files are built
+abbrev pub HaltsBuilding : Result Rules RuleFault → Halt → Type 0
+HaltsBuilding rules Memory = Unit {0}
+HaltsBuilding rules (Answer (BadRules fault)) = rules ≡ Err fault
+HaltsBuilding rules _ = ⊥
+
+-- where the rules of these files are made, below a root
+abbrev pub HaltsRuled : Text → List File → Halt → Type 0
+HaltsRuled root files Memory = Unit {0}
+HaltsRuled root files (Answer status) = (is_rules_status status ≡ true) × (ruled root files ≡ Err status)
+HaltsRuled root files _ = ⊥
+
+-- where works are planned
+abbrev pub HaltsPlanning : ℕ → ℕ → Halt → Type 0
+HaltsPlanning k k' Memory = Unit {0}
+HaltsPlanning k k' LedgerHalt = Rose k k'
+HaltsPlanning k k' _ = ⊥
+
+-- the answer of another run
+abbrev pub IsOtherRun : Header → Header → Halt → Type 0
+IsOtherRun kept wanted halt = (halt ≡ Memory) ⊎ (halt ≡ Answer (OtherRun kept wanted))
 
 -- a status of the ledger
 abbrev pub is_ledger_status : Status → Bool

@@ -1,6 +1,10 @@
 pub mod Words
 pub mod Runs
+pub mod Roots
 pub mod Works
+pub mod Sources
+pub mod Tallies
+pub mod Inputs
 pub mod Truth
 pub mod Stands
 pub mod Stops

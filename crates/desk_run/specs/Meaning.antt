@@ -54,16 +54,17 @@ named_files (file ∷ files) = fin.insert (named_files files) file.path file.byt
 abbrev pub digest_entry : File → Text
 digest_entry file = to_be_bytes w64 (length file.path) ++ (file.path ++ (to_be_bytes w32 (length file.bytes) ++ file.bytes))
 
-abbrev pub with_digest : List File → Result Rules RuleFault → Result Ruled Status
-with_digest files (Ok rules) = Ok (record { rules = rules; digest = digest (flat_map digest_entry files) })
-with_digest files (Err fault) = Err (BadRules fault)
+-- rules with the digest of this text
+abbrev pub with_digest : Text → Result Rules RuleFault → Result Ruled Status
+with_digest taken (Ok rules) = Ok (record { rules = rules; digest = digest taken })
+with_digest taken (Err fault) = Err (BadRules fault)
 
 -- the rules of the files of a rule folder, which holds the one file of the renames
 abbrev pub ruled : Text → List File → Result Ruled Status
 ruled root files =
     if nat_lt 1 (length files) || list_any is_other files
     then Err (NotBuilt root)
-    else with_digest files (rules_of_files (named_files files))
+    else with_digest (flat_map digest_entry files) (rules_of_files (named_files files))
 
 abbrev pub run_of : Roots → Ruled → Run
 run_of roots r = record {

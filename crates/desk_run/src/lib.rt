@@ -1,11 +1,16 @@
 //! The desk: one run from its words to its report.
 #![tactic(auto)]
 
+mod check;
+mod files;
 mod image;
+mod opening;
 mod planning;
 mod roots;
 mod rules;
+mod sources;
 mod stops;
+mod tally;
 mod words;
 
 pub use roots::Root;

@@ -1,8 +1,21 @@
-//! What is to be done with each file.
+//! Plans what is to be done with each file.
 
-use crate::image::Image;
-use desk_base::Text;
-use desk_ledger::Digest;
+ghost use Rattle.std.specs.Prelude.{◌≡◌, ◌≤◌, IfOk, IfSome, IfErr, IsSome, option_map, is_some, cond, length, map};
+ghost use Rattle.desk_ledger.specs.Ledger.{held_in};
+ghost use Rattle.desk_run.specs.Images.{image};
+ghost use Rattle.desk_run.specs.Inputs.{work_of_input};
+ghost use Rattle.desk_run.specs.Runs.{is_kept};
+ghost use Rattle.desk_run.specs.Works.{fresh};
+ghost use Rattle.desk_run.specs.declared.planning.Plan.TheVariants.{Keep};
+ghost use Rattle.desk_run.specs.Halts.{HaltsPlanning};
+
+use crate::files::{Content, Input};
+use crate::image::{Image, image_of};
+use crate::stops::Halt;
+use desk_base::{Memory, Text};
+use desk_ledger::{Digest, Keeper, Row, digest_of};
+use desk_rules::RuleSet;
+use std::alloc::Global;
 
 /// What is done with a file.
 #[derive(Debug, Drop)]
@@ -22,4 +35,102 @@ pub struct Work {
     pub target: Text,
     pub digest: Digest,
     pub plan: Plan,
+}
+
+/// Whether a row says that a file was done.
+fn keeps(row: &Option<Row>, path: &Text, digest: &Digest) -> bool
+    ensures { result ≡ is_kept (option_map held_in row.now) path.now digest.now.0 }
+{
+    match row {
+        Some(row) => row.source == *path && row.digest == *digest,
+        None => false,
+    }
+}
+
+/// What is done with a file that isn't kept.
+fn fresh_plan(
+    alloc: Global,
+    rules: &RuleSet,
+    found: bool,
+    path: &Text,
+    bytes: Content,
+) -> Result<Plan, Memory>
+    ensures { IfOk result (λ plan. plan ≡ fresh found (image rules.now path.now bytes)) }
+{
+    match image_of(alloc, rules, path, bytes)? {
+        Some(image) => Ok(Plan::Write { found, image }),
+        None => Ok(Plan::Leave),
+    }
+}
+
+/// What is done with a file, by the row at its target.
+fn plan_of(
+    alloc: Global,
+    rules: &RuleSet,
+    row: &Option<Row>,
+    digest: &Digest,
+    path: &Text,
+    bytes: Content,
+) -> Result<Plan, Memory>
+    ensures { IfOk result (λ plan. plan ≡ cond (is_kept (option_map held_in row.now) path.now digest.now.0) Keep
+        (fresh (is_some row.now) (image rules.now path.now bytes))) }
+{
+    if keeps(row, path, digest) {
+        Ok(Plan::Keep)
+    } else {
+        fresh_plan(alloc, rules, row.is_some(), path, bytes)
+    }
+}
+
+/// Plans one file.
+fn plan_one<K: Keeper>(
+    alloc: Global,
+    keeper: &mut K,
+    rules: &RuleSet,
+    input: Input,
+) -> Result<Work, Halt>
+    requires { IsSome (K.attached keeper.old) }
+    ensures told { K.told keeper.new ≡ K.told keeper.old }
+    ensures work { IfOk result (λ work. IfSome (K.told keeper.old) (λ l. work ≡ work_of_input (image rules.now) l.rows input)) }
+    ensures target { IfOk result (λ work. work.target ≡ input.target) }
+    ensures attached { K.attached keeper.new ≡ K.attached keeper.old }
+    ensures err { IfErr result (HaltsPlanning (K.faults keeper.old) (K.faults keeper.new)) }
+    ensures counts { K.faults keeper.old ≤ K.faults keeper.new }
+{
+    let Input {
+        path,
+        target,
+        bytes,
+    } = input;
+    let digest = digest_of(bytes.as_bytes());
+    let row = keeper.find(&target)?;
+    let plan = plan_of(alloc, rules, &row, &digest, &path, bytes)?;
+    Ok(Work {
+        path,
+        target,
+        digest,
+        plan,
+    })
+}
+
+/// Plans the files in their order.
+pub(crate) fn plan_works<K: Keeper>(
+    alloc: Global,
+    keeper: &mut K,
+    rules: &RuleSet,
+    inputs: Vec<Input>,
+) -> Result<Vec<Work>, Halt>
+    requires { IsSome (K.attached keeper.old) }
+    ensures told { K.told keeper.new ≡ K.told keeper.old }
+    ensures works { IfOk result (λ works. IfSome (K.told keeper.old) (λ l. works.items ≡ map (work_of_input (image rules.now) l.rows) inputs.items)) }
+    ensures targets { IfOk result (λ works. map (λ work. work.target) works.items ≡ map (λ input. input.target) inputs.items) }
+    ensures attached { K.attached keeper.new ≡ K.attached keeper.old }
+    ensures err { IfErr result (HaltsPlanning (K.faults keeper.old) (K.faults keeper.new)) }
+    ensures counts { K.faults keeper.old ≤ K.faults keeper.new }
+{
+    let mut works = Vec::new(alloc);
+    for input in inputs {
+        works.push(plan_one(alloc, keeper, rules, input)?)?;
+    }
+    Ok(works)
 }

@@ -6,6 +6,7 @@ ghost use Rattle.std.specs.Str.{is_utf8};
 ghost use Rattle.desk_base.specs.Names.{written as joined};
 ghost use Rattle.desk_run.specs.Words.{is_value, parts, is_upward, is_dropped, named_parts, root_of, written, lies_in, overlap, first_nested};
 ghost use Rattle.desk_report.specs.declared.status.Status.TheVariants.{NestedRoots};
+ghost use Rattle.desk_run.specs.Roots.{AreRoots};
 ghost use Rattle.desk_run.specs.Halts.{HaltsAtTask, HaltsAtWords};
 ghost use Rattle.desk_run.specs.Meaning.{nested_status, roots_of_task, roots_of_words};
 
@@ -142,6 +143,8 @@ fn joined_behind(text: Text, segments: &[Text]) -> Result<Text, Memory>
 }
 
 /// The roots of a run as they are written.
+///
+/// A root is `.`, `/`, or its segments joined by `/`.
 #[derive(Debug, Drop)]
 pub struct Roots {
     pub rules: Text,
@@ -227,6 +230,7 @@ fn roots_of_task(alloc: Global, task: &Task) -> Result<Roots, Halt>
 /// The roots that words name, or the status of words that name none, or want of memory.
 pub(crate) fn roots_of_words(alloc: Global, words: &[Text]) -> Result<Roots, Halt>
     ensures ok { IfOk result (λ roots. roots_of_words words.now ≡ Ok roots) }
+    ensures sound { IfOk result AreRoots }
     ensures err { IfErr result (HaltsAtWords words.now) }
 {
     match read_words(alloc, words) {

@@ -1,0 +1,85 @@
+-- What works leave at the paths and targets that they don't name.
+use Rattle.std.proofs.Common.{◌≡◌, ◌≢◌, ℕ, List, [], ◌∷◌, ◌++◌, Option, Some, None, refl, sym, ap, ◌∙◌, true, false, Bool}
+use Rattle.std.specs.Prelude.{map}
+use Rattle.std.specs.FinMap as fin
+use Rattle.std.proofs.lemmas.List.{append_cancel_left}
+use Rattle.desk_base.specs.Paths.{full, folder}
+use Rattle.desk_folders.specs.Contents.{Contents, setting}
+use Rattle.desk_ledger.specs.declared.keeper.Held.{Held}
+use Rattle.desk_ledger.specs.Ledger.{Ledger}
+use Rattle.desk_folders.specs.ContentsLaws.{get-insert-same, get-insert-other, get-remove-other, get-remove-same}
+use Rattle.desk_run.specs.declared.planning.Plan.{Plan}
+use Rattle.desk_run.specs.declared.planning.Plan.TheVariants.{Keep, Leave, Write}
+use Rattle.desk_run.specs.declared.planning.Work.{Work}
+use Rattle.desk_run.specs.Works.{wrote, wrote_plan, logged, logged_plan, forgot, cleared, cleared_plan, writes, files_after, ledger_after}
+use Rattle.desk_run.specs.Runs.{Misses}
+
+pub full_apart : (root p q : List ℕ) → p ≢ q → full root p ≢ full root q
+full_apart root p q apart e = apart (append_cancel_left (folder root) p q e)
+
+-- no work that writes has this path
+abbrev pub Off : List ℕ → List ℕ → List Work → Type 0
+Off to path [] = Unit {0}
+Off to path (work ∷ works) = (writes work.plan ≡ true → full to work.target ≢ path) × Off to path works
+
+-- no work that writes has this target
+abbrev pub Spares : List ℕ → List Work → Type 0
+Spares target [] = Unit {0}
+Spares target (work ∷ works) = (writes work.plan ≡ true → work.target ≢ target) × Spares target works
+
+pub plan_spares : (path q : List ℕ) (plan : Plan) (m : Contents) → (writes plan ≡ true → path ≢ q) → fin.get (wrote_plan path plan m) q ≡ fin.get m q
+plan_spares path q Keep m h = refl
+plan_spares path q Leave m h = refl
+plan_spares path q (Write found image) m h = get-insert-other m path image.bytes q (λ e. h refl (sym e))
+
+pub logged_spares : (target q : List ℕ) (held : Held) (plan : Plan) (l : Ledger) → (writes plan ≡ true → target ≢ q) → fin.get (logged_plan target held plan l).rows q ≡ fin.get l.rows q
+logged_spares target q held Keep l h = refl
+logged_spares target q held Leave l h = refl
+logged_spares target q held (Write found image) l h = get-insert-other l.rows target held q (λ e. h refl (sym e))
+
+pub forgot_spares : (target q : List ℕ) (found : Bool) (l : Ledger) → target ≢ q → fin.get (forgot found target l).rows q ≡ fin.get l.rows q
+forgot_spares target q true l h = get-remove-other l.rows target q (λ e. h (sym e))
+forgot_spares target q false l h = refl
+
+pub cleared_spares : (target q : List ℕ) (plan : Plan) (l : Ledger) → target ≢ q → fin.get (cleared_plan target plan l).rows q ≡ fin.get l.rows q
+cleared_spares target q Keep l h = refl
+cleared_spares target q Leave l h = refl
+cleared_spares target q (Write found image) l h = forgot_spares target q found l h
+
+pub files_spare : (to path : List ℕ) (works : List Work) (m : Contents) → Off to path works → fin.get (files_after to works m) path ≡ fin.get m path
+files_spare to path [] m h = refl
+files_spare to path (work ∷ works) m h = files_spare to path works (wrote to work m) h.1 ∙ plan_spares (full to work.target) path work.plan m h.0
+
+pub rows_spare : (target : List ℕ) (works : List Work) (l : Ledger) → Spares target works → fin.get (ledger_after works l).rows target ≡ fin.get l.rows target
+rows_spare target [] l h = refl
+rows_spare target (work ∷ works) l h = rows_spare target works (logged work l) h.1 ∙ logged_spares work.target target _ work.plan l h.0
+
+pub files_after-join : (to : List ℕ) (a b : List Work) (m : Contents) → files_after to (a ++ b) m ≡ files_after to b (files_after to a m)
+files_after-join to [] b m = refl
+files_after-join to (w ∷ a) b m = files_after-join to a b (wrote to w m)
+
+pub ledger_after-join : (a b : List Work) (l : Ledger) → ledger_after (a ++ b) l ≡ ledger_after b (ledger_after a l)
+ledger_after-join [] b l = refl
+ledger_after-join (w ∷ a) b l = ledger_after-join a b (logged w l)
+
+pub off_from_misses : (to target : List ℕ) (works : List Work) → Misses target (map (λ w. w.target) works) → Off to (full to target) works
+off_from_misses to target [] h = tt
+off_from_misses to target (work ∷ works) h = ((λ _. full_apart to work.target target (λ e. h.0 (sym e))), off_from_misses to target works h.1)
+
+pub spares_from_misses : (target : List ℕ) (works : List Work) → Misses target (map (λ w. w.target) works) → Spares target works
+spares_from_misses target [] h = tt
+spares_from_misses target (work ∷ works) h = ((λ _ e. h.0 (sym e)), spares_from_misses target works h.1)
+
+pub header_after : (works : List Work) (l : Ledger) → (ledger_after works l).header ≡ l.header
+header_after [] l = refl
+header_after (work ∷ works) l = header_after works (logged work l) ∙ same work.target _ work.plan l where
+  same : (target : List ℕ) (held : Held) (plan : Plan) (l : Ledger) → (logged_plan target held plan l).header ≡ l.header
+  same target held Keep l = refl
+  same target held Leave l = refl
+  same target held (Write found image) l = refl
+
+pub header_cleared : (target : List ℕ) (plan : Plan) (l : Ledger) → (cleared_plan target plan l).header ≡ l.header
+header_cleared target Keep l = refl
+header_cleared target Leave l = refl
+header_cleared target (Write true bytes) l = refl
+header_cleared target (Write false bytes) l = refl

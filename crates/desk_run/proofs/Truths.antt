@@ -1,0 +1,168 @@
+-- A true ledger stays true, whatever is done or left undone.
+use Rattle.std.proofs.Common.{◌≡◌, ◌≢◌, ◌⊎◌, inl, inr, ℕ, List, [], ◌∷◌, ◌++◌, Option, Some, None, refl, sym, ap, ◌∙◌, subst, true, false, Bool, cond, unwrap_or, append_assoc, is_some, map, eqb, arith}
+use Rattle.std.specs.Prelude.{option_and_then, if◌then◌else◌}
+use Rattle.std.specs.FinMap as fin
+use Rattle.std.specs.Ordering.{nat_cmp, eq_by_cmp}
+use Rattle.std.specs.Cmp.{eq_by_cmp_equiv}
+use Rattle.std.specs.Cmp.Lexicographic.{slice_cmp}
+use Rattle.std.proofs.lemmas.Cmp.{nat_list_cmp_total}
+use Rattle.std.specs.List.{filter_map, list_any}
+use Rattle.std.specs.Str.{bytes_eq}
+use Rattle.std.proofs.lemmas.Slice.Eq.{bytes_eq-Decides}
+use Rattle.std.proofs.lemmas.Bool.Decides.{not_from_Decides, Decides-eqb}
+use Rattle.sha2.specs.Sha256.{sha256}
+use Rattle.desk_base.specs.Names.{Text}
+use Rattle.desk_base.specs.Paths.{full, folder, is_relative_path}
+use Rattle.desk_folders.specs.Contents.{Contents, File, behind, below, relative, setting, bytes_at, file_at, files_below, paths_below}
+use Rattle.desk_folders.specs.ContentsLaws.{get-insert-same, get-insert-other, get-setting-other}
+use Rattle.desk_ledger.specs.declared.keeper.Held.{Held}
+use Rattle.desk_ledger.specs.Ledger.{Ledger, Rows}
+use Rattle.desk_run.specs.declared.image.Image.{Image}
+use Rattle.desk_run.specs.declared.planning.Plan.{Plan}
+use Rattle.desk_run.specs.declared.planning.Plan.TheVariants.{Keep, Leave, Write}
+use Rattle.desk_run.specs.Runs.{Run, RootsApart, AllRelative, held_of, targets_of}
+use Rattle.desk_run.specs.Works.{work_of, works_of, fresh, wrote, wrote_plan, logged, logged_plan, writes, files_after, ledger_after}
+use Rattle.desk_run.specs.Truth.{HasImage, TrueRows, TrueLedger}
+use Rattle.desk_run.proofs.After.{full_apart, plan_spares}
+
+pub text_case : (p q : Text) → (p ≡ q) ⊎ (p ≢ q)
+text_case p q =
+    let d = bytes_eq-Decides p q in
+    elim (bytes_eq p q) as (λ b. bytes_eq p q ≡ b → (p ≡ q) ⊎ (p ≢ q)) [
+      | true ↦ λ e. inl (d.0 e)
+      | false ↦ λ e. inr (not_from_Decides _ d e)
+    ] refl
+
+-- the files are there with these bytes, at relative paths
+pub record IsThere (root : Text) (m : Contents) (file : File) : Type 0 where
+  pub held : fin.get m (full root file.path) ≡ Some file.bytes
+  pub relative : is_relative_path file.path ≡ true
+
+abbrev pub AllThere : Text → Contents → List File → Type 0
+AllThere root m [] = Unit {0}
+AllThere root m (file ∷ files) = IsThere root m file × AllThere root m files
+
+pub there_at : (root : Text) (m : Contents) (a : List File) (file : File) (b : List File) → AllThere root m (a ++ file ∷ b) → IsThere root m file
+there_at root m [] file b h = h.0
+there_at root m (x ∷ a) file b h = there_at root m a file b h.1
+
+behind_is : (front text rest : Text) → behind front text ≡ Some rest → front ++ rest ≡ text
+behind_is [] text rest e = cc
+behind_is (b ∷ front) [] rest e = cc
+behind_is (b ∷ front) (c ∷ text) rest e = at (eqb b c) refl (behind_is front text rest) e where
+  at : (same : Bool) → eqb b c ≡ same → (behind front text ≡ Some rest → front ++ rest ≡ text) → cond same (behind front text) None ≡ Some rest → b ∷ (front ++ rest) ≡ c ∷ text
+  at true s more e = let h = (Decides-eqb b c).0 s in let t = more e in cc
+  at false s more e = cc
+
+-- a relative path below a root, of a full path
+record IsBelow (root path p : Text) : Type 0 where
+  is : full root p ≡ path
+  relative : is_relative_path p ≡ true
+
+below_is : (root path p : Text) → below root path ≡ Some p → IsBelow root path p
+below_is root path p e = by (behind (folder root) path) refl e where
+  relative_is : (q : Text) (x : Bool) → is_relative_path q ≡ x → (if x then Some q else None) ≡ Some p → (q ≡ p) × (is_relative_path q ≡ true)
+  relative_is q true f g = (cc, f)
+  relative_is q false f g = cc
+
+  by : (o : Option Text) → behind (folder root) path ≡ o → option_and_then relative o ≡ Some p → IsBelow root path p
+  by None f g = cc
+  by (Some q) f g =
+      let r = relative_is q (is_relative_path q) refl g in
+      record { is = ap (full root) (sym r.0) ∙ behind_is (folder root) path q f; relative = ap is_relative_path (sym r.0) ∙ r.1 }
+
+-- each of these paths is in the map
+abbrev Held' : Contents → List Text → Type 0
+Held' m [] = Unit {0}
+Held' m (k ∷ ks) = (is_some (fin.get m k) ≡ true) × Held' m ks
+
+some_held : (o : Option Text) → is_some o ≡ true → o ≡ Some (unwrap_or o [])
+some_held None e = cc
+some_held (Some x) e = refl
+
+there_from : (root : Text) (m : Contents) (ks : List Text) → Held' m ks → AllThere root m (map (file_at root m) (filter_map (below root) ks))
+there_from root m [] h = tt
+there_from root m (k ∷ ks) h = elim (below root k) as (λ o. below root k ≡ o → AllThere root m (map (file_at root m) (filter_map (below root) (k ∷ ks)))) [
+  | None ↦ λ e. rw e (there_from root m ks h.1)
+  | Some p ↦ λ e. let b = below_is root k p e in rw e (record { held = some_held _ (ap (λ q. is_some (fin.get m q)) b.is ∙ h.0); relative = b.relative }, there_from root m ks h.1)
+] refl
+
+any_at : (q : Text) (a : List Text) (b : List Text) → list_any (eq_by_cmp (slice_cmp nat_cmp) q) (a ++ q ∷ b) ≡ true
+any_at q [] b = let e = (eq_by_cmp_equiv nat_list_cmp_total).refl q in grind (arith, e)
+any_at q (x ∷ a) b = let e = any_at q a b in grind (arith, e)
+
+held_from : (m : Contents) (a ks : List Text) → fin.keys m ≡ a ++ ks → Held' m ks
+held_from m a [] e = tt
+held_from m a (k ∷ ks) e = (fin.contains_key-keys m k ∙ ap (list_any (eq_by_cmp (slice_cmp nat_cmp) k)) e ∙ any_at k a ks, held_from m (a ++ k ∷ []) ks (e ∙ sym (append_assoc a (k ∷ []) ks)))
+
+-- the files below a root are there
+pub files_there : (root : Text) (m : Contents) → AllThere root m (files_below root m)
+files_there root m = there_from root m (fin.keys m) (held_from m [] (fin.keys m) refl)
+
+there_after : (from to target : Text) (plan : Plan) (m : Contents) (files : List File) → RootsApart from to → is_relative_path target ≡ true → AllThere from m files → AllThere from (wrote_plan (full to target) plan m) files
+there_after from to target plan m [] apart rel h = tt
+there_after from to target plan m (file ∷ files) apart rel h = (
+  record { held = plan_spares (full to target) (full from file.path) plan m (λ _ e. apart file.path target h.0.relative rel (sym e)) ∙ h.0.held; relative = h.0.relative },
+  there_after from to target plan m files apart rel h.1,
+)
+
+true_write : (run : Run) (m : Contents) (rows : Rows) (file : File) (image : Image) → RootsApart run.from run.to → is_relative_path (run.target file.path) ≡ true → run.image file.path file.bytes ≡ Some image
+    → IsThere run.from m file → TrueRows run m rows → TrueRows run (fin.insert m (full run.to (run.target file.path)) image.bytes) (fin.insert rows (run.target file.path) (held_of file))
+true_write run m rows file image apart rel is there was_true t row now at here_rel here dig =
+    let goes = run.target file.path in
+    let from_kept : fin.get m (full run.from row.source) ≡ Some now = sym (get-insert-other m (full run.to goes) image.bytes (full run.from row.source) (apart row.source goes here_rel rel)) ∙ here in
+    elim (text_case t goes) [
+      | inl e ↦
+          let row_is : ◌≡◌ {A = Option Held} (Some (held_of file)) (Some row) = sym (get-insert-same rows goes (held_of file)) ∙ ap (fin.get (fin.insert rows goes (held_of file))) (sym e) ∙ at in
+          let row_same : held_of file ≡ row = cc in
+          let bytes_are : ◌≡◌ {A = Option Text} (Some file.bytes) (Some now) = sym there.held ∙ ap (λ (s : Held). fin.get m (full run.from s.source)) row_same ∙ from_kept in
+          let bytes_same : file.bytes ≡ now = cc in
+          record {
+            image = image;
+            is = ap (λ (s : Held). run.image s.source now) (sym row_same) ∙ ap (run.image file.path) (sym bytes_same) ∙ is;
+            goes = ap (λ (s : Held). run.target s.source) (sym row_same) ∙ sym e;
+            held = ap (λ q. fin.get (fin.insert m (full run.to goes) image.bytes) (full run.to q)) e ∙ get-insert-same m (full run.to goes) image.bytes;
+          }
+      | inr n ↦
+          let was = was_true t row now (sym (get-insert-other rows goes (held_of file) t n) ∙ at) here_rel from_kept dig in
+          record {
+            image = was.image;
+            is = was.is;
+            goes = was.goes;
+            held = get-insert-other m (full run.to goes) image.bytes (full run.to t) (full_apart run.to t goes n) ∙ was.held;
+          }
+    ]
+
+-- one work leaves a true ledger true
+true_step : (run : Run) (m : Contents) (l : Ledger) (file : File) (kept found : Bool) (o : Option Image) → run.image file.path file.bytes ≡ o → RootsApart run.from run.to → is_relative_path (run.target file.path) ≡ true
+    → IsThere run.from m file → TrueRows run m l.rows
+    → TrueRows run (wrote_plan (full run.to (run.target file.path)) (cond kept Keep (fresh found o)) m) (logged_plan (run.target file.path) (held_of file) (cond kept Keep (fresh found o)) l).rows
+true_step run m l file true found o is apart rel there true_before = true_before
+true_step run m l file false found (Some image) is apart rel there true_before = true_write run m l.rows file image apart rel is there true_before
+true_step run m l file false found None is apart rel there true_before = true_before
+
+-- these works leave a true ledger true
+pub true_after : (run : Run) (rows0 : Rows) (files : List File) (m : Contents) (l : Ledger) → RootsApart run.from run.to → AllRelative (targets_of run files) → AllThere run.from m files
+    → TrueRows run m l.rows → TrueRows run (files_after run.to (works_of run rows0 files) m) (ledger_after (works_of run rows0 files) l).rows
+true_after run rows0 [] m l apart rel there true_before = true_before
+true_after run rows0 (file ∷ files) m l apart rel there true_before =
+    let work = work_of run rows0 file in
+    true_after run rows0 files (wrote run.to work m) (logged work l) apart rel.1 (there_after run.from run.to work.target work.plan m files apart rel.0 there.1)
+    (true_step run m l file _ _ _ refl apart rel.0 there.0 true_before)
+
+-- where a row is forgotten first, its target may hold anything
+pub true_broken : (run : Run) (m : Contents) (rows rows' : Rows) (target : Text) (left : Option Text) → RootsApart run.from run.to → is_relative_path target ≡ true
+    → fin.get rows' target ≡ None → ((q : Text) → q ≢ target → fin.get rows' q ≡ fin.get rows q)
+    → TrueRows run m rows → TrueRows run (setting (full run.to target) left m) rows'
+true_broken run m rows rows' target left apart rel gone others true_before t row now at here_rel here dig =
+    elim (text_case t target) [
+      | inl e ↦ absurd (let none : ◌≡◌ {A = Option Held} None (Some row) = sym gone ∙ ap (fin.get rows') (sym e) ∙ at in cc)
+      | inr n ↦
+          let was = true_before t row now (sym (others t n) ∙ at) here_rel (sym (get-setting-other (full run.to target) left m (full run.from row.source) (apart row.source target here_rel rel)) ∙ here) dig in
+          record {
+            image = was.image;
+            is = was.is;
+            goes = was.goes;
+            held = get-setting-other (full run.to target) left m (full run.to t) (full_apart run.to t target n) ∙ was.held;
+          }
+    ]

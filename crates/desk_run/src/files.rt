@@ -1,0 +1,67 @@
+//! Files of the source: as they were read, and as they are when they are built.
+
+ghost use Rattle.std.specs.Prelude.{◌≡◌, ◌≤◌, length};
+
+use crate::SIZE;
+use desk_base::Text;
+use std::marker::Model;
+
+/// The bytes of a file, of which there are no more than the limit.
+#[derive(Debug, Drop)]
+pub struct Content {
+    text: Text,
+}
+
+impl Model for Content {
+    ghost use Rattle.std.specs.Prelude.{ℕ, List, ◌≤◌, length};
+    ghost use Rattle.desk_run.specs.declared.TheConstants.{SIZE};
+
+    ghost Value = { List ℕ };
+
+    ghost view = { λ c. c.text };
+
+    ghost invariant = { λ c. length c.text ≤ SIZE };
+}
+
+impl Content {
+    /// Bytes within the limit.
+    pub(crate) fn new(text: Text) -> Content
+        requires { length text ≤ SIZE }
+        ensures { result ≡ text }
+    {
+        Content { text }
+    }
+
+    /// The bytes.
+    pub(crate) fn as_bytes(&self) -> &[u8]
+        ensures bytes { result.now ≡ self.now }
+        ensures small { length self.now ≤ SIZE }
+    {
+        self.text.as_bytes()
+    }
+
+    /// The bytes as a text.
+    pub(crate) fn into_text(self) -> Text
+        ensures bytes { result ≡ self }
+        ensures small { length self ≤ SIZE }
+    {
+        let Content { text } = self;
+        text
+    }
+}
+
+/// A file that was read: its path and target, and its bytes unless they are more than the limit.
+#[derive(Debug, Drop)]
+pub struct Source {
+    pub path: Text,
+    pub target: Text,
+    pub bytes: Option<Content>,
+}
+
+/// A file of a form that is built: its path and target, and its bytes.
+#[derive(Debug, Drop)]
+pub struct Input {
+    pub path: Text,
+    pub target: Text,
+    pub bytes: Content,
+}
