@@ -8,3 +8,6 @@ pub mod After
 pub mod Truths
 pub mod Reading
 pub mod Writing
+pub mod RuleFolder
+pub mod Checking
+pub mod Reporting

@@ -1,5 +1,10 @@
 -- What was read so far, and one part more.
-use Rattle.std.proofs.Common.{◌≤◌}
+use Rattle.std.proofs.Common.{◌≤◌, append-nil}
+use Rattle.desk_base.specs.Names.{Text}
+use Rattle.desk_base.specs.Paths.{is_relative_path}
+use Rattle.desk_run.specs.declared.files.Source.{Source}
+use Rattle.desk_run.specs.Runs.{Run, AllRelative}
+use Rattle.desk_run.specs.Sources.{source_of, sources_of}
 use Rattle.std.proofs.lemmas.Grind.{common_steps}
 use Rattle.std.proofs.Common.{◌≡◌, ℕ, ◌+◌, List, [], ◌++◌, Option, Some, None, refl, sym, ap, ◌∙◌, subst, take, drop, length, arith, length-append}
 use Rattle.std.specs.Prelude.{IfSome}
@@ -45,9 +50,40 @@ there_listed from told now paths i path same listed lt is =
     let there = there_at from m (map (file_at from m) (take i paths)) (file_at from m path) (map (file_at from m) (drop (suc i) paths)) (subst (AllThere from m) files (files_there from m)) in
     subst IsSome (sym there.held) refl))
 
-
 pub dropped_all : {X : Type 0} (xs : List X) (i : ℕ) → length xs ≤ i → drop i xs ≡ []
 dropped_all xs i h = grind (arith, common_steps)
 
 pub taken_all : {X : Type 0} (xs : List X) (i : ℕ) → length xs ≤ i → take i xs ≡ xs
 taken_all xs i h = grind (arith, common_steps)
+
+-- where nothing is left, what is there is all
+pub nothing_left : {X Y : Type 0} (g : List X → List Y) (xs : List X) (i : ℕ) (items all : List Y) → g [] ≡ [] → length xs ≤ i → items ++ g (drop i xs) ≡ all → items ≡ all
+nothing_left g xs i items all none h e = sym (append-nil items) ∙ ap (λ ys. items ++ ys) (sym none) ∙ ap (λ ys. items ++ g ys) (sym (dropped_all xs i h)) ∙ e
+
+-- what is read once one file more is read
+pub sources_more : (run : Run) (told now : Option Contents) (m : Contents) (paths : List Text) (i : ℕ) (path : Text) (items new : List Source) (source : Source) (all : List Source)
+    → i < length paths → path ≡ get_or paths i path → now ≡ told → told ≡ Some m → IfSome now (λ m. source ≡ source_of run (file_at run.from m path))
+    → new ≡ items ++ source ∷ [] → items ++ sources_of run (map (file_at run.from m) (drop i paths)) ≡ all
+    → new ++ sources_of run (map (file_at run.from m) (drop (i + 1) paths)) ≡ all
+sources_more run told now m paths i path items new source all lt is same e read grown before =
+    let dropped : drop i paths ≡ path ∷ drop (suc i) paths = drop-cons paths i path lt ∙ ap (λ p. p ∷ drop (suc i) paths) (sym is) in
+    let next : suc i ≡ i + 1 = omega arith in
+    ap (λ xs. xs ++ sources_of run (map (file_at run.from m) (drop (i + 1) paths))) grown
+    ∙ append_assoc items (source ∷ []) (sources_of run (map (file_at run.from m) (drop (i + 1) paths)))
+    ∙ ap (λ s. items ++ s ∷ sources_of run (map (file_at run.from m) (drop (i + 1) paths))) (at_some (λ m. source ≡ source_of run (file_at run.from m path)) now m (same ∙ e) read)
+    ∙ ap (λ n. items ++ source_of run (file_at run.from m path) ∷ sources_of run (map (file_at run.from m) (drop n paths))) (sym next)
+    ∙ ap (λ ps. items ++ sources_of run (map (file_at run.from m) ps)) (sym dropped) ∙ before
+
+relative_push : (ts : List Text) (t : Text) → AllRelative ts → is_relative_path t ≡ true → AllRelative (ts ++ t ∷ [])
+relative_push [] t h e = (e, tt)
+relative_push (x ∷ ts) t h e = (h.0, relative_push ts t h.1 e)
+
+pub relative_more : (items new : List Source) (source : Source) → AllRelative (map (λ (s : Source). s.target) items) → is_relative_path source.target ≡ true → new ≡ items ++ source ∷ []
+    → AllRelative (map (λ (s : Source). s.target) new)
+relative_more items new source h e grown =
+    subst AllRelative (sym (ap (map (λ (s : Source). s.target)) grown ∙ map-append (λ (s : Source). s.target) items (source ∷ []))) (relative_push (map (λ (s : Source). s.target) items) source.target h e)
+
+-- two lists that agree, with one item more
+pub mapped_more : {X Y Z : Type 0} (f : X → Z) (g : Y → Z) (xs new : List X) (x : X) (ys : List Y) (y : Y) → map f xs ≡ map g ys → f x ≡ g y → new ≡ xs ++ x ∷ [] → map f new ≡ map g (ys ++ y ∷ [])
+mapped_more f g xs new x ys y e h grown =
+    ap (map f) grown ∙ map-append f xs (x ∷ []) ∙ ap (λ zs. zs ++ f x ∷ []) e ∙ ap (λ z. map g ys ++ z ∷ []) h ∙ sym (map-append g ys (y ∷ []))

@@ -10,6 +10,11 @@ use Rattle.desk_folders.specs.ContentsLaws.{insert-remove}
 use Rattle.desk_run.specs.declared.planning.Work.{Work}
 use Rattle.desk_run.specs.Works.{forgot, wrote, logged, files_after, ledger_after}
 use Rattle.desk_run.specs.Stops.{Broken, StoppedAt}
+use Rattle.std.specs.Prelude.{map}
+use Rattle.std.proofs.lemmas.List.{map-append}
+use Rattle.desk_base.specs.Paths.{is_relative_path}
+use Rattle.desk_run.specs.Runs.{AllRelative}
+use Rattle.desk_run.proofs.Splits.{relative_at}
 use Rattle.std.proofs.lemmas.Grind.{common_steps}
 use Rattle.std.proofs.Math.Seq.{take-add}
 use Rattle.std.specs.List.{slice_range}
@@ -90,3 +95,9 @@ stopped_here to works i work f mid f' k kmid k' h is e d b = record {
   count = grind (arith, common_steps);
   broken = subst (λ x. Broken to work x f' (option_map (ledger_after (take i works)) k) k') e (subst (λ x. Broken to work mid f' x k') d b);
 }
+
+-- the target of one of these works is a relative path
+pub relative_work : (works : List Work) (i : ℕ) (work : Work) → i < length works → work ≡ get_or works i work → AllRelative (map (λ (w : Work). w.target) works) → is_relative_path work.target ≡ true
+relative_work works i work lt is h =
+    relative_at (map (λ (w : Work). w.target) (take i works)) work.target (map (λ (w : Work). w.target) (drop (suc i) works))
+    (subst AllRelative (ap (map (λ (w : Work). w.target)) (split_at works i work lt is) ∙ map-append (λ (w : Work). w.target) (take i works) (work ∷ drop (suc i) works)) h)

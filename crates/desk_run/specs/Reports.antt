@@ -8,7 +8,11 @@ use Rattle.desk_report.specs.declared.lines.Line.TheVariants.{Written, Kept}
 use Rattle.desk_report.specs.declared.lines.Summary.{Summary}
 use Rattle.desk_report.specs.Texts.{line_text, summary_text}
 use Rattle.desk_run.specs.declared.image.Image.{Image}
+use Rattle.desk_run.specs.declared.planning.Plan.{Plan}
+use Rattle.desk_run.specs.declared.planning.Plan.TheVariants.{Keep, Leave, Write}
+use Rattle.desk_run.specs.declared.planning.Work.{Work}
 use Rattle.desk_run.specs.Runs.{Run, is_kept_file, is_fresh}
+use Rattle.desk_run.specs.Works.{writes, keeps, leaves}
 
 -- the line of a file: kept, or written with what its image is made of; one without an image has none
 abbrev pub file_line : Text → Text → Bool → Option Image → Text
@@ -36,3 +40,26 @@ summary_of run rows files = record {
 -- one line a file in the order of their paths, and the line of the totals
 abbrev pub report : Run → Rows → List File → Text
 report run rows files = flat_map (line_of run rows) files ++ summary_text (summary_of run rows files)
+
+-- the line of a work
+abbrev pub plan_line : Text → Text → Plan → Text
+plan_line path target Keep = line_text (Kept path target)
+plan_line path target Leave = []
+plan_line path target (Write found image) = line_text (Written path target image.detail)
+
+abbrev pub line_of_work : Work → Text
+line_of_work work = plan_line work.path work.target work.plan
+
+-- the totals of works
+abbrev pub summary_of_works : List Work → Summary
+summary_of_works works = record {
+  files = length works;
+  written = count_by (λ work. writes work.plan) works;
+  kept = count_by (λ work. keeps work.plan) works;
+  refused = count_by (λ work. leaves work.plan) works;
+  renamed = 0;
+  added = 0;
+}
+
+abbrev pub report_of_works : List Work → Text
+report_of_works works = flat_map line_of_work works ++ summary_text (summary_of_works works)

@@ -67,6 +67,16 @@ writes Keep = false
 writes Leave = false
 writes (Write found image) = true
 
+abbrev pub keeps : Plan → Bool
+keeps Keep = true
+keeps Leave = false
+keeps (Write found image) = false
+
+abbrev pub leaves : Plan → Bool
+leaves Keep = false
+leaves Leave = true
+leaves (Write found image) = false
+
 -- the folder after these works
 abbrev pub files_after : Text → List Work → Contents → Contents
 files_after to [] m = m

@@ -82,7 +82,10 @@ pub(crate) fn check_all(
     let tally = Tally::of(alloc, &sources)?;
     let mut inputs = Vec::new(alloc);
     for source in sources {
-        inputs.push(check(alloc, rules, &tally, source)?)?;
+        match check(alloc, rules, &tally, source) {
+            Ok(input) => inputs.push(input)?,
+            Err(halt) => return Err(halt),
+        }
     }
     Ok(inputs)
 }

@@ -6,12 +6,14 @@ mod files;
 mod image;
 mod opening;
 mod planning;
+mod report;
 mod roots;
 mod rules;
 mod sources;
 mod stops;
 mod tally;
 mod words;
+mod write;
 
 pub use roots::Root;
 pub use words::{Task, WordsFault, read_words};

@@ -5,7 +5,7 @@ ghost use Rattle.desk_ledger.specs.Ledger.{held_in};
 ghost use Rattle.desk_run.specs.Images.{image};
 ghost use Rattle.desk_run.specs.Inputs.{work_of_input};
 ghost use Rattle.desk_run.specs.Runs.{is_kept};
-ghost use Rattle.desk_run.specs.Works.{fresh};
+ghost use Rattle.desk_run.specs.Works.{fresh, writes, keeps, leaves};
 ghost use Rattle.desk_run.specs.declared.planning.Plan.TheVariants.{Keep};
 ghost use Rattle.desk_run.specs.Halts.{HaltsPlanning};
 
@@ -26,6 +26,29 @@ pub enum Plan {
     Leave,
     /// Its image is written; whether the ledger has a row of its target, which is forgotten first.
     Write { found: bool, image: Image },
+}
+
+impl Plan {
+    /// Whether the file is written.
+    pub(crate) fn writes(&self) -> bool
+        ensures { result ≡ writes self.now }
+    {
+        matches!(self, Plan::Write { .. })
+    }
+
+    /// Whether the file is kept.
+    pub(crate) fn keeps(&self) -> bool
+        ensures { result ≡ keeps self.now }
+    {
+        matches!(self, Plan::Keep)
+    }
+
+    /// Whether the file is left alone.
+    pub(crate) fn leaves(&self) -> bool
+        ensures { result ≡ leaves self.now }
+    {
+        matches!(self, Plan::Leave)
+    }
 }
 
 /// A file, and what is done with it.

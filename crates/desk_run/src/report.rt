@@ -1,0 +1,101 @@
+//! Writes the report of a run.
+
+ghost use Rattle.std.specs.Prelude.{◌≡◌, ◌≤◌, ◌<◌, ◌^◌, ◌++◌, OnOk, OnErr, IfSome, IfNone, [], length, count_by};
+ghost use Rattle.std.specs.List.{flat_map};
+ghost use Rattle.desk_folders.specs.Contents.{Rose};
+ghost use Rattle.desk_report.specs.Texts.{line_text, summary_text};
+ghost use Rattle.desk_report.specs.Written.{WritesFront, writing};
+ghost use Rattle.desk_run.specs.Works.{writes, keeps, leaves};
+ghost use Rattle.desk_run.specs.Reports.{line_of_work, report_of_works, summary_of_works};
+
+use crate::planning::{Plan, Work};
+use desk_report::{Line, Sink, SinkFault, Summary, write_line, write_summary};
+
+/// How many works write.
+fn count_written(works: &[Work]) -> usize
+    ensures { result ≡ count_by (λ work. writes work.plan) works.now }
+{
+    works.iter().filter(|work| work.plan.writes()).count()
+}
+
+/// How many works keep.
+fn count_kept(works: &[Work]) -> usize
+    ensures { result ≡ count_by (λ work. keeps work.plan) works.now }
+{
+    works.iter().filter(|work| work.plan.keeps()).count()
+}
+
+/// How many works leave a file alone.
+fn count_left(works: &[Work]) -> usize
+    ensures { result ≡ count_by (λ work. leaves work.plan) works.now }
+{
+    works.iter().filter(|work| work.plan.leaves()).count()
+}
+
+/// The totals of works.
+fn summary_of(works: &[Work]) -> Summary
+    requires { length works.now < 2 ^ 32 }
+    ensures { result ≡ summary_of_works works.now }
+{
+    Summary {
+        files: works.len() as u32,
+        written: count_written(works) as u32,
+        kept: count_kept(works) as u32,
+        refused: count_left(works) as u32,
+        renamed: 0,
+        added: 0,
+    }
+}
+
+/// The line of a work; a file that is left alone has none.
+fn line_of(work: Work) -> Option<Line>
+    ensures some { IfSome result (λ line. line_text line ≡ line_of_work work) }
+    ensures none { IfNone result (line_of_work work ≡ []) }
+{
+    let Work {
+        path,
+        target,
+        plan,
+        ..
+    } = work;
+    match plan {
+        Plan::Keep => Some(Line::Kept { path, target }),
+        Plan::Leave => None,
+        Plan::Write { image, .. } => Some(Line::Written {
+            path,
+            target,
+            detail: image.detail,
+        }),
+    }
+}
+
+/// Writes the line of a work.
+fn write_work<O: Sink>(out: &mut O, work: Work) -> Result<(), SinkFault>
+    ensures ok { OnOk result (O.told out.new ≡ writing (line_of_work work) (O.told out.old)) }
+    ensures err { OnErr result (WritesFront (line_of_work work) (O.told out.old) (O.told out.new)) }
+    ensures counts { O.faults out.old ≤ O.faults out.new }
+    ensures failed { OnErr result (Rose (O.faults out.old) (O.faults out.new)) }
+{
+    match line_of(work) {
+        Some(line) => write_line(&line, out),
+        None => Ok(()),
+    }
+}
+
+/// Writes the report of works: one line a file, and the totals.
+pub(crate) fn write_report<O: Sink>(out: &mut O, works: Vec<Work>) -> Result<(), SinkFault>
+    requires { length works.items < 2 ^ 32 }
+    ensures ok { OnOk result (O.told out.new ≡ writing (report_of_works works.items) (O.told out.old)) }
+    ensures err { OnErr result (WritesFront (report_of_works works.items) (O.told out.old) (O.told out.new)) }
+    ensures counts { O.faults out.old ≤ O.faults out.new }
+    ensures failed { OnErr result (Rose (O.faults out.old) (O.faults out.new)) }
+{
+    let summary = summary_of(&works);
+    for work in works {
+        match write_work(out, work) {
+            Ok(()) => {}
+            Err(fault) => return Err(fault),
+        }
+    }
+    write_summary(&summary, out)
+}
