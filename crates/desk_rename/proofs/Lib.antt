@@ -1,3 +1,4 @@
 pub mod Parts
 pub mod Appended
 pub mod DottedImage
+pub mod DottedBytes
