@@ -5,3 +5,4 @@ pub mod Reading
 pub mod Places
 pub mod Exchanged
 pub mod Migrating
+pub mod Rows

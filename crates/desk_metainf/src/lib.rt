@@ -4,6 +4,8 @@
 mod lines;
 mod providers;
 mod services;
+#[cfg(test)]
+mod tests;
 
 use desk_base::Memory;
 pub use services::migrate_service;

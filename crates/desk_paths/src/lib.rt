@@ -12,6 +12,9 @@ use desk_rename::rename_dotted;
 use desk_rules::RuleSet;
 use std::alloc::Global;
 
+#[cfg(test)]
+mod tests;
+
 /// The folder of service files, with the `/` behind it.
 const SERVICES: &[u8] = b"META-INF/services/";
 
