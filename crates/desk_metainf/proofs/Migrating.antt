@@ -9,7 +9,7 @@ use Rattle.desk_rules.specs.Rules.{Rules}
 use Rattle.desk_rules.specs.Images.{dotted}
 use Rattle.desk_rules.specs.RuleSets.{IsRuleSet}
 use Rattle.desk_rules.proofs.Laws.{dotted_stay, dotted_keep_form}
-use Rattle.desk_rename.proofs.DottedBytes.{dotted_bytes, dotted_filled}
+use Rattle.desk_rules.proofs.DottedBytes.{dotted_bytes, dotted_filled}
 use Rattle.desk_metainf.specs.Lines.{End, Line, line, end_bytes, joined, lines}
 use Rattle.desk_metainf.specs.Cuts.{is_inked}
 use Rattle.desk_metainf.specs.Services.{provider, line_image, is_bad, first_bad, is_changed, count_changed, on_contents, migrated, service_by, service, ServiceStays, is_name_byte, is_provider_name}

@@ -14,7 +14,7 @@ use Rattle.desk_rules.specs.Images.{dotted}
 use Rattle.desk_rules.specs.RuleSets.{DottedStay, DottedKeepForm}
 use Rattle.desk_rules.proofs.Bytes.{unreserved, unslashed}
 use Rattle.desk_rules.proofs.Cuts.{none_is}
-use Rattle.desk_rename.proofs.DottedBytes.{dotted_bytes, dotted_filled}
+use Rattle.desk_rules.proofs.DottedBytes.{dotted_bytes, dotted_filled}
 use Rattle.desk_paths.specs.Paths.{services, is_file_name, service_name, target, target_by}
 use Rattle.desk_paths.specs.Kinds.{kind_of, kind_by, TargetStays}
 use Rattle.desk_paths.specs.declared.Kind.TheVariants.{Service}

@@ -11,7 +11,8 @@ identifier_bytes : (t : Text) → is_identifier t ≡ true → list_all is_ident
 identifier_bytes [] h = absurd cc
 identifier_bytes (b ∷ t) h = (and_parts _ _ h).1
 
-written_bytes : (p : ℕ → Bool) → p dot ≡ true → ((b : ℕ) → is_identifier_byte b ≡ true → p b ≡ true) → (ps : Package) → list_all is_identifier ps ≡ true → list_all p (written dot ps) ≡ true
+-- of a written package
+pub written_bytes : (p : ℕ → Bool) → p dot ≡ true → ((b : ℕ) → is_identifier_byte b ≡ true → p b ≡ true) → (ps : Package) → list_all is_identifier ps ≡ true → list_all p (written dot ps) ≡ true
 written_bytes p at_dot known [] h = refl
 written_bytes p at_dot known (x ∷ []) h = each_byte is_identifier_byte p known x (identifier_bytes x (and_parts _ _ h).0)
 written_bytes p at_dot known (x ∷ y ∷ ps) h =
