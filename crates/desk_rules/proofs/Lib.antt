@@ -11,3 +11,5 @@ pub mod OneRule
 pub mod Laws
 pub mod DotCuts
 pub mod Built
+pub mod DottedBytes
+pub mod PlainLaws

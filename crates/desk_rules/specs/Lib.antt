@@ -7,3 +7,4 @@ pub mod Keys
 pub mod Files
 pub mod RuleFiles
 pub mod Builds
+pub mod PlainLines

@@ -9,7 +9,7 @@ use std::collections::BTreeMap;
 use std::marker::Model;
 
 /// The files of a rule folder. Contracts see the finite map from a file's name to its bytes.
-#[derive(Drop)]
+#[derive(Debug, Drop)]
 pub struct RuleFiles {
     files: BTreeMap<Text, Text>,
 }

@@ -6,6 +6,8 @@ ghost use Rattle.std.specs.Prelude.{◌≡◌};
 mod files;
 mod names;
 mod rule_set;
+#[cfg(test)]
+mod tests;
 
 use desk_base::Memory;
 pub use files::RuleFiles;

@@ -6,6 +6,7 @@ ghost use Rattle.desk_base.specs.Names.{segments, written};
 ghost use Rattle.desk_rules.specs.Keys.{is_separator, spelled};
 ghost use Rattle.desk_rules.specs.Files.{without_end};
 ghost use Rattle.desk_rules.specs.RuleFiles.{rules_of_files, rules_of_line};
+ghost use Rattle.desk_rules.specs.PlainLines.{ReadsPlainLines};
 ghost use Rattle.desk_rules.specs.Builds.{IsBuildFault, IsLineFault};
 ghost use Rattle.desk_rules.specs.RuleSets.{changing_pick, IsFrontOf, IsRuleSet, PackagesStay, DottedStay, DottedKeepForm};
 
@@ -19,14 +20,14 @@ use std::marker::Model;
 const RENAMES: &[u8] = b"renames.properties";
 
 /// What is exchanged of a package: its first `taken` bytes, for these segments.
-#[derive(Clone, Copy)]
+#[derive(Clone, Copy, Debug)]
 pub struct Front<'r> {
     pub taken: usize,
     pub segments: &'r TextList,
 }
 
 /// The rules of a rule folder: one exact rename. No image under them is changed again.
-#[derive(Drop)]
+#[derive(Debug, Drop)]
 pub struct RuleSet {
     source: Text,
     target: TextList,
@@ -153,6 +154,9 @@ impl RuleSet {
         ensures built { IfOk result (λ rules. rules_of_files files.now ≡ Ok rules) }
         ensures refused { IfErr result (IsBuildFault files.now) }
         ensures settled { IfOk result IsRuleSet }
+
+        // What a line is read as: exactly the plain lines are rules.
+        ensures plain { ReadsPlainLines }
     {
         let name = Text::from_bytes(alloc, RENAMES)?;
         match files.content(&name) {

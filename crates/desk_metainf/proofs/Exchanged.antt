@@ -1,0 +1,117 @@
+-- A line with its provider name exchanged between two places.
+use Rattle.std.proofs.Common.{◌≡◌, ◌≢◌, ◌<◌, ◌≤◌, ◌+◌, ◌-◌, ℕ, Bool, true, false, cond, not, ◌&&◌, [], ◌∷◌, ◌++◌, length, take, drop, refl, sym, ap, ◌∙◌, arith, append_assoc, length-append, take-append-drop}
+use Rattle.std.specs.List.{list_all}
+use Rattle.std.specs.Str.{bytes_eq}
+use Rattle.std.proofs.lemmas.Bool.{false_from_ne_true}
+use Rattle.std.proofs.lemmas.Slice.Eq.{bytes_eq-Decides}
+use Rattle.std.proofs.lemmas.List.{take_at, drop_at, drop-drop, append_cancel_right}
+use Rattle.desk_base.specs.Names.{Text, is_empty}
+use Rattle.desk_metainf.specs.Lines.{End, Line, line, end_bytes, joined, lines}
+use Rattle.desk_metainf.specs.Cuts.{until, onward, is_inked, back_blanks, front_blanks}
+use Rattle.desk_metainf.specs.Services.{is_hash, provider, with_provider, line_image, is_changed}
+use Rattle.desk_metainf.specs.Reading.{IsFirstLine, IsProviderPlace, exchanged, is_exchanged}
+use Rattle.desk_metainf.proofs.LineLaws.{joined-lines}
+use Rattle.desk_metainf.proofs.ServiceLaws.{built, parts_joined}
+
+-- what is exchanged for itself leaves the line
+pub put_back : (line : Text) (from to : ℕ) → from ≤ to → take from line ++ (take (to - from) (drop from line) ++ drop to line) ≡ line
+put_back line from to order =
+    let there : from + (to - from) ≡ to = omega arith in
+    ap (λ (t : Text). take from line ++ (take (to - from) (drop from line) ++ t)) (ap (λ (n : ℕ). drop n line) (sym there) ∙ sym (drop-drop (to - from) from line))
+    ∙ ap (λ (t : Text). take from line ++ t) (take-append-drop (to - from) (drop from line))
+    ∙ take-append-drop from line
+
+pub differs : (image name : Text) → image ≢ name → true ≡ not (bytes_eq image name)
+differs image name apart = ap not (sym (false_from_ne_true _ (λ e. apart ((bytes_eq-Decides image name).0 e))))
+
+pub agrees : (image name : Text) → image ≡ name → false ≡ not (bytes_eq image name)
+agrees image name same = ap not (sym ((bytes_eq-Decides image name).1 same))
+
+-- three parts, cut at their places
+pub record Cut (x front name more : Text) (from to : ℕ) : Type 0 where
+  pub front_is : take from x ≡ front
+  pub name_is : take (to - from) (drop from x) ≡ name
+  pub more_is : drop to x ≡ more
+
+cut_parts : (front name more : Text) (from to : ℕ) → from ≡ length front → to ≡ from + length name → Cut (front ++ (name ++ more)) front name more from to
+cut_parts front name more from to from_is to_is =
+    let behind : drop from (front ++ (name ++ more)) ≡ name ++ more = drop_at front (name ++ more) from (sym from_is) in
+    let size : to - from ≡ length name = omega arith in
+    let both : to ≡ length (front ++ name) = to_is ∙ ap (λ (n : ℕ). n + length name) from_is ∙ sym (length-append front name) in
+    record {
+      front_is = take_at front (name ++ more) from (sym from_is);
+      name_is = ap (take (to - from)) behind ∙ take_at name more (to - from) (sym size);
+      more_is = ap (drop to) (sym (append_assoc front name more)) ∙ drop_at (front ++ name) more to (sym both);
+    }
+
+-- the parts of a line's content, and its end
+pub record LineCut (content end : Text) (from to : ℕ) : Type 0 where
+  pub front_is : take from (content ++ end) ≡ front_blanks (until is_hash content)
+  pub name_is : take (to - from) (drop from (content ++ end)) ≡ provider content
+  pub more_is : drop to (content ++ end) ≡ (back_blanks (onward is_inked (until is_hash content)) ++ onward is_hash content) ++ end
+
+pub line_cut : (content end : Text) (from to : ℕ) → IsProviderPlace content from to → LineCut content end from to
+line_cut content end from to place =
+    let front = front_blanks (until is_hash content) in
+    let back = back_blanks (onward is_inked (until is_hash content)) ++ onward is_hash content in
+    let parts : content ++ end ≡ front ++ (provider content ++ (back ++ end)) =
+    ap (λ (t : Text). t ++ end) (sym (parts_joined content)) ∙ append_assoc front (provider content ++ back) end ∙ ap (λ (t : Text). front ++ t) (append_assoc (provider content) back end) in
+    let cut = cut_parts front (provider content) (back ++ end) from to place.from_is place.to_is in
+    record {
+      front_is = ap (take from) parts ∙ cut.front_is;
+      name_is = ap (λ (t : Text). take (to - from) (drop from t)) parts ∙ cut.name_is;
+      more_is = ap (drop to) parts ∙ cut.more_is;
+    }
+
+empty_is : (t : Text) → is_empty t ≡ true → t ≡ []
+empty_is [] h = refl
+empty_is (b ∷ t) h = absurd cc
+
+-- also a line without a provider has the image of nothing in its place
+line_image_with : (image : Text → Text) → image [] ≡ [] → (content : Text) → line_image image content ≡ with_provider (image (provider content)) content
+line_image_with image at_nothing content =
+    elim (is_empty (provider content)) as (λ (b : Bool). is_empty (provider content) ≡ b → cond b content (with_provider (image (provider content)) content) ≡ with_provider (image (provider content)) content) [
+      | true ↦ λ e.
+          let nothing : provider content ≡ [] = empty_is (provider content) e in
+          sym (parts_joined content) ∙ ap (λ (t : Text). with_provider t content) (nothing ∙ sym at_nothing ∙ ap image (sym nothing))
+      | false ↦ λ e. refl
+    ] refl
+
+pub exchanged_line : (image : Text → Text) → image [] ≡ [] → (content end : Text) (from to : ℕ) → IsProviderPlace content from to → exchanged image from to (content ++ end) ≡ line_image image content ++ end
+exchanged_line image at_nothing content end from to place =
+    let cut = line_cut content end from to place in
+    let front = front_blanks (until is_hash content) in
+    let back = back_blanks (onward is_inked (until is_hash content)) ++ onward is_hash content in
+    let new = image (provider content) in
+    ap (λ (t : Text). t ++ (image (take (to - from) (drop from (content ++ end))) ++ drop to (content ++ end))) cut.front_is
+    ∙ ap (λ (t : Text). front ++ (image t ++ drop to (content ++ end))) cut.name_is
+    ∙ ap (λ (t : Text). front ++ (new ++ t)) cut.more_is
+    ∙ ap (λ (t : Text). front ++ t) (sym (append_assoc new back end))
+    ∙ sym (append_assoc front (new ++ back) end)
+    ∙ ap (λ (t : Text). t ++ end) (sym (line_image_with image at_nothing content))
+
+changed_name : (image : Text → Text) → image [] ≡ [] → (name : Text) → not (bytes_eq (image name) name) ≡ (not (is_empty name) && not (bytes_eq (image name) name))
+changed_name image at_nothing [] = sym (agrees (image []) [] at_nothing)
+changed_name image at_nothing (b ∷ name) = refl
+
+pub exchanged_changed : (image : Text → Text) → image [] ≡ [] → (content end : Text) (from to : ℕ) → IsProviderPlace content from to → is_exchanged image from to (content ++ end) ≡ is_changed image content
+exchanged_changed image at_nothing content end from to place =
+    ap (λ (t : Text). not (bytes_eq (image t) t)) (line_cut content end from to place).name_is ∙ changed_name image at_nothing (provider content)
+
+-- a first line, with its end
+pub record FirstOf (r : Text) (content next : ℕ) : Type 0 where
+  pub end : End
+  pub same : lines r ≡ line (take content r) end ∷ lines (drop next r)
+  pub whole : take next r ≡ take content r ++ end_bytes end
+
+pub first_of : (r : Text) (content next : ℕ) → IsFirstLine r content next → FirstOf r content next
+first_of r content next first =
+    let text : r ≡ (take content r ++ end_bytes first.end) ++ drop next r =
+    sym (joined-lines r) ∙ ap joined first.same
+    ∙ ap (λ (t : Text). take content r ++ (end_bytes first.end ++ t)) (joined-lines (drop next r))
+    ∙ sym (append_assoc (take content r) (end_bytes first.end) (drop next r)) in
+    record {
+      end = first.end;
+      same = first.same;
+      whole = append_cancel_right (take next r) (take content r ++ end_bytes first.end) (drop next r) (take-append-drop next r ∙ text);
+    }

@@ -1,0 +1,13 @@
+use Rattle.std.proofs.Common.{◌≡◌, ◌∙◌, ap, sym, refl, take, length}
+use Rattle.std.proofs.lemmas.List.{take_rest}
+use Rattle.desk_metainf.specs.Cuts.{until, stripped}
+use Rattle.desk_metainf.specs.Services.{is_hash}
+use Rattle.desk_metainf.proofs.Places.{place_of, take_until}
+use Rattle.desk_metainf.proofs.providers.provider_place.Goals as goal
+
+pub returns : goal.returns
+returns c = place_of c.args.content.now (take c.code_length.result c.args.content.now) c.stripped-name.result.now _ _
+    (ap (λ n. take n c.args.content.now) c.code_length.ensures.length_is ∙ take_until is_hash c.args.content.now)
+    c.count_front_blanks-from.ensures.count_is
+    (c.stripped-name.ensures ∙ ap stripped (take_rest (take c.code_length.result c.args.content.now) c.count_front_blanks-from.result))
+    refl

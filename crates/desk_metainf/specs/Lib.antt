@@ -1,0 +1,5 @@
+pub mod Lines
+pub mod Cuts
+pub mod Services
+pub mod Reading
+pub mod Faults

@@ -1,0 +1,31 @@
+//! Service files: provider names, one a line, exchanged as dotted names.
+#![tactic(auto)]
+
+mod lines;
+mod providers;
+mod services;
+#[cfg(test)]
+mod tests;
+
+use desk_base::Memory;
+pub use services::migrate_service;
+
+/// Why a file has no image.
+#[derive(Clone, Copy, Debug, PartialEq, Eq)]
+pub enum MetaFault {
+    /// A line that isn't of the file's form; `at` is the offset of its first byte from the start.
+    BadLine { at: u32 },
+    /// Memory ran out.
+    Memory,
+}
+
+impl From<Memory> for MetaFault {
+    ghost use Rattle.std.specs.Prelude.{◌≡◌};
+    ghost use Rattle.desk_metainf.specs.declared.MetaFault.TheVariants.{Memory as WantOfMemory};
+
+    ghost from_gives = { λ _ fault. fault ≡ WantOfMemory };
+
+    fn from(_: Memory) -> MetaFault {
+        MetaFault::Memory
+    }
+}
