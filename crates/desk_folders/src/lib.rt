@@ -2,5 +2,10 @@
 #![tactic(auto)]
 
 mod folders;
+mod listing;
+mod memory;
+
 
 pub use folders::{FolderFault, Folders, GenFile};
+pub use memory::MemoryFolders;
+
