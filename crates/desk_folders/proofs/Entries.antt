@@ -1,5 +1,5 @@
 -- A map of entries by their texts, and what one change of a key leaves.
-use Rattle.std.proofs.Common.{rules, ◌≡◌, List, ℕ, [], ◌∷◌, Some, None, Option, refl, sym, ap, ◌∙◌, cond, Result, Ok, Err, OnErr}
+use Rattle.std.proofs.Common.{rules, ◌≡◌, List, ℕ, [], ◌∷◌, Some, None, Option, refl, sym, ap, ◌∙◌, cond, Result, Ok, Err, OnErr, subst}
 use Rattle.std.specs.Ordering.{nat_cmp, eq_by_cmp}
 use Rattle.std.specs.Cmp.{eq_by_cmp_equiv}
 use Rattle.std.specs.Cmp.Lexicographic.{slice_cmp}
@@ -8,9 +8,9 @@ use Rattle.std.specs.BTreeMap.{is_at}
 use Rattle.std.specs.Map.{lookup}
 use Rattle.std.specs.FinMap.{FinMap, get, insert, remove, from_entries, find, gets, get_tied, get-from_entries, get-insert, get-remove}
 use Rattle.desk_base.specs.Names.{Text}
-use Rattle.desk_folders.specs.Contents.{Contents, setting}
-use Rattle.desk_folders.specs.ContentsLaws.{same_texts}
-use Rattle.desk_folders.specs.InMemory.{InMemory, leaving}
+use Rattle.desk_folders.specs.Contents.{Contents, ChangesOnly, setting}
+use Rattle.desk_folders.specs.ContentsLaws.{same_texts, ChangesOnly-refl}
+use Rattle.desk_folders.specs.InMemory.{InMemory, leaving, called}
 
 -- what a map of entries has at a text
 abbrev pub entry_at : List (Text × Text) → Text → Option Text
@@ -48,3 +48,11 @@ leaves es fs faults calls failing k left m e is =
 pub on_err : {T E P : Type 0} (r : Result T E) → P → OnErr r P
 on_err (Ok x) p = tt
 on_err (Err e) p = p
+
+-- a call that leaves the contents changes one path at most
+pub ChangesOnly-called : (p : Text) (m k n : InMemory) → n ≡ k → k ≡ called m → ChangesOnly p (Some m.contents) (Some n.contents)
+ChangesOnly-called p m k n e is = subst (λ (x : InMemory). ChangesOnly p (Some m.contents) (Some x.contents)) (sym (e ∙ is)) (ChangesOnly-refl p (Some m.contents))
+
+-- a call that leaves something at a path changes that path alone
+pub ChangesOnly-leaving : (p : Text) (left : Option Text) (m k n : InMemory) → n ≡ leaving p left k → k ≡ called m → ChangesOnly p (Some m.contents) (Some n.contents)
+ChangesOnly-leaving p left m k n e is = record { left = left; is = ap Some (ap (λ (x : InMemory). x.contents) (e ∙ ap (leaving p left) is)) }

@@ -1,5 +1,5 @@
 -- The listing of a folder, from the ordered entries of a map.
-use Rattle.std.proofs.Common.{◌≡◌, ℕ, ◌+◌, ◌<◌, ◌≤◌, ◌⊎◌, inl, inr, List, [], ◌∷◌, ◌++◌, Some, None, Option, Bool, true, false, refl, sym, ap, ◌∙◌, cond, length, take, drop, arith, nat_eq, map, append-nil, length-append, append_assoc, Bor, subst, get_or, IsTrue}
+use Rattle.std.proofs.Common.{Result, Ok, Err, OnOk, IfOk, ◌≡◌, ℕ, ◌+◌, ◌<◌, ◌≤◌, ◌⊎◌, inl, inr, List, [], ◌∷◌, ◌++◌, Some, None, Option, Bool, true, false, refl, sym, ap, ◌∙◌, cond, length, take, drop, arith, nat_eq, map, append-nil, length-append, append_assoc, Bor, subst, get_or, IsTrue}
 use Rattle.std.specs.Prelude.{◌&&◌, nat_le, All, Contains}
 use Rattle.std.specs.Ordering.{nat_cmp}
 use Rattle.std.specs.Cmp.Lexicographic.{slice_cmp}
@@ -127,3 +127,8 @@ yielded_more ys y left rest all e h =
 
 pub all_yielded : (ys : List (Bor (Text) × Bor (Text))) (left all es : List (Text × Text)) → left ≡ [] → map key_of ys ++ keys_left left ≡ keys_left all → all ≡ es → map key_of ys ≡ keys_left es
 all_yielded ys left all es none h same = sym (append-nil (map key_of ys)) ∙ ap (λ l. map key_of ys ++ keys_left l) (sym none) ∙ h ∙ ap keys_left same
+
+-- what holds of an answer with what holds beside it
+pub both_ok : {T E O : Type 0} {P Q : T → Type 0} (r : Result T E) → ((x : T) → O → P x → Q x) → OnOk r O → IfOk r P → IfOk r Q
+both_ok (Ok x) f o p = f x o p
+both_ok (Err e) f o p = tt

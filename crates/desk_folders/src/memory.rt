@@ -1,6 +1,6 @@
 //! Folders in memory.
 
-ghost use Rattle.std.specs.Prelude.{◌≡◌, ◌≢◌, ◌≤◌, ◌+◌, ◌++◌, ◌↔◌, [], length, take, drop, Some, None, Err, IsTrue, IsSome, IsErr, IfOk, OnOk, OnErr};
+ghost use Rattle.std.specs.Prelude.{◌≡◌, ◌≢◌, ◌≤◌, ◌+◌, ◌++◌, ◌↔◌, [], length, take, drop, Some, None, Err, IsTrue, IsSome, IsErr, IfSome, IfOk, OnOk, OnErr};
 ghost use Rattle.std.specs.Option.{option_copied};
 ghost use Rattle.std.specs.List.{list_all};
 ghost use Rattle.std.specs.List.Sorted.{IsStrictlySortedBy};
@@ -44,6 +44,8 @@ impl MemoryFolders {
     /// Counts a call, and answers whether it fails.
     fn call(&mut self) -> bool
         ensures result { result ≡ fails self.old }
+        ensures counts { self.old.faults ≤ self.new.faults }
+        ensures rose { IsTrue result → Rose self.old.faults self.new.faults }
         ensures called { self.new ≡ called self.old }
     {
         let fails = self.failing.as_slice().contains(&self.calls);
@@ -79,9 +81,138 @@ impl MemoryFolders {
         ensures err { OnErr result (self.new ≡ self.old) }
     {
         let Some(content) = self.files.get_mut(path) else {
-            return Err(Memory);
+            unreachable!()
         };
         content.append(bytes)?;
+        Ok(())
+    }
+}
+
+/// At most `want` bytes from byte `at` on.
+fn part_of(bytes: &[u8], at: u64, want: u32) -> &[u8]
+    ensures { result.now ≡ take want (drop at bytes.now) }
+{
+    let len = bytes.len() as u64;
+    if len <= at {
+        return &[];
+    }
+    let end = at + (len - at).min(want as u64);
+    &bytes[at as usize..end as usize]
+}
+
+/// The first half of bytes, rounded down.
+fn half_of(bytes: &[u8]) -> &[u8]
+    ensures { result.now ≡ half bytes.now }
+{
+    &bytes[..bytes.len() / 2]
+}
+
+impl MemoryFolders {
+    /// At most `want` bytes of a file from byte `at` on.
+    fn part(&self, path: &Text, at: u64, want: u32) -> Result<Text, Memory>
+        ensures { IfOk result (λ part. part ≡ take want (drop at (bytes_at self.now.contents path.now))) }
+    {
+        match self.files.get(path) {
+            Some(content) => Text::from_bytes(self.alloc, part_of(content.as_bytes(), at, want)),
+            None => Ok(Text::empty(self.alloc)),
+        }
+    }
+
+    /// The first paths below a root, `most + 1` at most.
+    fn listed(&self, root: &Text, most: u32) -> Result<TextList, Memory>
+        requires { most ≤ 1000000 }
+        ensures { IfOk result (λ paths. paths ≡ take (most + 1) (paths_below root.now self.now.contents)) }
+    {
+        paths_of(self.alloc, &self.files, root.as_bytes(), most)
+    }
+}
+
+impl Folders for MemoryFolders {
+    ghost told = { λ m. Some m.contents };
+
+    ghost faults = { λ m. m.faults };
+
+    /// It gives the first `most + 1` paths. It fails exactly where this call's number is among the failing.
+    fn list(&mut self, root: &Text, most: u32) -> Result<TextList, FolderFault>
+        requires most { most ≤ 1000000 }
+        requires root { IsTrue (is_root root.now) }
+        ensures exactly { (result ≡ Err FolderFault.Failed) ↔ IsTrue (fails self.old) }
+        ensures first { IfOk result (λ paths. paths ≡ take (most + 1) (paths_below root.now self.old.contents)) }
+        ensures called { self.new ≡ called self.old }
+        ensures paths { IfOk result (λ paths. IfSome (Some self.old.contents) (λ m. IsListing most (paths_below root.now m) paths)) }
+        ensures few { IfOk result (λ paths. length paths ≤ most + 1) }
+        ensures rising { IfOk result (λ paths. IsStrictlySortedBy (slice_cmp nat_cmp) paths) }
+        ensures relative { IfOk result (λ paths. IsTrue (list_all is_relative_path paths)) }
+        ensures told { Some self.new.contents ≡ Some self.old.contents }
+        ensures counts { self.old.faults ≤ self.new.faults }
+        ensures failed { result ≡ Err FolderFault.Failed → Rose self.old.faults self.new.faults }
+    {
+        if self.call() {
+            return Err(FolderFault::Failed);
+        }
+        Ok(self.listed(root, most)?)
+    }
+
+    /// It gives as many bytes as it may. It fails exactly where this call's number is among the failing.
+    fn read_part(&mut self, path: &Text, at: u64, want: u32) -> Result<Text, FolderFault>
+        requires want { want ≢ 0 }
+        requires there { IfSome (Some self.old.contents) (λ m. IsSome (fin.get m path.now)) }
+        ensures exactly { (result ≡ Err FolderFault.Failed) ↔ IsTrue (fails self.old) }
+        ensures most { IfOk result (λ part. part ≡ take want (drop at (bytes_at self.old.contents path.now))) }
+        ensures called { self.new ≡ called self.old }
+        ensures part { IfOk result (λ part. IfSome (Some self.old.contents) (λ m. IsPart (bytes_at m path.now) at part)) }
+        ensures few { IfOk result (λ part. length part ≤ want) }
+        ensures told { Some self.new.contents ≡ Some self.old.contents }
+        ensures counts { self.old.faults ≤ self.new.faults }
+        ensures failed { result ≡ Err FolderFault.Failed → Rose self.old.faults self.new.faults }
+    {
+        if self.call() {
+            return Err(FolderFault::Failed);
+        }
+        Ok(self.part(path, at, want)?)
+    }
+
+    /// It fails exactly where this call's number is among the failing, and then removes the path. After want
+    /// of memory the path is as it was.
+    fn create(&mut self, path: &Text) -> Result<(), FolderFault>
+        requires path { IsTrue (is_full_path path.now) }
+        ensures exactly { (result ≡ Err FolderFault.Failed) ↔ IsTrue (fails self.old) }
+        ensures made { OnOk result (self.new ≡ leaving path.now (Some []) (called self.old)) }
+        ensures removed { result ≡ Err FolderFault.Failed → self.new ≡ leaving path.now None (called self.old) }
+        ensures memory { result ≡ Err FolderFault.Memory → self.new ≡ called self.old }
+        ensures ok { OnOk result (Some self.new.contents ≡ holding path.now [] (Some self.old.contents)) }
+        ensures err { OnErr result (ChangesOnly path.now (Some self.old.contents) (Some self.new.contents)) }
+        ensures counts { self.old.faults ≤ self.new.faults }
+        ensures failed { result ≡ Err FolderFault.Failed → Rose self.old.faults self.new.faults }
+    {
+        if self.call() {
+            self.take_away(path);
+            return Err(FolderFault::Failed);
+        }
+        self.empty(path)?;
+        Ok(())
+    }
+
+    /// It fails, or wants memory, exactly where this call's number is among the failing or memory is
+    /// wanted; where it fails it added the first half of the bytes. After want of memory the path is as
+    /// it was.
+    fn append(&mut self, path: &Text, bytes: &[u8]) -> Result<(), FolderFault>
+        requires there { IfSome (Some self.old.contents) (λ m. IsSome (fin.get m path.now)) }
+        ensures exactly { result ≡ Err FolderFault.Failed → IsTrue (fails self.old) }
+        ensures refused { IsTrue (fails self.old) → IsErr result }
+        ensures added { OnOk result (self.new ≡ growing path.now bytes.now (called self.old)) }
+        ensures half { result ≡ Err FolderFault.Failed → self.new ≡ growing path.now (half bytes.now) (called self.old) }
+        ensures memory { result ≡ Err FolderFault.Memory → self.new ≡ called self.old }
+        ensures ok { OnOk result (Some self.new.contents ≡ adding path.now bytes.now (Some self.old.contents)) }
+        ensures err { OnErr result (ChangesOnly path.now (Some self.old.contents) (Some self.new.contents)) }
+        ensures counts { self.old.faults ≤ self.new.faults }
+        ensures failed { result ≡ Err FolderFault.Failed → Rose self.old.faults self.new.faults }
+    {
+        if self.call() {
+            self.grow(path, half_of(bytes))?;
+            return Err(FolderFault::Failed);
+        }
+        self.grow(path, bytes)?;
         Ok(())
     }
 }

@@ -1,4 +1,5 @@
-use Rattle.std.proofs.Common.{◌≡◌, ◌∙◌, ap, sym, ◌++◌, Some, rules}
+use Rattle.std.proofs.Common.{◌≡◌, ◌∙◌, ap, sym, ◌++◌, Some, None, IsSome, true, rules}
+use Rattle.std.specs.Prelude.{is_some}
 use Rattle.std.specs.FinMap as map
 use Rattle.desk_base.specs.Names.{Text}
 use Rattle.desk_folders.specs.Contents.{Contents, bytes_at, setting}
@@ -24,3 +25,12 @@ returns-clause-ok c =
     leaves es (c.get_mut.follows.lender c.append.new.self).entries _ _ _ c.args.path.now (Some c.append.new.self) _ now c.self.view_is
     ∙ ap (λ b. leaving c.args.path.now (Some b) c.args.self.now) grown
     ∙ ap (λ (m : InMemory). leaving c.args.path.now (Some (bytes_at m.contents c.args.path.now ++ c.args.bytes.now)) c.args.self.now) c.self.view_is
+
+pub unreachable-requires : goal.unreachable-requires
+unreachable-requires c =
+    let es = c.self.inside.files.entries in
+    let had : map.get (map.from_entries es) c.args.path.now ≡ None = get_text es c.args.path.now ∙ search rules in
+    let none : map.get c.args.self.now.contents c.args.path.now ≡ None = ap (λ (m : InMemory). map.get m.contents c.args.path.now) (sym c.self.view_is) ∙ had in
+    let there : IsSome (map.get c.args.self.now.contents c.args.path.now) = c.requires in
+    let no : is_some {T = Text} None ≡ true = rw none at there in
+    absurd (cc)
