@@ -1,17 +1,16 @@
 -- The relative paths below a root: what they are, and that they strictly rise.
-use Rattle.std.proofs.Common.{◌≡◌, ℕ, ◌+◌, ◌≤◌, List, [], ◌∷◌, ◌++◌, Some, None, Option, Bool, true, false, cond, refl, sym, ap, ◌∙◌, subst, append_assoc, nat_eq, take, drop, length, suc, zero, arith, IsTrue, map}
-use Rattle.std.specs.Prelude.{◌&&◌, ◌||◌, ◌==◌, ◌↔◌, option_and_then, All, Contains, if◌then◌else◌, is_some, IsSome}
-use Rattle.std.specs.List.{filter_map, cons_option, list_all, list_any, starts_with, AllByRecursion}
+use Rattle.std.proofs.Common.{◌≡◌, ℕ, List, [], ◌∷◌, ◌++◌, Some, None, Option, Bool, true, false, cond, refl, sym, ap, ◌∙◌, take, suc, zero, IsTrue, map}
+use Rattle.std.specs.Prelude.{◌&&◌, ◌==◌, option_and_then, if◌then◌else◌}
+use Rattle.std.specs.List.{filter_map, cons_option, list_all, AllByRecursion}
 use Rattle.std.specs.List.Sorted.{IsStrictlySortedBy}
-use Rattle.std.specs.Ordering.{nat_cmp, eq_by_cmp, ordering_then, is_lt}
+use Rattle.std.specs.Ordering.{nat_cmp, ordering_then, is_lt}
 use Rattle.std.specs.Cmp.Lexicographic.{slice_cmp}
-use Rattle.std.proofs.lemmas.Cmp.{nat_cmp_total, nat_list_cmp_total, tied_itself}
+use Rattle.std.proofs.lemmas.Cmp.{nat_cmp_total, tied_itself}
 use Rattle.std.proofs.lemmas.Bool.{eqb-true, eq-eqb}
 use Rattle.std.specs.declared.cmp.Ordering.{Ordering}
 use Rattle.std.specs.declared.cmp.Ordering.TheVariants.{Less, Equal, Greater}
 use Rattle.std.specs.Prelude.{T}
 use Rattle.std.specs.FinMap as fin
-use Rattle.std.specs.FinMap.{FinMap}
 use Rattle.std.specs.FinMap.Entries.{below_all, is_sorted}
 use Rattle.std.specs.Str.{bytes_eq}
 use Rattle.desk_base.specs.Names.{Text, slash}
@@ -53,6 +52,7 @@ below-is root t p e = at (behind (folder root) t) refl e where
   tested : (r : Text) (b : Bool) → is_relative_path r ≡ b → behind (folder root) t ≡ Some r → (if b then Some r else None) ≡ Some p → (t ≡ full root p) × (is_relative_path p ≡ true)
   tested r true is h s = let same = some_same r p s in (behind-is (folder root) t r h ∙ ap (λ x. folder root ++ x) same, ap is_relative_path (sym same) ∙ is)
   tested r false is h s = absurd (cc)
+
   at : (o : Option Text) → behind (folder root) t ≡ o → option_and_then relative o ≡ Some p → (t ≡ full root p) × (is_relative_path p ≡ true)
   at None is h = absurd (cc)
   at (Some r) is h = tested r (is_relative_path r) refl is h

@@ -1,16 +1,19 @@
 -- A map of entries by their texts, and what one change of a key leaves.
-use Rattle.std.proofs.Common.{rules, ◌≡◌, List, ℕ, [], ◌∷◌, Some, None, Option, refl, sym, ap, ◌∙◌, cond, Result, Ok, Err, OnErr, subst}
+use Rattle.std.proofs.Common.{rules, ◌≡◌, List, ℕ, [], ◌∷◌, Some, None, Option, refl, sym, ap, ◌∙◌, cond, Result, Ok, Err, OnErr, subst, ◌++◌, true, false}
 use Rattle.std.specs.Ordering.{nat_cmp, eq_by_cmp}
 use Rattle.std.specs.Cmp.{eq_by_cmp_equiv}
 use Rattle.std.specs.Cmp.Lexicographic.{slice_cmp}
 use Rattle.std.proofs.lemmas.Cmp.{nat_list_cmp_total}
+use Rattle.std.specs.Str.{bytes_eq}
+use Rattle.std.proofs.lemmas.Map.Text.{is_eq-slice_cmp}
 use Rattle.std.specs.BTreeMap.{is_at}
 use Rattle.std.specs.Map.{lookup}
-use Rattle.std.specs.FinMap.{FinMap, get, insert, remove, from_entries, find, gets, get_tied, get-from_entries, get-insert, get-remove}
+use Rattle.std.specs.FinMap.{get, insert, from_entries, find, gets, get_tied, get-from_entries, get-insert, get-remove}
 use Rattle.desk_base.specs.Names.{Text}
 use Rattle.desk_folders.specs.Contents.{Contents, ChangesOnly, setting}
 use Rattle.desk_folders.specs.ContentsLaws.{same_texts, ChangesOnly-refl}
-use Rattle.desk_folders.specs.InMemory.{InMemory, leaving, called}
+use Rattle.desk_folders.specs.InMemory.{InMemory, leaving, called, filled}
+use Rattle.desk_folders.specs.declared.folders.GenFile.{GenFile}
 
 -- what a map of entries has at a text
 abbrev pub entry_at : List (Text × Text) → Text → Option Text
@@ -56,3 +59,26 @@ ChangesOnly-called p m k n e is = subst (λ (x : InMemory). ChangesOnly p (Some 
 -- a call that leaves something at a path changes that path alone
 pub ChangesOnly-leaving : (p : Text) (left : Option Text) (m k n : InMemory) → n ≡ leaving p left k → k ≡ called m → ChangesOnly p (Some m.contents) (Some n.contents)
 ChangesOnly-leaving p left m k n e is = record { left = left; is = ap Some (ap (λ (x : InMemory). x.contents) (e ∙ ap (leaving p left) is)) }
+
+filled-append : (files : List GenFile) (file : GenFile) (m : Contents) → filled (files ++ file ∷ []) m ≡ insert (filled files m) file.path file.content
+filled-append [] file m = refl
+filled-append (f ∷ files) file m = filled-append files file (insert m f.path f.content)
+
+-- with one file more
+pub filled_more : (es fs : List (Text × Text)) (files : List GenFile) (file : GenFile) (m : Contents) → from_entries {R = slice_cmp nat_cmp} es ≡ filled files m
+    → ((q : Text) → entry_at fs q ≡ cond (is_at (slice_cmp nat_cmp file.path) q) (Some file.content) (entry_at es q)) → from_entries {R = slice_cmp nat_cmp} fs ≡ filled (files ++ file ∷ []) m
+filled_more es fs files file m made h =
+    one_left es fs file.path (Some file.content) h ∙ ap (λ (c : Contents). insert c file.path file.content) made ∙ sym (filled-append files file m)
+
+tested : (key path : Text) → is_at (slice_cmp nat_cmp path) key ≡ bytes_eq key path
+tested key path = (eq_by_cmp_equiv nat_list_cmp_total).symm path key ∙ is_eq-slice_cmp key path
+
+-- the first entry left is the one that was asked for
+pub entry_hit : (left rest : List (Text × Text)) (key content path : Text) → left ≡ (key, content) ∷ rest → bytes_eq key path ≡ true → Some content ≡ entry_at left path
+entry_hit left rest key content path e is =
+    sym (ap (λ es. entry_at es path) e ∙ ap (λ b. cond b (Some content) (entry_at rest path)) (tested key path ∙ is))
+
+-- it is not
+pub entry_missed : (left rest : List (Text × Text)) (key content path : Text) → left ≡ (key, content) ∷ rest → bytes_eq key path ≡ false → entry_at rest path ≡ entry_at left path
+entry_missed left rest key content path e is =
+    sym (ap (λ es. entry_at es path) e ∙ ap (λ b. cond b (Some content) (entry_at rest path)) (tested key path ∙ is))

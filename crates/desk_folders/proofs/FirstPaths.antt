@@ -1,5 +1,5 @@
 -- The listing of a folder, from the ordered entries of a map.
-use Rattle.std.proofs.Common.{Result, Ok, Err, OnOk, IfOk, ◌≡◌, ℕ, ◌+◌, ◌<◌, ◌≤◌, ◌⊎◌, inl, inr, List, [], ◌∷◌, ◌++◌, Some, None, Option, Bool, true, false, refl, sym, ap, ◌∙◌, cond, length, take, drop, arith, nat_eq, map, append-nil, length-append, append_assoc, Bor, subst, get_or, IsTrue}
+use Rattle.std.proofs.Common.{Result, Ok, Err, OnOk, IfOk, ◌≡◌, ℕ, ◌+◌, ◌<◌, ◌≤◌, inl, inr, List, [], ◌∷◌, ◌++◌, Some, None, Option, Bool, true, false, refl, sym, ap, ◌∙◌, cond, length, take, drop, arith, nat_eq, map, append-nil, length-append, append_assoc, Bor, subst, get_or, IsTrue}
 use Rattle.std.specs.Prelude.{◌&&◌, nat_le, All, Contains}
 use Rattle.std.specs.Ordering.{nat_cmp}
 use Rattle.std.specs.Cmp.Lexicographic.{slice_cmp}

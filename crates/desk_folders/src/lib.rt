@@ -5,7 +5,5 @@ mod folders;
 mod listing;
 mod memory;
 
-
 pub use folders::{FolderFault, Folders, GenFile};
 pub use memory::MemoryFolders;
-

@@ -7,6 +7,7 @@ ghost use Rattle.std.specs.List.Sorted.{IsStrictlySortedBy};
 ghost use Rattle.std.specs.Ordering.{nat_cmp};
 ghost use Rattle.std.specs.Cmp.Lexicographic.{slice_cmp};
 ghost use Rattle.std.specs.FinMap as fin;
+ghost use Rattle.std.specs.BTreeMap.{get};
 ghost use Rattle.desk_base.specs.Paths.{is_root, is_full_path, is_relative_path};
 ghost use Rattle.desk_folders.specs.Contents.{Rose, ChangesOnly, IsPart, IsListing, bytes_at, holding, adding, paths_below};
 ghost use Rattle.desk_folders.specs.InMemory.{called, fails, leaving, growing, half, filled};
@@ -40,7 +41,59 @@ impl Model for MemoryFolders {
     ghost view = { λ m. record { contents = map.from_entries m.files.entries; faults = m.faults; calls = m.calls; failing = m.failing.items } };
 }
 
+/// The files by their paths; of two with one path the later counts.
+fn map_of(alloc: Global, files: Vec<GenFile>) -> Result<BTreeMap<Text, Text>, Memory>
+    ensures { IfOk result (λ map. fin.from_entries map.entries ≡ filled files.items fin.empty) }
+{
+    let mut map = BTreeMap::new(alloc);
+    for file in files {
+        let GenFile { path, content } = file;
+        map.insert(path, content)?;
+    }
+    Ok(map)
+}
+
+/// The bytes at a path.
+fn content_of<'a>(files: &'a BTreeMap<Text, Text>, path: &[u8]) -> Option<&'a [u8]>
+    ensures { option_copied result ≡ get (slice_cmp nat_cmp) files.now path.now }
+{
+    for (key, content) in files.iter() {
+        if key.as_bytes() == path {
+            return Some(content.as_bytes());
+        }
+    }
+    None
+}
+
 impl MemoryFolders {
+    /// Folders with these files, of which the later counts where two have one path. The calls with the
+    /// numbers in `failing` fail, counted from 0 over all calls; the count of calls stands still at
+    /// 18,446,744,073,709,551,615. The only error is want of memory.
+    pub fn new(
+        alloc: Global,
+        files: Vec<GenFile>,
+        failing: Vec<u64>,
+    ) -> Result<MemoryFolders, Memory>
+        requires { IsTrue (list_all (λ file. is_full_path file.path) files.items) }
+        ensures { IfOk result (λ folders. folders ≡ record { contents = filled files.items fin.empty; faults = 0; calls = 0; failing = failing.items }) }
+    {
+        let files = map_of(alloc, files)?;
+        Ok(MemoryFolders {
+            files,
+            alloc,
+            faults: 0,
+            calls: 0,
+            failing,
+        })
+    }
+
+    /// The bytes of the file at a full path; none exactly where there is no such file. It takes no memory.
+    pub fn content(&self, path: &[u8]) -> Option<&[u8]>
+        ensures { option_copied result ≡ fin.get self.now.contents path.now }
+    {
+        content_of(&self.files, path)
+    }
+
     /// Counts a call, and answers whether it fails.
     fn call(&mut self) -> bool
         ensures result { result ≡ fails self.old }

@@ -1,4 +1,4 @@
-use Rattle.std.proofs.Common.{rules, ◌≡◌, ◌∙◌, ap, sym, Some, None, cond, take, drop, length, arith, ℕ, List, Option, ◌≤◌, ◌-◌, length-drop}
+use Rattle.std.proofs.Common.{◌∙◌, ap, sym, Some, None, cond, drop, length, arith, ℕ, List, ◌≤◌, ◌-◌, length-drop}
 use Rattle.desk_folders.proofs.FirstPaths.{behind_starts, taken_whole}
 use Rattle.desk_folders.proofs.listing.behind_front.Goals as goal
 

@@ -1,4 +1,4 @@
-use Rattle.std.proofs.Common.{rules, ◌≡◌, ◌+◌, map, ℕ, List, Bor, arith, ◌∙◌, ap, sym, take}
+use Rattle.std.proofs.Common.{rules, ◌+◌, map, ◌∙◌, ap, take}
 use Rattle.desk_folders.proofs.FirstPaths.{one_path_more, no_path_more, no_room_more, over_more, key_of, keys_left, yielded_more, all_yielded}
 use Rattle.std.specs.List.{filter_map}
 use Rattle.desk_folders.specs.Contents.{below}

@@ -1,4 +1,4 @@
-use Rattle.std.proofs.Common.{◌≡◌, ◌+◌, ◌++◌, take, map, ℕ, List, Bor}
+use Rattle.std.proofs.Common.{◌≡◌, ◌+◌, ◌++◌, take, map}
 use Rattle.std.specs.List.{filter_map}
 use Rattle.desk_folders.specs.Contents.{below}
 use Rattle.desk_folders.proofs.FirstPaths.{key_of, keys_left}

@@ -3,7 +3,7 @@ use Rattle.std.specs.Prelude.{is_some}
 use Rattle.std.specs.FinMap as map
 use Rattle.desk_base.specs.Names.{Text}
 use Rattle.desk_folders.specs.Contents.{Contents, bytes_at, setting}
-use Rattle.desk_folders.specs.InMemory.{InMemory, leaving, growing}
+use Rattle.desk_folders.specs.InMemory.{InMemory, leaving}
 use Rattle.desk_folders.proofs.Entries.{one_left, get_text, setting-same, leaves, on_err}
 use Rattle.desk_folders.proofs.memory.MemoryFolders.grow.Goals as goal
 
@@ -13,7 +13,7 @@ returns-in_err-append-clause-err c =
     let had : map.get (map.from_entries es) c.args.path.now ≡ Some c.in-Some.content.now = get_text es c.args.path.now ∙ search rules in
     let now = one_left es (c.get_mut.follows.lender c.append.new.self).entries c.args.path.now (Some c.append.new.self) ((c.get_mut.follows.holds c.append.new.self).3 (search rules)).0 in
     let same : setting c.args.path.now (Some c.append.new.self) (map.from_entries es) ≡ map.from_entries es =
-      ap (λ x. setting c.args.path.now (Some x) (map.from_entries es)) c.in_err-append.ensures.err ∙ setting-same _ _ _ had in
+    ap (λ x. setting c.args.path.now (Some x) (map.from_entries es)) c.in_err-append.ensures.err ∙ setting-same _ _ _ had in
     on_err _ (ap (λ (m : Contents). record { contents = m; faults = c.self.inside.faults; calls = c.self.inside.calls; failing = c.self.inside.failing.items }) (now ∙ same) ∙ c.self.view_is)
 
 pub returns-clause-ok : goal.returns-clause-ok

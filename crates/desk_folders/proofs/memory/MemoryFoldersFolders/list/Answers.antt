@@ -1,4 +1,4 @@
-use Rattle.std.proofs.Common.{◌≡◌, ◌∙◌, ◌+◌, ap, take}
+use Rattle.std.proofs.Common.{◌∙◌, ◌+◌, ap, take}
 use Rattle.desk_folders.specs.Contents.{paths_below}
 use Rattle.desk_folders.specs.InMemory.{InMemory}
 use Rattle.desk_folders.proofs.FirstPaths.{listed_paths, listed_rise, listed_relative}
