@@ -4,13 +4,14 @@ use Rattle.desk_base.specs.Names.{Text}
 use Rattle.desk_base.specs.Shown.{shown}
 use Rattle.hex.specs.Hex.{encode_lower}
 use Rattle.desk_ledger.specs.declared.keeper.Header.{Header}
+use Rattle.desk_rules.specs.declared.RuleFault.TheVariants.{PlainLine}
 use Rattle.desk_report.specs.declared.lines.Detail.{Detail}
 use Rattle.desk_report.specs.declared.lines.Detail.TheVariants.{Service, Copy}
 use Rattle.desk_report.specs.declared.lines.Line.{Line}
 use Rattle.desk_report.specs.declared.lines.Line.TheVariants.{Written, Kept}
 use Rattle.desk_report.specs.declared.lines.Summary.{Summary}
 use Rattle.desk_report.specs.declared.status.Status.{Status}
-use Rattle.desk_report.specs.declared.status.Status.TheVariants.{Done, Memory, FolderFault, LedgerFault, OutputFault, Usage, NestedRoots, OtherRun, NotBuilt}
+use Rattle.desk_report.specs.declared.status.Status.TheVariants.{Done, Memory, FolderFault, LedgerFault, OutputFault, Usage, NestedRoots, BadRules, OtherRun, NotBuilt}
 
 -- pieces, one behind the other
 abbrev pub joined : List Text → Text
@@ -53,6 +54,7 @@ fault_pieces (LedgerFault done) = codes "migrate: 12 ledger fault done=" ∷ dec
 fault_pieces OutputFault = codes "migrate: 13 output fault\n" ∷ []
 fault_pieces Usage = codes "migrate: 20 usage: migrate run --rules R --from A --to B --ledger L\n" ∷ []
 fault_pieces (NestedRoots first second) = codes "migrate: 21 nested roots " ∷ shown first ∷ codes " " ∷ shown second ∷ codes "\n" ∷ []
+fault_pieces (BadRules PlainLine) = codes "migrate: 22 plain line\n" ∷ []
 fault_pieces (OtherRun kept wanted) = codes "migrate: 27 other run kept " ∷ header_pieces kept (codes " wanted ") ++ header_pieces wanted (codes "\n")
 fault_pieces (NotBuilt path) = codes "migrate: 30 not built " ∷ shown path ∷ codes "\n" ∷ []
 
@@ -69,5 +71,6 @@ code_of (LedgerFault done) = 12
 code_of OutputFault = 13
 code_of Usage = 20
 code_of (NestedRoots first second) = 21
+code_of (BadRules fault) = 22
 code_of (OtherRun kept wanted) = 27
 code_of (NotBuilt path) = 30

@@ -11,6 +11,7 @@ use crate::pieces::{Piece, write_pieces};
 use crate::{Sink, SinkFault};
 use desk_base::Text;
 use desk_ledger::Header;
+use desk_rules::RuleFault;
 
 /// How a run ended. `done` counts the files, in the order of their paths, before the one at which a call
 /// failed.
@@ -30,6 +31,8 @@ pub enum Status {
     Usage,
     /// One of these roots lies in the other.
     NestedRoots { first: Text, second: Text },
+    /// The rule files make no rule set.
+    BadRules(RuleFault),
     /// The ledger belongs to another run.
     OtherRun { kept: Header, wanted: Header },
     /// The file, or the root, is of a form that isn't built.
@@ -49,6 +52,7 @@ impl Status {
             Status::OutputFault => 13,
             Status::Usage => 20,
             Status::NestedRoots { .. } => 21,
+            Status::BadRules(_) => 22,
             Status::OtherRun { .. } => 27,
             Status::NotBuilt { .. } => 30,
         }
@@ -88,6 +92,7 @@ pub fn write_fault<O: Sink>(status: &Status, out: &mut O) -> Result<(), SinkFaul
             second,
             out,
         ),
+        Status::BadRules(RuleFault::PlainLine) => write_plain(b"migrate: 22 plain line\n", out),
         Status::OtherRun { kept, wanted } => write_other_run(kept, wanted, out),
         Status::NotBuilt { path } => write_named(b"migrate: 30 not built ", path, out),
     }

@@ -1,0 +1,13 @@
+pub mod Same
+pub mod Picks
+pub mod Twice
+pub mod Cuts
+pub mod Bytes
+pub mod Forms
+pub mod KeyLaws
+pub mod Entries
+pub mod Spelled
+pub mod OneRule
+pub mod Laws
+pub mod DotCuts
+pub mod Built

@@ -1,0 +1,9 @@
+pub mod Renames
+pub mod Rules
+pub mod Settled
+pub mod Images
+pub mod RuleSets
+pub mod Keys
+pub mod Files
+pub mod RuleFiles
+pub mod Builds

@@ -1,0 +1,189 @@
+-- What roots of words are: their segments are names, and what is written of them are roots and full paths.
+use Rattle.std.proofs.Common.{◌≡◌, ◌≢◌, ℕ, Bool, true, false, List, [], ◌∷◌, ◌++◌, length, Option, Some, None, refl, sym, ap, ◌∙◌, subst, arith, append_assoc, cond, IsTrue}
+use Rattle.std.specs.Prelude.{not, ◌&&◌, ◌||◌, ◌==◌, filter, Result, Ok, Err, if◌then◌else◌}
+use Rattle.std.specs.List.{All, list_all, list_any, slice_split, onto_first}
+use Rattle.std.specs.Str.{bytes_eq}
+use Rattle.std.proofs.lemmas.Bool.{and_parts, and_from, not-true, eq-eqb}
+use Rattle.std.proofs.lemmas.List.Elements.{All-nil, All-cons}
+use Rattle.std.proofs.lemmas.List.Splits.{slice_split_none, slice_split_at, join_with_byte-slice_split}
+use Rattle.desk_base.specs.Names.{Text, slash, is_empty, is_whole, written}
+use Rattle.desk_base.specs.Paths.{here, top, is_segment, is_relative_path, is_full_path, is_root, written_root, folder, full}
+use Rattle.desk_run.specs.declared.roots.Root.{Root}
+use Rattle.desk_run.specs.declared.words.Task.{Task}
+use Rattle.desk_run.specs.declared.words.Task.TheVariants.{Run}
+use Rattle.desk_run.specs.Words.{parts, is_upward, is_dropped, named_parts, is_value, is_absolute, root_of, written as written_of, run_of_roots, task_of, are_options}
+use Rattle.desk_run.specs.declared.roots.Roots.{Roots}
+use Rattle.desk_run.specs.Words.{overlap, first_nested}
+use Rattle.desk_run.specs.Meaning.{roots_apart, roots_of_task, roots_of_words}
+use Rattle.desk_run.specs.Runs.{RootsApart}
+use Rattle.desk_run.proofs.Apart.{is_named, before, full_relative, full_absolute, roots_apart as apart_roots}
+
+split_whole : (t : Text) → list_all (is_whole slash) (parts t) ≡ true
+split_whole [] = refl
+split_whole (b ∷ t) = by (b == slash) refl (split_whole t) where
+  onto : (ps : List Text) → (b == slash) ≡ false → list_all (is_whole slash) ps ≡ true → list_all (is_whole slash) (onto_first b ps) ≡ true
+  onto [] e h = ap (λ x. not x && true && true) e
+  onto (p ∷ ps) e h = and_from _ _ (and_from _ _ (ap not e) (and_parts _ _ h).0) (and_parts _ _ h).1
+
+  by : (x : Bool) → (b == slash) ≡ x → list_all (is_whole slash) (parts t) ≡ true → list_all (is_whole slash) (cond (b == slash) ([] ∷ parts t) (onto_first b (parts t))) ≡ true
+  by true e h = ap (λ x. list_all (is_whole slash) (cond x ([] ∷ parts t) (onto_first b (parts t)))) e ∙ h
+  by false e h = ap (λ x. list_all (is_whole slash) (cond x ([] ∷ parts t) (onto_first b (parts t)))) e ∙ onto (parts t) e h
+
+neither : (a b : Bool) → a || b ≡ false → (a ≡ false) × (b ≡ false)
+neither true b e = cc
+neither false b e = (refl, e)
+
+segment_of : (s : Text) → is_dropped s ≡ false → is_upward s ≡ false → is_whole slash s ≡ true → is_named s ≡ true
+segment_of s d u w =
+    let n = neither (is_empty s) (bytes_eq s here) d in
+    and_from _ _ (and_from _ _ (ap not n.0) (and_from _ _ (ap not n.1) (ap not u))) w
+
+named_left : (ps : List Text) → list_all (is_whole slash) ps ≡ true → list_any is_upward ps ≡ false → list_all is_named (filter (λ part. not (is_dropped part)) ps) ≡ true
+named_left [] w u = refl
+named_left (s ∷ ss) w u = by (named_left ss (and_parts _ _ w).1 (neither (is_upward s) (list_any is_upward ss) u).1) (is_dropped s) refl where
+  up : (is_upward s ≡ false) × (list_any is_upward ss ≡ false)
+  up = neither (is_upward s) (list_any is_upward ss) u
+
+  by : list_all is_named (filter (λ part. not (is_dropped part)) ss) ≡ true → (x : Bool) → is_dropped s ≡ x → list_all is_named (filter (λ part. not (is_dropped part)) (s ∷ ss)) ≡ true
+  by rest true e = ap (λ x. list_all is_named (cond (not x) (s ∷ filter (λ part. not (is_dropped part)) ss) (filter (λ part. not (is_dropped part)) ss))) e ∙ rest
+  by rest false e = ap (λ x. list_all is_named (cond (not x) (s ∷ filter (λ part. not (is_dropped part)) ss) (filter (λ part. not (is_dropped part)) ss))) e
+      ∙ and_from _ _ (segment_of s e up.0 (and_parts _ _ w).0) rest
+
+-- the segments of a root that a value names
+pub root_named : (text : Text) (root : Root) → root_of text ≡ Some root → list_all is_named root.segments ≡ true
+root_named text root e = by (is_value text && not (list_any is_upward (parts text))) refl e where
+  by : (x : Bool) → is_value text && not (list_any is_upward (parts text)) ≡ x → (if x then Some (record { absolute = is_absolute text; segments = named_parts text }) else None) ≡ Some root → list_all is_named root.segments ≡ true
+  by false f g = cc
+  by true f g =
+      let h : record { absolute = is_absolute text; segments = named_parts text } ≡ root = cc in
+      ap (λ (r : Root). list_all is_named r.segments) (sym h) ∙ named_left (parts text) (split_whole text) (not-true _ (and_parts _ _ f).1)
+
+or_yes : (a b : Bool) → a ≡ true → a || b ≡ true
+or_yes true b e = refl
+or_yes false b e = cc
+
+or_there : (a b : Bool) → b ≡ true → a || b ≡ true
+or_there true b e = refl
+or_there false b e = e
+
+none_is : (t : Text) → is_whole slash t ≡ true → All (λ b. (b == slash) ≡ false) t
+none_is [] h = All-nil (λ b. (b == slash) ≡ false)
+none_is (b ∷ t) h = All-cons (λ b. (b == slash) ≡ false) b t (not-true _ (and_parts _ _ h).0) (none_is t (and_parts _ _ h).1)
+
+relative_more : (s t : Text) → is_named s ≡ true → is_relative_path t ≡ true → is_relative_path (s ++ (slash ∷ t)) ≡ true
+relative_more s t e f =
+    let named = and_parts (is_segment s) (is_whole slash s) e in
+    ap (list_all is_segment) (slice_split_at (λ b. b == slash) s slash t (none_is s named.1) (eq-eqb slash slash refl)) ∙ and_from _ _ named.0 f
+
+relative_one : (s : Text) → is_named s ≡ true → is_relative_path s ≡ true
+relative_one s e =
+    let named = and_parts (is_segment s) (is_whole slash s) e in
+    ap (list_all is_segment) (slice_split_none (λ b. b == slash) s (none_is s named.1)) ∙ and_from _ _ named.0 refl
+
+relative_before : (ss : List Text) (p : Text) → list_all is_named ss ≡ true → is_relative_path p ≡ true → is_relative_path (before ss p) ≡ true
+relative_before [] p e f = f
+relative_before (s ∷ ss) p e f = relative_more s (before ss p) (and_parts _ _ e).0 (relative_before ss p (and_parts _ _ e).1 f)
+
+relative_written : (s : Text) (ss : List Text) → list_all is_named (s ∷ ss) ≡ true → is_relative_path (written slash (s ∷ ss)) ≡ true
+relative_written s [] e = relative_one s (and_parts _ _ e).0
+relative_written s (t ∷ ss) e = relative_more s (written slash (t ∷ ss)) (and_parts _ _ e).0 (relative_written t ss (and_parts _ _ e).1)
+
+relative_full : (t : Text) → is_relative_path t ≡ true → is_full_path t ≡ true
+relative_full [] e = cc
+relative_full (b ∷ t) e = or_yes _ _ e
+
+absolute_full : (t : Text) → is_relative_path t ≡ true → is_full_path (slash ∷ t) ≡ true
+absolute_full t e = or_there (is_relative_path (slash ∷ t)) (is_relative_path t) e
+
+root_by : (a : Bool) (ss : List Text) → list_all is_named ss ≡ true → is_root (written_root a ss) ≡ true
+root_by true [] e = refl
+root_by false [] e = refl
+root_by true (s ∷ ss) e = or_there (bytes_eq (slash ∷ written slash (s ∷ ss)) here) _ (or_there (bytes_eq (slash ∷ written slash (s ∷ ss)) top) _ (absolute_full (written slash (s ∷ ss)) (relative_written s ss e)))
+root_by false (s ∷ ss) e = or_there (bytes_eq (written slash (s ∷ ss)) here) _ (or_there (bytes_eq (written slash (s ∷ ss)) top) _ (relative_full (written slash (s ∷ ss)) (relative_written s ss e)))
+
+-- what is written of a root is a root
+pub written_is_root : (x : Root) → list_all is_named x.segments ≡ true → is_root (written_of x) ≡ true
+written_is_root x e = root_by x.absolute x.segments e
+
+path_by : (a : Bool) (ss : List Text) (p : Text) → list_all is_named ss ≡ true → is_relative_path p ≡ true → is_full_path (full (written_root a ss) p) ≡ true
+path_by true ss p e f = ap is_full_path (full_absolute ss p e) ∙ absolute_full (before ss p) (relative_before ss p e f)
+path_by false ss p e f = ap is_full_path (full_relative ss p e) ∙ relative_full (before ss p) (relative_before ss p e f)
+
+-- a relative path below a root is a full path
+pub full_is_path : (x : Root) (p : Text) → list_all is_named x.segments ≡ true → is_relative_path p ≡ true → is_full_path (full (written_of x) p) ≡ true
+full_is_path x p e f = path_by x.absolute x.segments p e f
+
+-- roots of a task, whose segments are names
+pub record AreNamed (task : Task) : Type 0 where
+  pub rules : Root
+  pub from : Root
+  pub to : Root
+  pub ledger : Root
+  pub is : task ≡ Run rules from to ledger 1
+  pub rules_named : list_all is_named rules.segments ≡ true
+  pub from_named : list_all is_named from.segments ≡ true
+  pub to_named : list_all is_named to.segments ≡ true
+
+named_by : (r a b l : Text) (or oa ob ol : Option Root) (task : Task) → root_of r ≡ or → root_of a ≡ oa → root_of b ≡ ob → root_of l ≡ ol → run_of_roots or oa ob ol ≡ Some task → AreNamed task
+named_by r a b l (Some rules) (Some from) (Some to) (Some ledger) task er ea eb el e = record {
+  rules = rules;
+  from = from;
+  to = to;
+  ledger = ledger;
+  is = let h : Run rules from to ledger 1 ≡ task = cc in sym h;
+  rules_named = root_named r rules er;
+  from_named = root_named a from ea;
+  to_named = root_named b to eb;
+}
+named_by r a b l None oa ob ol task er ea eb el e = cc
+named_by r a b l (Some rules) None ob ol task er ea eb el e = cc
+named_by r a b l (Some rules) (Some from) None ol task er ea eb el e = cc
+named_by r a b l (Some rules) (Some from) (Some to) None task er ea eb el e = cc
+
+-- the task of words has such roots
+pub task_named : (words : List Text) (task : Task) → task_of words ≡ Some task → AreNamed task
+task_named (run ∷ rules ∷ r ∷ from ∷ a ∷ to ∷ b ∷ ledger ∷ l ∷ []) task e = by (are_options run rules from to ledger) e where
+  by : (x : Bool) → (if x then run_of_roots (root_of r) (root_of a) (root_of b) (root_of l) else None) ≡ Some task → AreNamed task
+  by true f = named_by r a b l (root_of r) (root_of a) (root_of b) (root_of l) task refl refl refl refl f
+  by false f = cc
+task_named (a ∷ b ∷ c ∷ d ∷ e ∷ f ∷ g ∷ h ∷ i ∷ j ∷ ws) task eq = cc
+task_named (a ∷ b ∷ c ∷ d ∷ e ∷ f ∷ g ∷ h ∷ []) task eq = cc
+task_named (a ∷ b ∷ c ∷ d ∷ e ∷ f ∷ g ∷ []) task eq = cc
+task_named (a ∷ b ∷ c ∷ d ∷ e ∷ f ∷ []) task eq = cc
+task_named (a ∷ b ∷ c ∷ d ∷ e ∷ []) task eq = cc
+task_named (a ∷ b ∷ c ∷ d ∷ []) task eq = cc
+task_named (a ∷ b ∷ c ∷ []) task eq = cc
+task_named (a ∷ b ∷ []) task eq = cc
+task_named (a ∷ []) task eq = cc
+task_named [] task eq = cc
+
+-- what is known of the roots of words
+pub record AreRoots (roots : Roots) : Type 0 where
+  pub rules_is_root : is_root roots.rules ≡ true
+  pub from_is_root : is_root roots.from ≡ true
+  pub below_to : (p : Text) → is_relative_path p ≡ true → is_full_path (full roots.to p) ≡ true
+  pub apart : RootsApart roots.from roots.to
+
+if_some_no : {X : Type 0} (b : Bool) (x : X) (o : Option X) → (if b then Some x else o) ≡ None → (b ≡ false) × (o ≡ None)
+if_some_no true x o e = cc
+if_some_no false x o e = (refl, e)
+
+roots_by : (rules from to ledger : Root) (roots : Roots) (o : Option (Root × Root)) → first_nested rules from to ledger ≡ o → list_all is_named rules.segments ≡ true → list_all is_named from.segments ≡ true
+    → list_all is_named to.segments ≡ true → roots_apart rules from to ledger o ≡ Ok roots → AreRoots roots
+roots_by rules from to ledger roots (Some pair) n fr ff ft e = cc
+roots_by rules from to ledger roots None n fr ff ft e =
+    let is : record { rules = written_of rules; from = written_of from; to = written_of to; ledger = written_of ledger } ≡ roots = cc in
+    subst AreRoots is (record {
+      rules_is_root = written_is_root rules fr;
+      from_is_root = written_is_root from ff;
+      below_to = λ p rel. full_is_path to p ft rel;
+      apart = apart_roots from to ff ft (if_some_no (overlap from to) _ _ n).0;
+    })
+
+pub roots_of_words_are : (words : List Text) (roots : Roots) → roots_of_words words ≡ Ok roots → AreRoots roots
+roots_of_words_are words roots e = by (task_of words) refl e where
+  by : (o : Option Task) → task_of words ≡ o → roots_of_task o ≡ Ok roots → AreRoots roots
+  by None f g = cc
+  by (Some task) f g =
+      let n = task_named words task f in
+      roots_by n.rules n.from n.to n.ledger roots (first_nested n.rules n.from n.to n.ledger) refl n.rules_named n.from_named n.to_named (ap (λ (t : Task). roots_of_task (Some t)) (sym n.is) ∙ g)

@@ -1,0 +1,182 @@
+-- How a run ends.
+use Rattle.std.specs.Prelude.{◌≡◌, ◌⊎◌, ℕ, ◌≤◌, ◌++◌, List, [], length, Option, Some, None, Bool, true, false, Result, Ok, Err, IfSome, option_map}
+use Rattle.desk_base.specs.Names.{Text}
+use Rattle.desk_folders.specs.Contents.{Contents, File, Rose, files_below}
+use Rattle.desk_ledger.specs.declared.keeper.Header.{Header}
+use Rattle.desk_ledger.specs.Ledger.{Ledger, with_header}
+use Rattle.desk_report.specs.declared.status.Status.{Status}
+use Rattle.desk_report.specs.declared.status.Status.TheVariants.{Done, Memory, FolderFault, LedgerFault, OutputFault, Usage, NestedRoots, BadRules, OtherRun, NotBuilt}
+use Rattle.desk_report.specs.Written.{WritesFront, writing}
+use Rattle.desk_run.specs.declared.planning.Work.{Work}
+use Rattle.desk_run.specs.declared.roots.Roots.{Roots}
+use Rattle.desk_run.specs.declared.stops.Halt.{Halt}
+use Rattle.desk_run.specs.declared.stops.Halt.TheVariants as halt
+use Rattle.desk_run.specs.Runs.{Run, TargetsApart}
+use Rattle.desk_run.specs.Works.{works_of, files_after, ledger_after}
+use Rattle.desk_run.specs.Truth.{IsOurs}
+use Rattle.desk_run.specs.Stops.{StoppedAt}
+use Rattle.desk_run.specs.Stands.{Unchanged, Between, Within}
+use Rattle.desk_run.specs.Meaning.{roots_of_words, run_of_words}
+use Rattle.desk_run.specs.Answers.{files_answer, other_run, first_answer}
+
+-- where folders and keeper tell their contents
+abbrev pub WhereTold : Option Contents → Option Ledger → (Contents → Ledger → Type 0) → Type 0
+WhereTold f k P = (m : Contents) (l : Ledger) → f ≡ Some m → k ≡ Some l → P m l
+
+-- they tell these
+pub record Tells (f : Option Contents) (k : Option Ledger) (P : Contents → Ledger → Type 0) : Type 0 where
+  pub m : Contents
+  pub l : Ledger
+  pub folders : f ≡ Some m
+  pub ledger : k ≡ Some l
+  pub holds : P m l
+
+-- a run whose words and rules are read and whose files stand against nothing
+pub record IsReady (words : List Text) (m : Contents) (run : Run) : Type 0 where
+  pub is : run_of_words words m ≡ Ok run
+  pub built : files_answer run m ≡ None
+  pub apart : TargetsApart run m
+
+-- the works are planned, and nothing stands against the run
+pub record Planned (words : List Text) (m : Contents) (l : Ledger) (to : Text) (header : Header) (works : List Work) : Type 0 where
+  pub run : Run
+  pub ready : IsReady words m run
+  pub to_is : to ≡ run.to
+  pub header_is : header ≡ run.header
+  pub other : other_run run.header l.header ≡ None
+  pub ours : IsOurs run.header l.header
+  pub are : works ≡ works_of run l.rows (files_below run.from m)
+
+-- the header is this run's now
+pub record SetsHeader (words : List Text) (f : Option Contents) (k k' : Option Ledger) : Type 0 where
+  pub header : Header
+  pub ledger : k' ≡ option_map (with_header header) k
+  pub ours : IfSome k (λ l. IsOurs header l.header)
+  pub whose : IfSome f (λ m. (run : Run) × IsReady words m run × (header ≡ run.header))
+
+-- the ledger is as before, or has this run's header
+abbrev pub LedgerEarly : List Text → Option Contents → Option Ledger → Option Ledger → Type 0
+LedgerEarly words f k k' = (k' ≡ k) ⊎ SetsHeader words f k k'
+
+-- what the causes of a status are, where nothing is told
+abbrev pub WordsCause : List Text → Status → Type 0
+WordsCause words Usage = roots_of_words words ≡ Err Usage
+WordsCause words (NestedRoots first second) = roots_of_words words ≡ Err (NestedRoots first second)
+WordsCause words _ = Unit {0}
+
+-- a status with which words, folders or ledger stand against a run
+abbrev pub is_answer : Status → Bool
+is_answer Usage = true
+is_answer (NestedRoots first second) = true
+is_answer (BadRules fault) = true
+is_answer (OtherRun kept wanted) = true
+is_answer (NotBuilt path) = true
+is_answer _ = false
+
+-- it is the first answer
+pub record IsAnswer (words : List Text) (f : Option Contents) (k : Option Ledger) (status : Status) : Type 0 where
+  pub is : is_answer status ≡ true
+  pub cause : WordsCause words status
+  pub first : WhereTold f k (λ m l. first_answer words m l ≡ status)
+
+-- before the first file is written, a run may halt so
+abbrev pub HaltsEarly : List Text → Option Contents → Option Ledger → Option Ledger → ℕ → ℕ → ℕ → ℕ → Halt → Type 0
+HaltsEarly words f k k' f1 f2 k1 k2 halt.Memory = LedgerEarly words f k k'
+HaltsEarly words f k k' f1 f2 k1 k2 halt.Folders = (k' ≡ k) × Rose f1 f2
+HaltsEarly words f k k' f1 f2 k1 k2 halt.Ledger = LedgerEarly words f k k' × Rose k1 k2
+HaltsEarly words f k k' f1 f2 k1 k2 (halt.Answer status) = (k' ≡ k) × IsAnswer words f k status
+
+pub record AllWritten (to : Text) (works : List Work) (f f' : Option Contents) (k k' : Option Ledger) : Type 0 where
+  pub folders : f' ≡ option_map (files_after to works) f
+  pub ledger : k' ≡ option_map (ledger_after works) k
+
+pub record SomeWritten (to : Text) (works : List Work) (f f' : Option Contents) (k k' : Option Ledger) : Type 0 where
+  pub done : ℕ
+  pub stopped : StoppedAt to works done f f' k k'
+
+-- what the writing leaves
+abbrev pub Finishes : Text → List Work → Option Contents → Option Contents → Option Ledger → Option Ledger → Status → Type 0
+Finishes to works f f' k k' Done = AllWritten to works f f' k k'
+Finishes to works f f' k k' OutputFault = AllWritten to works f f' k k'
+Finishes to works f f' k k' Memory = SomeWritten to works f f' k k'
+Finishes to works f f' k k' (FolderFault done) = StoppedAt to works done f f' k k'
+Finishes to works f f' k k' (LedgerFault done) = StoppedAt to works done f f' k k'
+Finishes to works f f' k k' _ = ⊥
+
+-- what was written of a report
+abbrev pub Reported : Text → Option Text → Option Text → Status → Type 0
+Reported text o o' Done = o' ≡ writing text o
+Reported text o o' OutputFault = WritesFront text o o'
+Reported text o o' _ = o' ≡ o
+
+-- a status has its cause
+abbrev pub HasCauses : List Text → Status → ℕ → ℕ → ℕ → ℕ → ℕ → ℕ → Type 0
+HasCauses words (FolderFault done) f f' k k' o o' = Rose f f'
+HasCauses words (LedgerFault done) f f' k k' o o' = Rose k k'
+HasCauses words OutputFault f f' k k' o o' = Rose o o'
+HasCauses words status f f' k k' o o' = WordsCause words status
+
+-- a run has begun to write, and stands here
+pub record HasBegun (words : List Text) (m0 : Contents) (l0 : Ledger) (m : Contents) (l : Ledger) (done : ℕ) : Type 0 where
+  pub run : Run
+  pub is : run_of_words words m0 ≡ Ok run
+  pub stands : Between run m0 l0 m l done ⊎ Within run m0 l0 m l done
+
+abbrev pub StandsAt : List Text → Contents → Ledger → Contents → Ledger → ℕ → Type 0
+StandsAt words m0 l0 m l done = Unchanged m0 l0 m l done ⊎ HasBegun words m0 l0 m l done
+
+pub record StandsSomewhere (words : List Text) (m0 : Contents) (l0 : Ledger) (m : Contents) (l : Ledger) : Type 0 where
+  pub done : ℕ
+  pub stands : StandsAt words m0 l0 m l done
+
+-- all files of the run are done
+pub record IsDone (words : List Text) (m0 : Contents) (l0 : Ledger) (m : Contents) (l : Ledger) : Type 0 where
+  pub run : Run
+  pub is : run_of_words words m0 ≡ Ok run
+  pub stands : Between run m0 l0 m l (length (files_below run.from m0))
+
+-- where a run stands at its end
+abbrev pub StandsAfter : List Text → Contents → Ledger → Contents → Ledger → Status → Type 0
+StandsAfter words m0 l0 m l Done = IsDone words m0 l0 m l
+StandsAfter words m0 l0 m l OutputFault = IsDone words m0 l0 m l
+StandsAfter words m0 l0 m l Memory = StandsSomewhere words m0 l0 m l
+StandsAfter words m0 l0 m l (FolderFault done) = StandsAt words m0 l0 m l done
+StandsAfter words m0 l0 m l (LedgerFault done) = StandsAt words m0 l0 m l done
+StandsAfter words m0 l0 m l _ = Unchanged m0 l0 m l 0
+
+-- a status that is no fault of the outside and no want of memory
+abbrev pub is_final : Status → Bool
+is_final Memory = false
+is_final (FolderFault done) = false
+is_final (LedgerFault done) = false
+is_final OutputFault = false
+is_final _ = true
+
+-- a status that the report ends with
+abbrev pub IsTold : Status → Type 0
+IsTold Done = Unit {0}
+IsTold OutputFault = Unit {0}
+IsTold _ = ⊥
+
+-- the name that is attached in the end, of a ledger of this name
+abbrev pub NamedBy : Option Text → Option Text → Text → Status → Type 0
+NamedBy old new name Done = new ≡ Some name
+NamedBy old new name OutputFault = new ≡ Some name
+NamedBy old new name (OtherRun kept wanted) = new ≡ Some name
+NamedBy old new name Memory = (new ≡ old) ⊎ (new ≡ Some name)
+NamedBy old new name (FolderFault done) = (new ≡ old) ⊎ (new ≡ Some name)
+NamedBy old new name (LedgerFault done) = (new ≡ old) ⊎ (new ≡ Some name)
+NamedBy old new name _ = new ≡ old
+
+abbrev pub NamedByRoots : Option Text → Option Text → Status → Result Roots Status → Type 0
+NamedByRoots old new status (Ok roots) = NamedBy old new roots.ledger status
+NamedByRoots old new status (Err fault) = new ≡ old
+
+abbrev pub Named : List Text → Option Text → Option Text → Status → Type 0
+Named words old new status = NamedByRoots old new status (roots_of_words words)
+
+-- the ledger of these words is attached
+pub record IsAttached (words : List Text) (name : Option Text) : Type 0 where
+  pub roots : Roots
+  pub are : roots_of_words words ≡ Ok roots
+  pub is : name ≡ Some roots.ledger

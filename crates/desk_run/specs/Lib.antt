@@ -1,0 +1,13 @@
+pub mod Words
+pub mod Runs
+pub mod Works
+pub mod Truth
+pub mod Stands
+pub mod Stops
+pub mod Reports
+pub mod Images
+pub mod Meaning
+pub mod Answers
+pub mod Halts
+pub mod Endings
+pub mod Clauses

@@ -1,0 +1,88 @@
+-- What words and folders mean: a run, or the answer that stands before it.
+use Rattle.std.specs.Prelude.{ℕ, Bool, not, ◌||◌, ◌++◌, nat_lt, List, [], ◌∷◌, length, Option, Some, None, Result, Ok, Err, if◌then◌else◌}
+use Rattle.std.specs.List.{list_any, flat_map}
+use Rattle.std.specs.Int.{w32, w64, to_be_bytes}
+use Rattle.std.specs.Str.{bytes_eq}
+use Rattle.std.specs.FinMap as fin
+use Rattle.desk_base.specs.Names.{Text}
+use Rattle.desk_folders.specs.Contents.{Contents, File, files_below}
+use Rattle.desk_ledger.specs.declared.digest.Digest.{Digest}
+use Rattle.desk_ledger.specs.Digests.{digest}
+use Rattle.desk_report.specs.declared.status.Status.{Status}
+use Rattle.desk_report.specs.declared.status.Status.TheVariants.{Usage, NestedRoots, NotBuilt, BadRules}
+use Rattle.desk_rules.specs.Files.{Files, renames_name}
+use Rattle.desk_rules.specs.Rules.{Rules}
+use Rattle.desk_rules.specs.RuleFiles.{rules_of_files}
+use Rattle.desk_rules.specs.declared.RuleFault.{RuleFault}
+use Rattle.desk_run.specs.declared.roots.Root.{Root}
+use Rattle.desk_run.specs.declared.words.Task.{Task}
+use Rattle.desk_run.specs.declared.words.Task.TheVariants as task
+use Rattle.desk_run.specs.declared.roots.Roots.{Roots}
+use Rattle.desk_run.specs.declared.rules.Ruled.{Ruled}
+use Rattle.desk_run.specs.declared.TheConstants.{SIZE}
+use Rattle.desk_run.specs.Words.{task_of, first_nested, written}
+use Rattle.desk_run.specs.Images.{target, image}
+use Rattle.desk_run.specs.Runs.{Run}
+
+abbrev pub nested_status : Root × Root → Status
+nested_status pair = NestedRoots (written pair.0) (written pair.1)
+
+-- the written roots, where none lies in another that it may not lie in
+abbrev pub roots_apart : Root → Root → Root → Root → Option (Root × Root) → Result Roots Status
+roots_apart rules from to ledger None = Ok (record { rules = written rules; from = written from; to = written to; ledger = written ledger })
+roots_apart rules from to ledger (Some pair) = Err (nested_status pair)
+
+abbrev pub roots_of_task : Option Task → Result Roots Status
+roots_of_task None = Err Usage
+roots_of_task (Some (task.Run rules from to ledger workers)) = roots_apart rules from to ledger (first_nested rules from to ledger)
+
+-- the roots of words
+abbrev pub roots_of_words : List Text → Result Roots Status
+roots_of_words words = roots_of_task (task_of words)
+
+-- a file that isn't the one of the renames, or is too large
+abbrev pub is_other : File → Bool
+is_other file = not (bytes_eq file.path renames_name) || nat_lt SIZE (length file.bytes)
+
+-- files by their names
+abbrev pub named_files : List File → Files
+named_files [] = fin.empty
+named_files (file ∷ files) = fin.insert (named_files files) file.path file.bytes
+
+-- a rule file in what the digest of the rules is taken of: its name and its content, each behind its
+-- length, which has eight bytes and four, big-endian
+abbrev pub digest_entry : File → Text
+digest_entry file = to_be_bytes w64 (length file.path) ++ (file.path ++ (to_be_bytes w32 (length file.bytes) ++ file.bytes))
+
+abbrev pub with_digest : List File → Result Rules RuleFault → Result Ruled Status
+with_digest files (Ok rules) = Ok (record { rules = rules; digest = digest (flat_map digest_entry files) })
+with_digest files (Err fault) = Err (BadRules fault)
+
+-- the rules of the files of a rule folder, which holds the one file of the renames
+abbrev pub ruled : Text → List File → Result Ruled Status
+ruled root files =
+    if nat_lt 1 (length files) || list_any is_other files
+    then Err (NotBuilt root)
+    else with_digest files (rules_of_files (named_files files))
+
+abbrev pub run_of : Roots → Ruled → Run
+run_of roots r = record {
+  from = roots.from;
+  to = roots.to;
+  ledger = roots.ledger;
+  header = record { from = roots.from; to = roots.to; rules = r.digest };
+  target = target r.rules;
+  image = image r.rules;
+}
+
+abbrev pub run_by_rules : Roots → Result Ruled Status → Result Run Status
+run_by_rules roots (Ok r) = Ok (run_of roots r)
+run_by_rules roots (Err status) = Err status
+
+abbrev pub run_by_roots : Contents → Result Roots Status → Result Run Status
+run_by_roots m (Ok roots) = run_by_rules roots (ruled roots.rules (files_below roots.rules m))
+run_by_roots m (Err status) = Err status
+
+-- the run of words, by the rules in the folders
+abbrev pub run_of_words : List Text → Contents → Result Run Status
+run_of_words words m = run_by_roots m (roots_of_words words)

@@ -1,0 +1,38 @@
+-- The report of a run that completes.
+use Rattle.std.specs.Prelude.{ℕ, ◌++◌, List, [], Option, Some, None, Bool, true, false, not, ◌&&◌, length, count_by, is_none}
+use Rattle.std.specs.List.{flat_map}
+use Rattle.desk_base.specs.Names.{Text}
+use Rattle.desk_folders.specs.Contents.{File}
+use Rattle.desk_ledger.specs.Ledger.{Rows}
+use Rattle.desk_report.specs.declared.lines.Line.TheVariants.{Written, Kept}
+use Rattle.desk_report.specs.declared.lines.Summary.{Summary}
+use Rattle.desk_report.specs.Texts.{line_text, summary_text}
+use Rattle.desk_run.specs.declared.image.Image.{Image}
+use Rattle.desk_run.specs.Runs.{Run, is_kept_file, is_fresh}
+
+-- the line of a file: kept, or written with what its image is made of; one without an image has none
+abbrev pub file_line : Text → Text → Bool → Option Image → Text
+file_line path target true image = line_text (Kept path target)
+file_line path target false (Some image) = line_text (Written path target image.detail)
+file_line path target false None = []
+
+abbrev pub line_of : Run → Rows → File → Text
+line_of run rows file = file_line file.path (run.target file.path) (is_kept_file run rows file) (run.image file.path file.bytes)
+
+-- a file that is neither kept nor accepted
+abbrev pub is_refused : Run → Rows → File → Bool
+is_refused run rows file = not (is_kept_file run rows file) && is_none (run.image file.path file.bytes)
+
+abbrev pub summary_of : Run → Rows → List File → Summary
+summary_of run rows files = record {
+  files = length files;
+  written = count_by (is_fresh run rows) files;
+  kept = count_by (is_kept_file run rows) files;
+  refused = count_by (is_refused run rows) files;
+  renamed = 0;
+  added = 0;
+}
+
+-- one line a file in the order of their paths, and the line of the totals
+abbrev pub report : Run → Rows → List File → Text
+report run rows files = flat_map (line_of run rows) files ++ summary_text (summary_of run rows files)

@@ -1,0 +1,67 @@
+-- What a run goes by, and what is said of its files one by one.
+use Rattle.std.specs.Prelude.{◌≡◌, ◌≢◌, Bool, true, false, not, ◌&&◌, ◌==◌, List, [], ◌∷◌, Option, Some, None, is_some, map}
+use Rattle.std.specs.Cmp.Lexicographic.{pointwise}
+use Rattle.std.specs.FinMap as fin
+use Rattle.sha2.specs.Sha256.{sha256}
+use Rattle.desk_base.specs.Names.{Text}
+use Rattle.desk_base.specs.Paths.{full, is_relative_path}
+use Rattle.desk_folders.specs.Contents.{Contents, File, files_below}
+use Rattle.desk_ledger.specs.declared.keeper.Header.{Header}
+use Rattle.desk_ledger.specs.declared.keeper.Held.{Held}
+use Rattle.desk_ledger.specs.Ledger.{Rows}
+use Rattle.desk_run.specs.declared.image.Image.{Image}
+
+-- the roots of source, target and ledger as they are written, the header, and for each path its target
+-- and the image of bytes at it, if they have one
+pub record Run : Type 0 where
+  pub from : Text
+  pub to : Text
+  pub ledger : Text
+  pub header : Header
+  pub target : Text → Text
+  pub image : Text → Text → Option Image
+
+-- the row at a file's target has its path and the digest of its bytes
+abbrev pub is_kept : Option Held → Text → Text → Bool
+is_kept None path digest = false
+is_kept (Some row) path digest = pointwise ◌==◌ row.source path && pointwise ◌==◌ row.digest.0 digest
+
+-- a file is kept where the ledger has such a row
+abbrev pub is_kept_file : Run → Rows → File → Bool
+is_kept_file run rows file = is_kept (fin.get rows (run.target file.path)) file.path (sha256 file.bytes)
+
+-- a file that has an image and isn't kept
+abbrev pub is_fresh : Run → Rows → File → Bool
+is_fresh run rows file = not (is_kept_file run rows file) && is_some (run.image file.path file.bytes)
+
+-- what a row says of this file
+abbrev pub held_of : File → Held
+held_of file = record { source = file.path; digest = record { 0 = sha256 file.bytes } }
+
+abbrev pub targets_of : Run → List File → List Text
+targets_of run = map (λ file. run.target file.path)
+
+-- nothing below one root is below the other
+abbrev pub RootsApart : Text → Text → Type 0
+RootsApart from to = (p q : Text) → is_relative_path p ≡ true → is_relative_path q ≡ true → full from p ≢ full to q
+
+-- a text isn't in the list
+abbrev pub Misses : Text → List Text → Type 0
+Misses t [] = Unit {0}
+Misses t (u ∷ us) = (t ≢ u) × Misses t us
+
+-- no text stands in the list twice
+abbrev pub AllApart : List Text → Type 0
+AllApart [] = Unit {0}
+AllApart (t ∷ ts) = Misses t ts × AllApart ts
+
+-- each of these is a relative path
+abbrev pub AllRelative : List Text → Type 0
+AllRelative [] = Unit {0}
+AllRelative (t ∷ ts) = (is_relative_path t ≡ true) × AllRelative ts
+
+-- the targets of a run's files are paths that differ, and lie apart from the files themselves
+pub record TargetsApart (run : Run) (m : Contents) : Type 0 where
+  pub roots : RootsApart run.from run.to
+  pub relative : AllRelative (targets_of run (files_below run.from m))
+  pub distinct : AllApart (targets_of run (files_below run.from m))

@@ -1,0 +1,237 @@
+//! Roots: the folders and the ledger that words name.
+
+ghost use Rattle.std.specs.Prelude.{◌≡◌, Some, Ok, Err, IfOk, IfErr, OnOk, option_map, filter, not, ◌++◌, ◌∷◌, []};
+ghost use Rattle.std.specs.List.{list_any};
+ghost use Rattle.std.specs.Str.{is_utf8};
+ghost use Rattle.desk_base.specs.Names.{written as joined};
+ghost use Rattle.desk_run.specs.Words.{is_value, parts, is_upward, is_dropped, named_parts, root_of, written, lies_in, overlap, first_nested};
+ghost use Rattle.desk_report.specs.declared.status.Status.TheVariants.{NestedRoots};
+ghost use Rattle.desk_run.specs.Halts.{HaltsAtTask, HaltsAtWords};
+ghost use Rattle.desk_run.specs.Meaning.{nested_status, roots_of_task, roots_of_words};
+
+use crate::stops::Halt;
+use crate::words::{Task, WordsFault, read_words};
+use desk_base::{Memory, Text, TextList};
+use desk_report::Status;
+use std::alloc::Global;
+
+/// A folder or file that a word names: the segments between its `/`, without empty ones and `.`.
+#[derive(Debug, Drop)]
+pub struct Root {
+    pub absolute: bool,
+    pub segments: TextList,
+}
+
+/// Whether bytes are UTF-8.
+fn is_utf8(bytes: &[u8]) -> bool
+    ensures { result ≡ is_utf8 bytes.now }
+{
+    str::from_utf8(bytes).is_ok()
+}
+
+/// Whether a word may be the value of an option.
+fn is_value(word: &[u8]) -> bool
+    ensures { result ≡ is_value word.now }
+{
+    match word {
+        [] => false,
+        [b'-', ..] => false,
+        _ => word.len() <= 1024 && is_utf8(word),
+    }
+}
+
+/// Whether a part of a value leads nowhere.
+fn is_dropped(part: &[u8]) -> bool
+    ensures { result ≡ is_dropped part.now }
+{
+    part.is_empty() || part == b".".as_slice()
+}
+
+/// Whether a value leads to a folder above.
+fn leads_upward(value: &[u8]) -> bool
+    ensures { result ≡ list_any is_upward (parts value.now) }
+{
+    value
+        .split(|byte| *byte == b'/')
+        .any(|part| part == b"..".as_slice())
+}
+
+/// Adds a part unless it leads nowhere.
+fn push_named(alloc: Global, list: &mut TextList, part: &[u8]) -> Result<(), Memory>
+    ensures { OnOk result (list.new ≡ list.old ++ filter (λ part. not (is_dropped part)) (part.now ∷ [])) }
+{
+    if is_dropped(part) {
+        Ok(())
+    } else {
+        list.push(Text::from_bytes(alloc, part)?)
+    }
+}
+
+/// The parts of a value that are no empty text and no `.`.
+fn named_parts(alloc: Global, value: &[u8]) -> Result<TextList, Memory>
+    ensures { IfOk result (λ list. list ≡ named_parts value.now) }
+{
+    let mut list = TextList::empty(alloc);
+    for part in value.split(|byte| *byte == b'/') {
+        push_named(alloc, &mut list, part)?;
+    }
+    Ok(list)
+}
+
+impl Root {
+    /// The root that a value names; none where it isn't a value, or has a part `..`.
+    pub(crate) fn read(alloc: Global, value: &[u8]) -> Result<Option<Root>, Memory>
+        ensures { IfOk result (λ root. root ≡ root_of value.now) }
+    {
+        if !is_value(value) || leads_upward(value) {
+            return Ok(None);
+        }
+        let segments = named_parts(alloc, value)?;
+        Ok(Some(Root {
+            absolute: value.starts_with(b"/"),
+            segments,
+        }))
+    }
+
+    /// The root as it is written: its segments joined by `/`, after `/` if it is absolute; `.` if it is
+    /// relative and has none. The only error is want of memory.
+    pub fn written(&self, alloc: Global) -> Result<Text, Memory>
+        ensures { IfOk result (λ text. text ≡ written self.now) }
+    {
+        let segments = self.segments.as_slice();
+        if self.absolute {
+            joined_behind(Text::from_bytes(alloc, b"/")?, segments)
+        } else if segments.is_empty() {
+            Text::from_bytes(alloc, b".")
+        } else {
+            joined_behind(Text::empty(alloc), segments)
+        }
+    }
+
+    /// Whether this root lies in another, or is it.
+    fn lies_in(&self, other: &Root) -> bool
+        ensures { result ≡ lies_in self.now other.now }
+    {
+        self.absolute == other.absolute
+            && self
+                .segments
+                .as_slice()
+                .starts_with(other.segments.as_slice())
+    }
+
+    /// Whether one of two roots lies in the other.
+    fn overlaps(&self, other: &Root) -> bool
+        ensures { result ≡ overlap self.now other.now }
+    {
+        self.lies_in(other) || other.lies_in(self)
+    }
+}
+
+/// A text with segments behind it, joined by `/`.
+fn joined_behind(text: Text, segments: &[Text]) -> Result<Text, Memory>
+    ensures { IfOk result (λ joined_text. joined_text ≡ text ++ joined 47 segments.now) }
+{
+    let mut text = text;
+    for (i, segment) in segments.iter().enumerate() {
+        if i > 0 {
+            text.push(b'/')?;
+        }
+        text.append(segment.as_bytes())?;
+    }
+    Ok(text)
+}
+
+/// The roots of a run as they are written.
+#[derive(Debug, Drop)]
+pub struct Roots {
+    pub rules: Text,
+    pub from: Text,
+    pub to: Text,
+    pub ledger: Text,
+}
+
+/// The status of two roots of which one lies in the other, or want of memory.
+fn nested(alloc: Global, first: &Root, second: &Root) -> Result<Status, Memory>
+    ensures { IfOk result (λ status. status ≡ NestedRoots (written first.now) (written second.now)) }
+{
+    let first = first.written(alloc)?;
+    let second = second.written(alloc)?;
+    Ok(Status::NestedRoots { first, second })
+}
+
+/// The first nested pair of a task's roots, as a status.
+fn first_nested(
+    alloc: Global,
+    rules: &Root,
+    from: &Root,
+    to: &Root,
+    ledger: &Root,
+) -> Result<Option<Status>, Memory>
+    ensures { IfOk result (λ status. status ≡ option_map nested_status (first_nested rules.now from.now to.now ledger.now)) }
+{
+    if from.overlaps(to) {
+        Ok(Some(nested(alloc, from, to)?))
+    } else if rules.overlaps(to) {
+        Ok(Some(nested(alloc, rules, to)?))
+    } else if ledger.lies_in(from) {
+        Ok(Some(nested(alloc, ledger, from)?))
+    } else if ledger.lies_in(to) {
+        Ok(Some(nested(alloc, ledger, to)?))
+    } else if ledger.lies_in(rules) {
+        Ok(Some(nested(alloc, ledger, rules)?))
+    } else {
+        Ok(None)
+    }
+}
+
+/// The roots as they are written.
+fn written_roots(
+    alloc: Global,
+    rules: &Root,
+    from: &Root,
+    to: &Root,
+    ledger: &Root,
+) -> Result<Roots, Memory>
+    ensures { IfOk result (λ roots. roots ≡ record { rules = written rules.now; from = written from.now; to = written to.now; ledger = written ledger.now }) }
+{
+    let rules = rules.written(alloc)?;
+    let from = from.written(alloc)?;
+    let to = to.written(alloc)?;
+    let ledger = ledger.written(alloc)?;
+    Ok(Roots {
+        rules,
+        from,
+        to,
+        ledger,
+    })
+}
+
+/// The roots of a task, or the status of the first pair of them that is nested, or want of memory.
+fn roots_of_task(alloc: Global, task: &Task) -> Result<Roots, Halt>
+    ensures ok { IfOk result (λ roots. roots_of_task (Some task.now) ≡ Ok roots) }
+    ensures err { IfErr result (HaltsAtTask (Some task.now)) }
+{
+    let Task::Run {
+        rules,
+        from,
+        to,
+        ledger,
+        ..
+    } = task;
+    match first_nested(alloc, rules, from, to, ledger)? {
+        Some(status) => Err(Halt::Answer(status)),
+        None => Ok(written_roots(alloc, rules, from, to, ledger)?),
+    }
+}
+
+/// The roots that words name, or the status of words that name none, or want of memory.
+pub(crate) fn roots_of_words(alloc: Global, words: &[Text]) -> Result<Roots, Halt>
+    ensures ok { IfOk result (λ roots. roots_of_words words.now ≡ Ok roots) }
+    ensures err { IfErr result (HaltsAtWords words.now) }
+{
+    match read_words(alloc, words) {
+        Ok(task) => roots_of_task(alloc, &task),
+        Err(WordsFault::Usage) => Err(Halt::Answer(Status::Usage)),
+        Err(WordsFault::Memory) => Err(Halt::Memory),
+    }
+}
