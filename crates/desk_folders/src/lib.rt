@@ -5,6 +5,8 @@ mod disk;
 mod folders;
 mod listing;
 mod memory;
+#[cfg(test)]
+mod tests;
 
 pub use disk::DiskFolders;
 pub use folders::{FolderFault, Folders, GenFile};
