@@ -71,7 +71,7 @@ files_below root m = map (file_at root m) (paths_below root m)
 -- all of them where there are no more than `most`, else some `most + 1` of them
 abbrev pub IsListing : ℕ → List Text → List Text → Type 0
 IsListing most all got =
-  ((length all ≤ most) × (got ≡ all)) ⊎ ((most < length all) × (length got ≡ most + 1) × All (Contains all) got)
+    ((length all ≤ most) × (got ≡ all)) ⊎ ((most < length all) × (length got ≡ most + 1) × All (Contains all) got)
 
 -- a front of what stands from a place on, and nothing only at the end
 pub record IsPart (bytes : Text) (at : ℕ) (part : Text) : Type 0 where

@@ -1,18 +1,15 @@
 -- Laws of folders and ledgers as finite maps under texts.
-use Rattle.std.proofs.Common.{◌≢◌, cond, false, true, ◌≡◌, ℕ, ◌+◌, ◌<◌, ◌≤◌, ◌⊎◌, List, [], ◌++◌, Some, None, Option, refl, sym, ap, ◌∙◌, unwrap_or, rules, arith, subst}
-use Rattle.std.specs.Prelude.{option_map, IfSome, IsSome}
+use Rattle.std.proofs.Common.{◌≢◌, cond, false, ◌≡◌, ℕ, ◌≤◌, List, [], ◌++◌, Some, None, Option, refl, sym, ap, ◌∙◌, unwrap_or, rules, arith}
+use Rattle.std.specs.Prelude.{IfSome, IsSome}
 use Rattle.std.specs.Ordering.{nat_cmp, eq_by_cmp}
-use Rattle.std.specs.Cmp.{eq_by_cmp_equiv}
 use Rattle.std.proofs.lemmas.Cmp.{nat_list_cmp_total}
 use Rattle.std.specs.FinMap as fin
 use Rattle.std.specs.FinMap.{FinMap, gets, same_map, slice_cmp-IsAntisymmetric, nat_cmp-IsAntisymmetric}
 use Rattle.std.proofs.lemmas.Bool.{false_from_ne_true}
 use Rattle.std.proofs.lemmas.Map.Text.{is_eq-slice_cmp}
 use Rattle.std.proofs.lemmas.Slice.Eq.{bytes_eq-Decides}
-use Rattle.std.specs.Str.{bytes_eq}
 use Rattle.std.specs.Cmp.Lexicographic.{slice_cmp}
-use Rattle.std.proofs.Common.{append_assoc}
-use Rattle.desk_folders.specs.Contents.{Contents, Rose, setting, holding, adding, bytes_at, ChangesOnly}
+use Rattle.desk_folders.specs.Contents.{Contents, Rose, setting, holding, adding, ChangesOnly}
 
 -- a map under texts
 abbrev pub Texts : Type 0 → Type 0

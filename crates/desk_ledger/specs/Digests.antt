@@ -1,5 +1,4 @@
 -- Digests by SHA-256 (FIPS 180-4), of bytes at once and of bytes part by part.
-use Rattle.std.specs.Prelude.{ℕ, List}
 use Rattle.desk_base.specs.Names.{Text}
 use Rattle.sha2.specs.Sha256.{sha256}
 use Rattle.sha2.specs.Hashers.{Holds256}

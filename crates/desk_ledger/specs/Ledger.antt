@@ -1,11 +1,10 @@
 -- What a ledger contains: a header, and rows by their targets.
-use Rattle.std.specs.Prelude.{◌≡◌, ◌⊎◌, ◌<◌, ◌≤◌, ◌-◌, ◌^◌, ℕ, List, Option, Some}
+use Rattle.std.specs.Prelude.{◌⊎◌, ◌<◌, ◌≤◌, ◌-◌, ◌^◌, ℕ, Option, Some}
 use Rattle.std.specs.Ordering.{nat_cmp}
 use Rattle.std.specs.Cmp.Lexicographic.{slice_cmp}
 use Rattle.std.specs.FinMap as fin
 use Rattle.std.specs.FinMap.{FinMap}
 use Rattle.desk_base.specs.Names.{Text}
-use Rattle.desk_ledger.specs.declared.digest.Digest.{Digest}
 use Rattle.desk_ledger.specs.declared.keeper.Header.{Header}
 use Rattle.desk_ledger.specs.declared.keeper.Row.{Row}
 use Rattle.desk_ledger.specs.declared.keeper.Held.{Held}

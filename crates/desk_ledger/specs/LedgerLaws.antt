@@ -1,9 +1,9 @@
 -- Laws of ledgers: what changes of rows leave, and of counts that rise.
-use Rattle.std.proofs.Common.{◌≢◌, cond, false, ◌≡◌, ℕ, ◌≤◌, List, Some, None, Option, ap, ◌∙◌, rules, arith}
+use Rattle.std.proofs.Common.{◌≢◌, cond, false, ◌≡◌, ℕ, ◌≤◌, Some, None, ap, ◌∙◌, rules, arith}
 use Rattle.std.specs.Ordering.{nat_cmp, eq_by_cmp}
 use Rattle.std.proofs.lemmas.Cmp.{nat_list_cmp_total}
 use Rattle.std.specs.FinMap as fin
-use Rattle.std.specs.FinMap.{FinMap, gets, same_map, slice_cmp-IsAntisymmetric, nat_cmp-IsAntisymmetric}
+use Rattle.std.specs.FinMap.{gets, same_map, slice_cmp-IsAntisymmetric, nat_cmp-IsAntisymmetric}
 use Rattle.std.proofs.lemmas.Bool.{false_from_ne_true}
 use Rattle.std.proofs.lemmas.Map.Text.{is_eq-slice_cmp}
 use Rattle.std.proofs.lemmas.Slice.Eq.{bytes_eq-Decides}

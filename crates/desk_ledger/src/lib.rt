@@ -3,6 +3,8 @@
 
 mod digest;
 mod keeper;
+mod memory;
 
 pub use digest::{Digest, Digester, digest_of};
 pub use keeper::{Header, Held, Keeper, KeeperFault, Row};
+pub use memory::MemoryKeeper;

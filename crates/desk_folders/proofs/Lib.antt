@@ -1,0 +1,4 @@
+pub mod Below
+pub mod Members
+pub mod Entries
+pub mod FirstPaths
