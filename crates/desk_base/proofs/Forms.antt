@@ -1,5 +1,5 @@
 -- The form at the front of a text, and the first byte that begins none.
-use Rattle.std.proofs.Common.{◌≡◌, ℕ, ◌+◌, ◌<◌, ◌≤◌, Bool, true, false, cond, List, [], ◌∷◌, length, drop, Option, Some, None, refl, sym, ap, subst, ◌∙◌, arith}
+use Rattle.std.proofs.Common.{◌≡◌, ℕ, ◌+◌, ◌<◌, ◌≤◌, Bool, true, false, cond, List, [], ◌∷◌, length, drop, Some, None, refl, sym, arith}
 use Rattle.std.proofs.lemmas.List.{length-drop, drop_all}
 use Rattle.std.proofs.Math.Seq.{drop-drop}
 use Rattle.desk_base.specs.Utf8.{is_single, is_pair, is_triple, bad_from, form_size}

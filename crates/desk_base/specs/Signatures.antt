@@ -248,54 +248,54 @@ map_signature f (Signature.method ps js r ts) = Signature.method (map_params f p
 
 unfoldable mutual
   pub java_names : JavaType → List Text → List Text
-  java_names (JavaType.base c) more = more
-  java_names (JavaType.ref r) more = ref_names r more
+  java_names (JavaType.base c) behind = behind
+  java_names (JavaType.ref r) behind = ref_names r behind
 
   pub ref_names : Ref → List Text → List Text
-  ref_names (Ref.class c) more = class_names c more
-  ref_names (Ref.variable name) more = more
-  ref_names (Ref.array j) more = java_names j more
+  ref_names (Ref.class c) behind = class_names c behind
+  ref_names (Ref.variable name) behind = behind
+  ref_names (Ref.array j) behind = java_names j behind
 
   pub class_names : ClassType → List Text → List Text
-  class_names (ClassType.named name args inner) more = name ∷ args_names args (inner_names inner more)
+  class_names (ClassType.named name args inner) behind = name ∷ args_names args (inner_names inner behind)
 
   pub inner_names : Inner → List Text → List Text
-  inner_names Inner.done more = more
-  inner_names (Inner.dot name args inner) more = args_names args (inner_names inner more)
+  inner_names Inner.done behind = behind
+  inner_names (Inner.dot name args inner) behind = args_names args (inner_names inner behind)
 
   pub args_names : Args → List Text → List Text
-  args_names Args.none more = more
-  args_names (Args.more a rest) more = arg_names a (args_names rest more)
+  args_names Args.none behind = behind
+  args_names (Args.more a rest) behind = arg_names a (args_names rest behind)
 
   pub arg_names : Arg → List Text → List Text
-  arg_names Arg.any more = more
-  arg_names (Arg.exactly r) more = ref_names r more
-  arg_names (Arg.extends r) more = ref_names r more
-  arg_names (Arg.super_of r) more = ref_names r more
+  arg_names Arg.any behind = behind
+  arg_names (Arg.exactly r) behind = ref_names r behind
+  arg_names (Arg.extends r) behind = ref_names r behind
+  arg_names (Arg.super_of r) behind = ref_names r behind
 
 unfoldable pub bound_names : Option Ref → List Text → List Text
-bound_names None more = more
-bound_names (Some r) more = ref_names r more
+bound_names None behind = behind
+bound_names (Some r) behind = ref_names r behind
 
 unfoldable pub refs_names : List Ref → List Text → List Text
-refs_names [] more = more
-refs_names (r ∷ rs) more = ref_names r (refs_names rs more)
+refs_names [] behind = behind
+refs_names (r ∷ rs) behind = ref_names r (refs_names rs behind)
 
 unfoldable pub params_names : List Param → List Text → List Text
-params_names [] more = more
-params_names (p ∷ ps) more = bound_names p.bound (refs_names p.others (params_names ps more))
+params_names [] behind = behind
+params_names (p ∷ ps) behind = bound_names p.bound (refs_names p.others (params_names ps behind))
 
 unfoldable pub classes_names : List ClassType → List Text
 classes_names [] = []
 classes_names (c ∷ cs) = class_names c (classes_names cs)
 
 unfoldable pub javas_names : List JavaType → List Text → List Text
-javas_names [] more = more
-javas_names (j ∷ js) more = java_names j (javas_names js more)
+javas_names [] behind = behind
+javas_names (j ∷ js) behind = java_names j (javas_names js behind)
 
 unfoldable pub result_names : Option JavaType → List Text → List Text
-result_names None more = more
-result_names (Some j) more = java_names j more
+result_names None behind = behind
+result_names (Some j) behind = java_names j behind
 
 unfoldable pub thrown_names : List Thrown → List Text
 thrown_names [] = []

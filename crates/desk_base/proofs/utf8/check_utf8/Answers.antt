@@ -1,4 +1,4 @@
-use Rattle.std.proofs.Common.{sym, ◌∙◌, subst, rules, arith}
+use Rattle.std.proofs.Common.{sym, ◌∙◌, arith}
 use Rattle.desk_base.proofs.Forms.{bad_end, bad_stop, bad_step, step_within}
 use Rattle.desk_base.proofs.utf8.check_utf8.Goals as goal
 
