@@ -1,2 +1,9 @@
 pub mod Bytes
 pub mod LastPart
+pub mod Cuts
+pub mod Unique
+pub mod Scanned
+pub mod Takes
+pub mod Pieces
+pub mod Places
+pub mod PieceNames

@@ -1,1 +1,4 @@
 pub mod ClassNames
+pub mod States
+pub mod Pieces
+pub mod Laws

@@ -1,12 +1,12 @@
 //! Names in class files: class names, descriptors and signatures.
 #![tactic(auto)]
 
-
-
+mod descriptors;
+mod laws;
 mod names;
+mod parts;
 
-
-
-
+pub use descriptors::Want;
+pub use laws::{descriptors_have_one_tree, parts_of_descriptors_exchange};
 pub use names::{ClassName, is_dotted, is_identifier, split_class};
-
+pub use parts::{DescParts, Part, read_descriptor};

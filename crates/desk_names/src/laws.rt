@@ -1,0 +1,13 @@
+//! The laws of descriptors and signatures.
+
+ghost use Rattle.desk_names.specs.Laws.{TreesOfDescriptors, PartsOfDescriptors};
+
+/// The test of a descriptor takes exactly the texts of trees, and each has one tree.
+pub fn descriptors_have_one_tree()
+    ensures { TreesOfDescriptors }
+{}
+
+/// The parts of a descriptor hold its class names; exchanging these in the parts exchanges them in the tree.
+pub fn parts_of_descriptors_exchange()
+    ensures { PartsOfDescriptors }
+{}
