@@ -5,8 +5,10 @@ mod descriptors;
 mod laws;
 mod names;
 mod parts;
+mod signatures;
 
 pub use descriptors::Want;
 pub use laws::{descriptors_have_one_tree, parts_of_descriptors_exchange};
 pub use names::{ClassName, is_dotted, is_identifier, split_class};
 pub use parts::{DescParts, Part, read_descriptor};
+pub use signatures::Which;
