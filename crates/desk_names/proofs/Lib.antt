@@ -7,3 +7,5 @@ pub mod Takes
 pub mod Pieces
 pub mod Places
 pub mod PieceNames
+pub mod RefSound
+pub mod SigSound

@@ -1,8 +1,11 @@
--- The laws of descriptors.
+-- The laws of descriptors and signatures.
 use Rattle.std.specs.Prelude.{◌≡◌, true}
 use Rattle.desk_base.specs.Names.{Text, is_class_name}
 use Rattle.desk_base.specs.Descriptors.{Descriptor, DescriptorKind, IsDescriptor, is_descriptor, print, renamed, text_with, names_of, as_is}
+use Rattle.desk_base.specs.Signatures.{Signature, SignatureKind, IsSignature, is_signature_name, print_signature, map_signature, signature_names}
 use Rattle.desk_names.specs.Pieces.{pieces, joined, names_in}
+use Rattle.desk_names.specs.SignatureScan.{is_sound_signature}
+use Rattle.desk_names.specs.SignaturePieces.{sig_pieces}
 
 -- A text passes the test of a kind exactly where it is the text of a formed tree of that kind, and there is one such tree.
 pub record TreesOfDescriptors : Type 0 where
@@ -21,3 +24,8 @@ pub record PartsOfDescriptors : Type 0 where
   pub names : (kind : DescriptorKind) (text : Text) (d : Descriptor) → IsDescriptor kind text d → names_in (pieces text) ≡ names_of d
   pub prints : (f : Text → Text) (kind : DescriptorKind) (text : Text) (d : Descriptor) → IsDescriptor kind text d → joined f (pieces text) ≡ print (renamed f d)
   pub kept : (f : Text → Text) → KeepsClassNames f → (kind : DescriptorKind) (text : Text) (d : Descriptor) → IsDescriptor kind text d → IsDescriptor kind (joined f (pieces text)) (renamed f d)
+
+-- A text is read as a signature of a kind exactly where it is the text of a formed tree of that kind that nests at most 64
+-- deep, and there is one such tree.
+pub record TreesOfSignatures : Type 0 where
+  pub tree : (kind : SignatureKind) (text : Text) → is_sound_signature kind text ≡ true → (s : Signature) × IsSignature kind text s

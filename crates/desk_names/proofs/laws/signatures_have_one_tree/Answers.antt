@@ -1,0 +1,5 @@
+use Rattle.desk_names.proofs.SigSound.{signature_of}
+use Rattle.desk_names.proofs.laws.signatures_have_one_tree.Goals as goal
+
+pub returns : goal.returns
+returns c = record { tree = signature_of }
