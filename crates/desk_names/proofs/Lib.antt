@@ -9,3 +9,4 @@ pub mod Places
 pub mod PieceNames
 pub mod RefSound
 pub mod SigSound
+pub mod OneSignature

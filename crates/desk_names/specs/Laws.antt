@@ -29,3 +29,4 @@ pub record PartsOfDescriptors : Type 0 where
 -- deep, and there is one such tree.
 pub record TreesOfSignatures : Type 0 where
   pub tree : (kind : SignatureKind) (text : Text) → is_sound_signature kind text ≡ true → (s : Signature) × IsSignature kind text s
+  pub one : (kind : SignatureKind) (text : Text) (a b : Signature) → IsSignature kind text a → IsSignature kind text b → a ≡ b
