@@ -10,3 +10,5 @@ pub mod PieceNames
 pub mod RefSound
 pub mod SigSound
 pub mod OneSignature
+pub mod Emitted
+pub mod Walked
