@@ -87,7 +87,7 @@ abbrev pub put_name : (Text → Text) → Text → Text → Text
 put_name f n t = f n ++ t
 
 module _ (f : Text → Text) where
-  puts_text : (n t : Text) → puts Text put_byte (put_name f) n t ≡ n ++ t
+  pub puts_text : (n t : Text) → puts Text put_byte (put_name f) n t ≡ n ++ t
   unfolding puts
   puts_text [] t = refl
   puts_text (b ∷ n) t = ap (put_byte b) (puts_text n t)
@@ -181,7 +181,7 @@ skip b ns = ns
 abbrev pub keep : Text → List Text → List Text
 keep n ns = n ∷ ns
 
-puts_names : (n : Text) (x : List Text) → puts (List Text) skip keep n x ≡ x
+pub puts_names : (n : Text) (x : List Text) → puts (List Text) skip keep n x ≡ x
 unfolding puts
 puts_names [] x = refl
 puts_names (b ∷ n) x = puts_names n x

@@ -12,3 +12,5 @@ pub mod SigSound
 pub mod OneSignature
 pub mod Emitted
 pub mod Walked
+pub mod SigPieces
+pub mod SigMapped

@@ -28,5 +28,18 @@ pub record PartsOfDescriptors : Type 0 where
 -- A text is read as a signature of a kind exactly where it is the text of a formed tree of that kind that nests at most 64
 -- deep, and there is one such tree.
 pub record TreesOfSignatures : Type 0 where
+  pub taken : (kind : SignatureKind) (text : Text) (s : Signature) → IsSignature kind text s → is_sound_signature kind text ≡ true
   pub tree : (kind : SignatureKind) (text : Text) → is_sound_signature kind text ≡ true → (s : Signature) × IsSignature kind text s
   pub one : (kind : SignatureKind) (text : Text) (a b : Signature) → IsSignature kind text a → IsSignature kind text b → a ≡ b
+
+-- the class names that f gives for class names of signatures are such names
+abbrev pub KeepsSignatureNames : (Text → Text) → Type 0
+KeepsSignatureNames f = (name : Text) → is_signature_name name ≡ true → is_signature_name (f name) ≡ true
+
+-- The parts of a signature join to it; they hold its tree's class names in their order; with each class name exchanged they
+-- are the text of the exchanged tree, which has the same kind and form.
+pub record PartsOfSignatures : Type 0 where
+  pub joins : (kind : SignatureKind) (text : Text) (s : Signature) → IsSignature kind text s → joined as_is (sig_pieces kind text) ≡ text
+  pub names : (kind : SignatureKind) (text : Text) (s : Signature) → IsSignature kind text s → names_in (sig_pieces kind text) ≡ signature_names s
+  pub prints : (f : Text → Text) (kind : SignatureKind) (text : Text) (s : Signature) → IsSignature kind text s → joined f (sig_pieces kind text) ≡ print_signature (map_signature f s)
+  pub kept : (f : Text → Text) → KeepsSignatureNames f → (kind : SignatureKind) (text : Text) (s : Signature) → IsSignature kind text s → IsSignature kind (joined f (sig_pieces kind text)) (map_signature f s)
