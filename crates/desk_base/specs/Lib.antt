@@ -1,3 +1,10 @@
 pub mod Names
 pub mod Paths
 pub mod Shown
+pub mod Spot
+pub mod Utf8
+pub mod Descriptors
+pub mod Signatures
+pub mod Entries
+pub mod Targets
+pub mod Misfits

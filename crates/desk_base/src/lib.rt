@@ -1,10 +1,25 @@
-//! What every crate of the desk stands on: texts of bytes, lists of them, and want of memory.
+//! What every crate of the desk stands on: texts of bytes, a cursor over them, the words of class files, and want of
+//! memory.
 #![tactic(auto)]
 
+mod faults;
+mod kinds;
+mod reading;
+mod shown;
+mod targets;
 mod texts;
+mod utf8;
+mod views;
 
+pub use faults::{FaultKind, Malformed, ReadFault};
+pub use kinds::{Role, Tag, UseKind, Used};
+pub use reading::{Cursor, Short};
+pub use shown::{ShownByte, show_byte};
 use std::alloc::{AllocError, AllocFailed};
+pub use targets::{Choice, Form, Target};
 pub use texts::{Text, TextList};
+pub use utf8::check_utf8;
+pub use views::{PoolView, Visit};
 
 /// Memory ran out. It is merged with no other fault.
 #[derive(Clone, Copy, Debug, PartialEq, Eq)]
@@ -28,3 +43,6 @@ impl<T: Drop> From<AllocFailed<T>> for Memory {
         Memory
     }
 }
+
+#[cfg(test)]
+mod tests;

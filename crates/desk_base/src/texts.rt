@@ -3,13 +3,16 @@
 ghost use Rattle.std.specs.Prelude.{◌≡◌, ◌++◌, ◌∷◌, [], length, slice_get, IfOk, OnOk, OnErr, IfSome, IfNone, ◌≤◌, option_copied, ◌==◌, ◌↔◌, IsTrue};
 ghost use Rattle.std.proofs.Common.{rules};
 ghost use Rattle.std.specs.Cmp.{partial_order_from_own_ties};
-ghost use Rattle.std.specs.Cmp.Rules.{comparing};
+ghost use Rattle.std.specs.Cmp.Rules.{comparing, hashing};
 ghost use Rattle.std.specs.Cmp.Lexicographic.{slice_cmp, pointwise};
+ghost use Rattle.std.specs.Hash as fed;
+ghost use Rattle.std.specs.List.Sorted.{IsPermutation, IsSorted};
 ghost use Rattle.std.specs.Ordering.{nat_cmp, as_partial_cmp};
 
 use crate::Memory;
 use std::alloc::Global;
 use std::cmp::Ordering;
+use std::hash::{Hash, Hasher};
 use std::marker::Model;
 
 /// Bytes that can grow. Contracts see the list of its bytes; texts are ordered by their bytes,
@@ -109,6 +112,16 @@ impl Ord for Text {
     }
 }
 
+impl Hash for Text {
+    ghost hash_input = { fed.slice fed.u8 };
+
+    ghost respects_eq = { Prim.search (hashing, rules) };
+
+    fn hash<H: Hasher>(&self, state: &mut H) {
+        self.bytes.hash(state);
+    }
+}
+
 /// A list of texts. Contracts see the list of the texts' bytes.
 #[derive(Debug, Drop)]
 pub struct TextList {
@@ -161,6 +174,17 @@ impl TextList {
         ensures { option_copied result ≡ slice_get self.now place }
     {
         self.texts.get(place)
+    }
+
+    /// Puts the texts in byte order; equal texts stay as many as they were. After want of memory, the only error, the list
+    /// is as it was.
+    pub fn sort(&mut self) -> Result<(), Memory>
+        ensures permutation { IsPermutation self.old self.new }
+        ensures sorted { OnOk result (IsSorted (slice_cmp nat_cmp) self.new) }
+        ensures err { OnErr result (self.new ≡ self.old) }
+    {
+        self.texts.sort()?;
+        Ok(())
     }
 
     /// The texts in their order.

@@ -1,0 +1,101 @@
+//! What can be wrong with a class file.
+
+ghost use Rattle.std.specs.Prelude.{◌≡◌};
+ghost use Rattle.desk_base.specs.declared.faults.ReadFault.TheVariants as read_faults;
+
+use crate::Memory;
+use std::alloc::{AllocError, AllocFailed};
+
+/// A kind of fault.
+#[derive(Clone, Copy, Debug, PartialEq, Eq)]
+pub enum FaultKind {
+    /// The first four bytes aren't CAFEBABE.
+    Magic,
+    /// A version that isn't accepted.
+    Version,
+    /// The file ends within an item.
+    Truncated,
+    /// A count of the pool that is 0, or within a Long or Double.
+    PoolCount,
+    /// An unknown tag of the pool.
+    Tag,
+    /// A text that isn't modified UTF-8.
+    Utf8Form,
+    /// An index that names no entry, or one that doesn't fit.
+    Index,
+    /// An unknown kind of a method handle.
+    RefKind,
+    /// A text that isn't a class name where one is wanted.
+    ClassName,
+    /// A text that isn't a descriptor of the wanted form.
+    Descriptor,
+    /// A known attribute whose body needs more or fewer bytes than its length.
+    AttributeLength,
+    /// A length of code that is 0 or above 65,535.
+    CodeLength,
+    /// An unknown tag of a stack map frame.
+    FrameTag,
+    /// An unknown tag of a verification type.
+    TypeTag,
+    /// An unknown tag of an element value.
+    ElementTag,
+    /// An unknown target type of a type annotation.
+    TargetType,
+    /// An unknown kind of a type path's step.
+    PathKind,
+    /// An element value of depth 65.
+    Depth,
+    /// Bytes behind the class.
+    Trailing,
+    /// Two fields or two methods of one name and descriptor.
+    Twins,
+}
+
+/// A fault and its place.
+#[derive(Clone, Copy, Debug, PartialEq, Eq)]
+pub struct Malformed {
+    pub kind: FaultKind,
+    /// The offset from the start of the file, in bytes.
+    pub at: u32,
+}
+
+/// Why a class file, or a part of it, wasn't read.
+#[derive(Clone, Copy, Debug, PartialEq, Eq)]
+pub enum ReadFault {
+    /// The first fault.
+    Malformed(Malformed),
+    /// Memory ran out.
+    Memory,
+}
+
+impl From<Memory> for ReadFault {
+    ghost from_gives = { λ _ fault. fault ≡ read_faults.Memory };
+
+    fn from(_: Memory) -> ReadFault {
+        ReadFault::Memory
+    }
+}
+
+impl From<Malformed> for ReadFault {
+    ghost from_gives = { λ malformed fault. fault ≡ read_faults.Malformed malformed };
+
+    fn from(malformed: Malformed) -> ReadFault {
+        ReadFault::Malformed(malformed)
+    }
+}
+
+impl From<AllocError> for ReadFault {
+    ghost from_gives = { λ _ fault. fault ≡ read_faults.Memory };
+
+    fn from(_: AllocError) -> ReadFault {
+        ReadFault::Memory
+    }
+}
+
+impl<T: Drop> From<AllocFailed<T>> for ReadFault {
+    ghost from_gives = { λ _ fault. fault ≡ read_faults.Memory };
+
+    fn from(_: AllocFailed<T>) -> ReadFault {
+        ReadFault::Memory
+    }
+}

@@ -1,0 +1,58 @@
+//! Modified UTF-8.
+
+ghost use Rattle.std.specs.Prelude.{◌≡◌, ◌<◌, ◌≤◌, length, drop, OnOk, IfErr, None, Some};
+ghost use Rattle.desk_base.specs.Utf8.{bad_form, form_size, is_single, is_continuation};
+
+fn is_single(byte: u8) -> bool
+    ensures { result ≡ is_single byte }
+{
+    1 <= byte && byte <= 0x7F
+}
+
+fn is_continuation(byte: u8) -> bool
+    ensures { result ≡ is_continuation byte }
+{
+    0x80 <= byte && byte <= 0xBF
+}
+
+/// How many bytes the form at a place takes, 0 where none begins there.
+fn size_at(bytes: &[u8], at: usize) -> usize
+    requires { at < length bytes.now }
+    ensures { result ≡ form_size (drop at bytes.now) }
+{
+    let first = bytes[at];
+    let left = bytes.len() - at;
+    if is_single(first) {
+        1
+    } else if left < 2 || !is_continuation(bytes[at + 1]) {
+        0
+    } else if 0xC0 <= first && first <= 0xDF {
+        2
+    } else if left < 3 || !is_continuation(bytes[at + 2]) {
+        0
+    } else if 0xE0 <= first && first <= 0xEF {
+        3
+    } else {
+        0
+    }
+}
+
+/// Whether bytes, of which there are at most 67,108,864, are modified UTF-8 (JVMS 4.4.7): forms one behind the other,
+/// each a byte from 0x01 to 0x7F, or 110xxxxx 10xxxxxx, or 1110xxxx 10xxxxxx 10xxxxxx. A longer spelling of a shorter form
+/// is accepted. The error is the offset of the first byte that begins no form. It takes no memory.
+pub fn check_utf8(bytes: &[u8]) -> Result<(), u32>
+    requires { length bytes.now ≤ 67108864 }
+    ensures formed { OnOk result (bad_form bytes.now ≡ None) }
+    ensures first { IfErr result (λ offset. bad_form bytes.now ≡ Some offset) }
+    ensures within { IfErr result (λ offset. offset < length bytes.now) }
+{
+    let mut at = 0;
+    while at < bytes.len() {
+        let size = size_at(bytes, at);
+        if size == 0 {
+            return Err(at as u32);
+        }
+        at += size;
+    }
+    Ok(())
+}

@@ -1,0 +1,16 @@
+pub mod Bytes
+pub mod LastPart
+pub mod Cuts
+pub mod Unique
+pub mod Scanned
+pub mod Takes
+pub mod Pieces
+pub mod Places
+pub mod PieceNames
+pub mod RefSound
+pub mod SigSound
+pub mod OneSignature
+pub mod Emitted
+pub mod Walked
+pub mod SigPieces
+pub mod SigMapped

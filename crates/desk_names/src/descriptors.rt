@@ -1,0 +1,181 @@
+//! Reading a descriptor byte by byte (JVMS 4.3).
+
+ghost use Rattle.std.specs.Prelude.{◌≡◌};
+ghost use Rattle.desk_base.specs.Descriptors.{is_base, is_wide, step, behind, ends, start, is_descriptor};
+ghost use Rattle.desk_names.specs.States.{wanted_kind, position_of, awaited_of};
+
+use crate::names::is_reserved;
+
+/// Which descriptor is wanted: of a field, of a method, or of what a method returns, which is a field descriptor or `V`.
+#[derive(Clone, Copy, Debug, PartialEq, Eq)]
+pub enum Want {
+    Field,
+    Method,
+    Return,
+}
+
+/// Where a type stands: alone, as a parameter behind others of so many units, or as what a method returns.
+#[derive(Clone, Copy)]
+pub enum Place {
+    Alone,
+    Parameter(u32),
+    Outcome,
+}
+
+/// What a descriptor goes on with: a method's `(`, a type behind so many `[`, or the rest of a class name, of which a part
+/// has begun or not.
+#[derive(Clone, Copy)]
+pub enum State {
+    Opening,
+    Type(Place, u32),
+    Name(Place, bool),
+    Over,
+    Wrong,
+}
+
+/// One of the letters that stand for a base type.
+pub fn is_base(byte: u8) -> bool
+    ensures { result ≡ is_base byte }
+{
+    byte == b'B'
+        || byte == b'C'
+        || byte == b'D'
+        || byte == b'F'
+        || byte == b'I'
+        || byte == b'J'
+        || byte == b'S'
+        || byte == b'Z'
+}
+
+fn is_wide(byte: u8) -> bool
+    ensures { result ≡ is_wide byte }
+{
+    byte == b'J' || byte == b'D'
+}
+
+/// The state in front of a descriptor.
+fn start(want: Want) -> State
+    ensures { awaited_of result ≡ start (wanted_kind want) }
+{
+    match want {
+        Want::Field => State::Type(Place::Alone, 0),
+        Want::Method => State::Opening,
+        Want::Return => State::Type(Place::Outcome, 0),
+    }
+}
+
+/// The state behind a type.
+fn behind(place: Place, wide: bool) -> State
+    ensures { awaited_of result ≡ behind (position_of place) wide }
+{
+    match place {
+        Place::Alone | Place::Outcome => State::Over,
+        Place::Parameter(units) => {
+            if wide {
+                if units < 254 {
+                    State::Type(Place::Parameter(units + 2), 0)
+                } else {
+                    State::Wrong
+                }
+            } else {
+                if units < 255 {
+                    State::Type(Place::Parameter(units + 1), 0)
+                } else {
+                    State::Wrong
+                }
+            }
+        }
+    }
+}
+
+/// The state behind a byte that begins no type.
+fn ends(place: Place, byte: u8) -> State
+    ensures { awaited_of result ≡ ends (position_of place) byte }
+{
+    match place {
+        Place::Alone => State::Wrong,
+        Place::Outcome => {
+            if byte == b'V' {
+                State::Over
+            } else {
+                State::Wrong
+            }
+        }
+        Place::Parameter(_) => {
+            if byte == b')' {
+                State::Type(Place::Outcome, 0)
+            } else {
+                State::Wrong
+            }
+        }
+    }
+}
+
+/// The state behind a byte.
+#[tactic(auto, unfolding(desk_base::specs::Descriptors::step))]
+fn step(state: State, byte: u8) -> State
+    ensures { awaited_of result ≡ step (awaited_of state) byte }
+{
+    match state {
+        State::Opening => {
+            if byte == b'(' {
+                State::Type(Place::Parameter(0), 0)
+            } else {
+                State::Wrong
+            }
+        }
+        State::Type(place, dimensions) => {
+            if byte == b'[' {
+                if dimensions < 255 {
+                    State::Type(place, dimensions + 1)
+                } else {
+                    State::Wrong
+                }
+            } else if byte == b'L' {
+                State::Name(place, false)
+            } else if is_base(byte) {
+                behind(place, dimensions == 0 && is_wide(byte))
+            } else if dimensions == 0 {
+                ends(place, byte)
+            } else {
+                State::Wrong
+            }
+        }
+        State::Name(place, inside) => {
+            if byte == b';' {
+                if inside {
+                    behind(place, false)
+                } else {
+                    State::Wrong
+                }
+            } else if byte == b'/' {
+                if inside {
+                    State::Name(place, false)
+                } else {
+                    State::Wrong
+                }
+            } else if is_reserved(byte) {
+                State::Wrong
+            } else {
+                State::Name(place, true)
+            }
+        }
+        State::Over => State::Wrong,
+        State::Wrong => State::Wrong,
+    }
+}
+
+/// Whether a text is a descriptor of a kind. It takes no memory.
+#[tactic(auto, unfolding(desk_base::specs::Descriptors::run, desk_base::specs::Descriptors::is_descriptor))]
+pub fn is_descriptor(text: &[u8], want: Want) -> bool
+    ensures { result ≡ is_descriptor (wanted_kind want) text.now }
+{
+    let mut state = start(want);
+    for byte in text {
+        state = step(state, *byte);
+    }
+    match state {
+        State::Over => true,
+        _ => false,
+    }
+}

@@ -1,0 +1,14 @@
+//! Names in class files: class names, descriptors and signatures.
+#![tactic(auto)]
+
+mod descriptors;
+mod laws;
+mod names;
+mod parts;
+mod signatures;
+
+pub use descriptors::Want;
+pub use laws::{descriptors_have_one_tree, parts_of_descriptors_exchange, parts_of_signatures_exchange, signatures_have_one_tree};
+pub use names::{ClassName, is_dotted, is_identifier, split_class};
+pub use parts::{DescParts, Part, read_descriptor};
+pub use signatures::Which;
