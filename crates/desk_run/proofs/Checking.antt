@@ -6,7 +6,12 @@ use Rattle.desk_run.specs.declared.files.Source.{Source}
 use Rattle.desk_run.specs.declared.files.Input.{Input}
 use Rattle.desk_run.specs.declared.image.Image.{Image}
 use Rattle.desk_run.specs.Inputs.{source_of_input}
-use Rattle.std.proofs.Common.{map-id}
+use Rattle.std.proofs.Common.{map-id, zero}
+use Rattle.std.specs.Prelude.{not, ◌&&◌, nat_le, unwrap_or}
+use Rattle.std.specs.FinMap as fin
+use Rattle.desk_run.specs.Answers.{is_short}
+use Rattle.desk_run.specs.Sources.{bytes_have_image, readers_of, tallied}
+use Rattle.desk_run.specs.Tallies.{Targets, Tallies}
 use Rattle.desk_run.specs.declared.stops.Halt.{Halt}
 use Rattle.desk_run.specs.declared.stops.Halt.TheVariants as halt
 use Rattle.desk_run.specs.Answers.{some_answer}
@@ -46,3 +51,17 @@ stopped_check image all gone source (halt.Answer status) e lt is h u =
     let whole : all ≡ gone ++ source ∷ drop (suc (length gone)) all =
     split_at all (length gone) source lt is ∙ ap (λ (xs : List Source). xs ++ source ∷ drop (suc (length gone)) all) (sym e ∙ map-id gone) in
     (ap is_files_status u.1, ap some_answer (ap (first_unfit image all) whole ∙ first_at image all gone (drop (suc (length gone)) all) source h u.0) ∙ ap Some (sym u.1))
+
+few_readers : (n : ℕ) → not (unwrap_or (tallied n) false) ≡ nat_le n 1
+few_readers zero = refl
+few_readers (suc n) = grind arith
+
+-- what makes a file one that is built
+pub fit_is : (image : Text → Text → Option Image) (targets : Targets) (all : List Source) (source : Source) (has shared : Bool) → Tallies targets all → is_short source.path ≡ true → is_short source.target ≡ true
+    → has ≡ bytes_have_image image source.path source.bytes → shared ≡ unwrap_or (fin.get targets source.target) false → has && not shared ≡ is_fit image all source
+fit_is image targets all source has shared t p q h s =
+    ap (λ b. b && not shared) h
+    ∙ ap (λ b. bytes_have_image image source.path source.bytes && not b) (s ∙ ap (λ o. unwrap_or o false) (t source.target))
+    ∙ ap (λ b. bytes_have_image image source.path source.bytes && b) (few_readers (readers_of source.target all))
+    ∙ ap (λ b. b && (bytes_have_image image source.path source.bytes && nat_le (readers_of source.target all) 1)) (sym q)
+    ∙ ap (λ b. b && (is_short source.target && (bytes_have_image image source.path source.bytes && nat_le (readers_of source.target all) 1))) (sym p)

@@ -1,5 +1,5 @@
 -- The first answer that stands.
-use Rattle.std.specs.Prelude.{ℕ, ◌==◌, ◌&&◌, nat_lt, nat_le, List, [], ◌∷◌, length, Option, Some, None, Bool, true, false, Result, Ok, Err, is_some, cond, option_map, count_by, if◌then◌else◌}
+use Rattle.std.specs.Prelude.{◌≡◌, ℕ, ◌==◌, ◌&&◌, nat_lt, nat_le, List, [], ◌∷◌, length, Option, Some, None, Bool, true, false, Result, Ok, Err, is_some, cond, option_map, count_by, if◌then◌else◌}
 use Rattle.std.specs.Cmp.Lexicographic.{pointwise}
 use Rattle.std.specs.Str.{bytes_eq}
 use Rattle.desk_base.specs.Names.{Text}
@@ -7,10 +7,10 @@ use Rattle.desk_folders.specs.Contents.{Contents, File, files_below, paths_below
 use Rattle.desk_ledger.specs.declared.keeper.Header.{Header}
 use Rattle.desk_ledger.specs.Ledger.{Ledger}
 use Rattle.desk_report.specs.declared.status.Status.{Status}
-use Rattle.desk_report.specs.declared.status.Status.TheVariants.{Done, OtherRun, NotBuilt}
+use Rattle.desk_report.specs.declared.status.Status.TheVariants.{Done, Usage, NestedRoots, BadRules, OtherRun, NotBuilt}
 use Rattle.desk_run.specs.declared.TheConstants.{MOST, SIZE, LENGTH}
 use Rattle.desk_run.specs.Runs.{Run}
-use Rattle.desk_run.specs.Meaning.{run_of_words}
+use Rattle.desk_run.specs.Meaning.{roots_of_words, run_of_words}
 
 -- how many of the files go to a target
 abbrev pub goers : Run → Text → List File → ℕ
@@ -65,3 +65,18 @@ answer_of_run m l (Ok run) = or_else (files_answer run m) (or_else (other_run ru
 -- rules; too many files; a file that isn't built; another run's ledger; and else that all is done
 abbrev pub first_answer : List Text → Contents → Ledger → Status
 first_answer words m l = answer_of_run m l (run_of_words words m)
+
+-- what the causes of a status are, where nothing is told
+abbrev pub WordsCause : List Text → Status → Type 0
+WordsCause words Usage = roots_of_words words ≡ Err Usage
+WordsCause words (NestedRoots first second) = roots_of_words words ≡ Err (NestedRoots first second)
+WordsCause words _ = Unit {0}
+
+-- a status with which words, folders or ledger stand against a run
+abbrev pub is_answer : Status → Bool
+is_answer Usage = true
+is_answer (NestedRoots first second) = true
+is_answer (BadRules fault) = true
+is_answer (OtherRun kept wanted) = true
+is_answer (NotBuilt path) = true
+is_answer _ = false

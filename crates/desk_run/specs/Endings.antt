@@ -1,5 +1,5 @@
 -- How a run ends.
-use Rattle.std.specs.Prelude.{◌≡◌, ◌⊎◌, ℕ, ◌≤◌, ◌++◌, List, [], length, Option, Some, None, Bool, true, false, Result, Ok, Err, IfSome, option_map}
+use Rattle.std.specs.Prelude.{◌≡◌, ◌⊎◌, ℕ, ◌≤◌, ◌++◌, List, [], length, Option, Some, None, Bool, true, false, Result, Ok, Err, IfSome, option_map, map}
 use Rattle.desk_base.specs.Names.{Text}
 use Rattle.desk_folders.specs.Contents.{Contents, File, Rose, files_below}
 use Rattle.desk_ledger.specs.declared.keeper.Header.{Header}
@@ -9,15 +9,17 @@ use Rattle.desk_report.specs.declared.status.Status.TheVariants.{Done, Memory, F
 use Rattle.desk_report.specs.Written.{WritesFront, writing}
 use Rattle.desk_run.specs.declared.planning.Work.{Work}
 use Rattle.desk_run.specs.declared.roots.Roots.{Roots}
+use Rattle.desk_run.specs.declared.files.Input.{Input}
 use Rattle.desk_run.specs.declared.stops.Halt.{Halt}
 use Rattle.desk_run.specs.declared.stops.Halt.TheVariants as halt
 use Rattle.desk_run.specs.Runs.{Run, TargetsApart}
 use Rattle.desk_run.specs.Works.{works_of, files_after, ledger_after}
 use Rattle.desk_run.specs.Truth.{IsOurs}
-use Rattle.desk_run.specs.Stops.{StoppedAt}
+use Rattle.desk_run.specs.Inputs.{input_of}
+use Rattle.desk_run.specs.Stops.{StoppedAt, status_of_halt}
 use Rattle.desk_run.specs.Stands.{Unchanged, Between, Within}
 use Rattle.desk_run.specs.Meaning.{roots_of_words, run_of_words}
-use Rattle.desk_run.specs.Answers.{files_answer, other_run, first_answer}
+use Rattle.desk_run.specs.Answers.{files_answer, other_run, first_answer, is_answer, WordsCause}
 
 -- where folders and keeper tell their contents
 abbrev pub WhereTold : Option Contents → Option Ledger → (Contents → Ledger → Type 0) → Type 0
@@ -36,6 +38,11 @@ pub record IsReady (words : List Text) (m : Contents) (run : Run) : Type 0 where
   pub is : run_of_words words m ≡ Ok run
   pub built : files_answer run m ≡ None
   pub apart : TargetsApart run m
+
+-- the files of a run, none of which stands against it
+pub record AreInputs (run : Run) (m : Contents) (inputs : List Input) : Type 0 where
+  pub are : inputs ≡ map (input_of run) (files_below run.from m)
+  pub built : files_answer run m ≡ None
 
 -- the works are planned, and nothing stands against the run
 pub record Planned (words : List Text) (m : Contents) (l : Ledger) (to : Text) (header : Header) (works : List Work) : Type 0 where
@@ -57,21 +64,6 @@ pub record SetsHeader (words : List Text) (f : Option Contents) (k k' : Option L
 -- the ledger is as before, or has this run's header
 abbrev pub LedgerEarly : List Text → Option Contents → Option Ledger → Option Ledger → Type 0
 LedgerEarly words f k k' = (k' ≡ k) ⊎ SetsHeader words f k k'
-
--- what the causes of a status are, where nothing is told
-abbrev pub WordsCause : List Text → Status → Type 0
-WordsCause words Usage = roots_of_words words ≡ Err Usage
-WordsCause words (NestedRoots first second) = roots_of_words words ≡ Err (NestedRoots first second)
-WordsCause words _ = Unit {0}
-
--- a status with which words, folders or ledger stand against a run
-abbrev pub is_answer : Status → Bool
-is_answer Usage = true
-is_answer (NestedRoots first second) = true
-is_answer (BadRules fault) = true
-is_answer (OtherRun kept wanted) = true
-is_answer (NotBuilt path) = true
-is_answer _ = false
 
 -- it is the first answer
 pub record IsAnswer (words : List Text) (f : Option Contents) (k : Option Ledger) (status : Status) : Type 0 where
@@ -174,6 +166,10 @@ NamedByRoots old new status (Err fault) = new ≡ old
 
 abbrev pub Named : List Text → Option Text → Option Text → Status → Type 0
 Named words old new status = NamedByRoots old new status (roots_of_words words)
+
+-- the name that is attached where a run halts early
+abbrev pub NamedEarly : List Text → Option Text → Option Text → Halt → Type 0
+NamedEarly words old new halt = Named words old new (status_of_halt halt)
 
 -- the ledger of these words is attached
 pub record IsAttached (words : List Text) (name : Option Text) : Type 0 where

@@ -1,9 +1,9 @@
 -- Where the steps before the first write may halt.
-use Rattle.std.specs.Prelude.{◌≡◌, ◌⊎◌, ◌<◌, ℕ, List, length, Option, Some, None, Bool, true, false, Result, Err, IfSome}
+use Rattle.std.specs.Prelude.{◌≡◌, ◌⊎◌, ◌<◌, ℕ, List, length, Option, Some, None, Bool, true, false, Result, Err, IfSome, option_map}
 use Rattle.desk_base.specs.Names.{Text}
 use Rattle.desk_folders.specs.Contents.{Contents, File, Rose, files_below, paths_below}
 use Rattle.desk_ledger.specs.declared.keeper.Header.{Header}
-use Rattle.desk_ledger.specs.Ledger.{Ledger}
+use Rattle.desk_ledger.specs.Ledger.{Ledger, with_header}
 use Rattle.desk_report.specs.declared.status.Status.{Status}
 use Rattle.desk_report.specs.declared.status.Status.TheVariants.{BadRules, NotBuilt, OtherRun}
 use Rattle.desk_rules.specs.Rules.{Rules}
@@ -16,7 +16,8 @@ use Rattle.desk_run.specs.declared.words.Task.{Task}
 use Rattle.desk_run.specs.declared.TheConstants.{MOST}
 use Rattle.desk_run.specs.Runs.{Run}
 use Rattle.desk_run.specs.Meaning.{roots_of_task, roots_of_words, ruled}
-use Rattle.desk_run.specs.Answers.{files_answer, other_run, some_answer}
+use Rattle.desk_run.specs.Answers.{files_answer, first_answer, other_run, some_answer, is_answer, WordsCause}
+use Rattle.desk_run.specs.Truth.{IsOurs}
 use Rattle.desk_run.specs.Sources.{is_fit, first_unfit}
 
 -- at a task's roots
@@ -123,3 +124,26 @@ HaltsAtLedger ours told k k' _ = ⊥
 abbrev pub NamedAtHalt : Option Text → Option Text → Text → Halt → Type 0
 NamedAtHalt old new name (Answer status) = new ≡ Some name
 NamedAtHalt old new name _ = (new ≡ old) ⊎ (new ≡ Some name)
+
+-- before the ledger is opened
+pub record GatheringAnswer (words : List Text) (told : Option Contents) (status : Status) : Type 0 where
+  pub is : is_answer status ≡ true
+  pub cause : WordsCause words status
+  pub first : IfSome told (λ m. (l : Ledger) → first_answer words m l ≡ status)
+
+abbrev pub HaltsGathering : List Text → Option Contents → ℕ → ℕ → Halt → Type 0
+HaltsGathering words told f f' Memory = Unit {0}
+HaltsGathering words told f f' Folders = Rose f f'
+HaltsGathering words told f f' (Answer status) = GatheringAnswer words told status
+HaltsGathering words told f f' _ = ⊥
+
+-- the ledger is as before, or has this header, where it had none or the same
+abbrev pub LedgerOwn : Header → Option Ledger → Option Ledger → Type 0
+LedgerOwn header k k' = (k' ≡ k) ⊎ ((k' ≡ option_map (with_header header) k) × IfSome k (λ l. IsOurs header l.header))
+
+-- where the ledger is opened and the works are planned
+abbrev pub HaltsPlan : Header → Option Ledger → Option Ledger → ℕ → ℕ → Halt → Type 0
+HaltsPlan header k k' k1 k2 Memory = LedgerOwn header k k'
+HaltsPlan header k k' k1 k2 LedgerHalt = LedgerOwn header k k' × Rose k1 k2
+HaltsPlan header k k' k1 k2 (Answer status) = (k' ≡ k) × (is_ledger_status status ≡ true) × IfSome k (λ l. other_run header l.header ≡ Some status)
+HaltsPlan header k k' k1 k2 _ = ⊥

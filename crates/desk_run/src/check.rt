@@ -43,7 +43,9 @@ fn is_fit(alloc: Global, rules: &RuleSet, tally: &Tally, source: &Source) -> Res
     if !is_short(&source.path) || !is_short(&source.target) {
         return Ok(false);
     }
-    Ok(bytes_have_image(alloc, rules, source)? && !tally.is_shared(&source.target))
+    let has = bytes_have_image(alloc, rules, source)?;
+    let shared = tally.is_shared(&source.target);
+    Ok(has && !shared)
 }
 
 /// A file that was read as one that is built, or the answer that it isn't.

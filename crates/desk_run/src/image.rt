@@ -1,12 +1,13 @@
 //! The image of a file.
 
-ghost use Rattle.std.specs.Prelude.{◌≡◌, ◌≤◌, IfOk, length, is_some};
-ghost use Rattle.desk_run.specs.Images.{image, target};
+ghost use Rattle.std.specs.Prelude.{◌≡◌, IfOk, IsTrue, is_some};
 ghost use Rattle.desk_base.specs.Paths.{is_relative_path};
-ghost use Rattle.std.specs.Prelude.{IsTrue};
+ghost use Rattle.desk_run.specs.Images.{image, service_image, target};
 
 use crate::files::Content;
 use desk_base::{Memory, Text};
+use desk_metainf::{MetaFault, migrate_service};
+use desk_paths::{Kind, kind_of, target};
 use desk_report::Detail;
 use desk_rules::RuleSet;
 use std::alloc::Global;
@@ -18,14 +19,33 @@ pub struct Image {
     pub detail: Detail,
 }
 
-pub(crate) fn target(alloc: Global, path: &[u8], rules: &RuleSet) -> Result<Text, Memory>
+/// Where a file goes.
+#[tactic(auto, unfolding(crate::specs::Images::target))]
+pub(crate) fn target_of(alloc: Global, rules: &RuleSet, path: &Text) -> Result<Text, Memory>
     ensures target { IfOk result (λ found. found ≡ target rules.now path.now) }
     ensures relative { IfOk result (λ found. IsTrue (is_relative_path path.now) → IsTrue (is_relative_path found)) }
 {
-    Text::from_bytes(alloc, path)
+    target(alloc, path.as_bytes(), rules)
+}
+
+/// The image of a service file; none where it has a bad line.
+fn service_image(alloc: Global, rules: &RuleSet, bytes: &Content) -> Result<Option<Image>, Memory>
+    ensures { IfOk result (λ found. found ≡ service_image rules.now bytes.now) }
+{
+    match migrate_service(alloc, bytes.as_bytes(), rules) {
+        Ok(changed) => Ok(Some(Image {
+            bytes: changed.bytes,
+            detail: Detail::Service {
+                changed: changed.changed,
+            },
+        })),
+        Err(MetaFault::BadLine { .. }) => Ok(None),
+        Err(MetaFault::Memory) => Err(Memory),
+    }
 }
 
 /// The image of a file, by its path; none where its form isn't built. A copy keeps its bytes.
+#[tactic(auto, unfolding(crate::specs::Images::image))]
 pub(crate) fn image_of(
     alloc: Global,
     rules: &RuleSet,
@@ -34,10 +54,18 @@ pub(crate) fn image_of(
 ) -> Result<Option<Image>, Memory>
     ensures { IfOk result (λ found. found ≡ image rules.now path.now bytes) }
 {
-    Ok(None)
+    match kind_of(path.as_bytes()) {
+        Some(Kind::Service) => service_image(alloc, rules, &bytes),
+        Some(Kind::Other) => Ok(Some(Image {
+            bytes: bytes.into_text(),
+            detail: Detail::Copy,
+        })),
+        None => Ok(None),
+    }
 }
 
 /// Whether a file has an image, by its path.
+#[tactic(auto, unfolding(crate::specs::Images::image))]
 pub(crate) fn has_image(
     alloc: Global,
     rules: &RuleSet,
@@ -46,5 +74,9 @@ pub(crate) fn has_image(
 ) -> Result<bool, Memory>
     ensures { IfOk result (λ has. has ≡ is_some (image rules.now path.now bytes.now)) }
 {
-    Ok(false)
+    match kind_of(path.as_bytes()) {
+        Some(Kind::Service) => Ok(service_image(alloc, rules, bytes)?.is_some()),
+        Some(Kind::Other) => Ok(true),
+        None => Ok(false),
+    }
 }

@@ -3,6 +3,8 @@
 
 mod check;
 mod files;
+mod finish;
+mod gather;
 mod image;
 mod opening;
 mod planning;

@@ -11,7 +11,7 @@ ghost use Rattle.desk_run.specs.Runs.{AllRelative};
 ghost use Rattle.desk_run.specs.Halts.{HaltsReading, HaltsAtSources, IsNotBuilt};
 
 use crate::files::{Content, Source};
-use crate::image::target;
+use crate::image::target_of;
 use crate::roots::Roots;
 use crate::rules::Ruled;
 use crate::stops::Halt;
@@ -105,7 +105,7 @@ fn read_source<F: Folders>(
     ensures err { IfErr result (HaltsReading (F.faults folders.old) (F.faults folders.new)) }
     ensures counts { F.faults folders.old ≤ F.faults folders.new }
 {
-    let target = target(alloc, path.as_bytes(), &ruled.rules)?;
+    let target = target_of(alloc, &ruled.rules, path)?;
     let bytes = read_below(alloc, folders, &names.from, path)?;
     let path = copy_of(alloc, path)?;
     Ok(Source {

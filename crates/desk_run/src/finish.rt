@@ -1,0 +1,130 @@
+//! The two halves of a run: up to the plan, and from it on.
+
+ghost use Rattle.std.specs.Prelude.{◌≡◌, ◌≤◌, ◌<◌, ◌^◌, [], None, Some, IfOk, OnOk, IfErr, IfSome, option_map, IsSome, length, map};
+ghost use Rattle.desk_folders.specs.Contents.{Rose};
+ghost use Rattle.desk_ledger.specs.Ledger.{with_header};
+ghost use Rattle.desk_run.specs.Endings.{Finishes, HaltsEarly, HasCauses, IsAttached, IsTold, NamedEarly, Planned, Reported, WhereTold};
+ghost use Rattle.desk_run.specs.Halts.{HaltsPlan, NamedAtHalt};
+ghost use Rattle.desk_run.specs.Images.{image};
+ghost use Rattle.desk_run.specs.Inputs.{work_of_input};
+ghost use Rattle.desk_run.specs.Reports.{report_of_works};
+ghost use Rattle.desk_run.specs.Roots.{AreRoots, IsPathRoot};
+ghost use Rattle.desk_run.specs.Runs.{AllRelative};
+ghost use Rattle.desk_run.specs.Truth.{IsOurs};
+ghost use Rattle.desk_run.specs.Answers.{other_run};
+
+use crate::gather::{Gathered, gather};
+use crate::opening::open_ledger;
+use crate::planning::{Work, plan_works};
+use crate::report::write_report;
+use crate::stops::{Halt, status_of_stop};
+use crate::write::write_all;
+use desk_base::Text;
+use desk_folders::Folders;
+use desk_ledger::{Header, Keeper};
+use desk_report::{Sink, Status};
+use std::alloc::Global;
+
+/// What a run is about to do: the header of its ledger, the root that it writes to, and its works.
+#[derive(Debug, Drop)]
+pub struct Prepared {
+    pub header: Header,
+    pub to: Text,
+    pub works: Vec<Work>,
+}
+
+/// Opens the ledger and plans the works.
+fn plan<K: Keeper>(alloc: Global, keeper: &mut K, gathered: Gathered) -> Result<Prepared, Halt>
+    ensures header { IfOk result (λ p. p.header ≡ gathered.header) }
+    ensures to { IfOk result (λ p. p.to ≡ gathered.names.to) }
+    ensures works { IfOk result (λ p. IfSome (K.told keeper.old) (λ l. p.works.items ≡ map (work_of_input (image gathered.ruled.rules) l.rows) gathered.inputs.items)) }
+    ensures targets { IfOk result (λ p. map (λ work. work.target) p.works.items ≡ map (λ input. input.target) gathered.inputs.items) }
+    ensures ledger { OnOk result (K.told keeper.new ≡ option_map (with_header gathered.header) (K.told keeper.old)) }
+    ensures ours { OnOk result (IfSome (K.told keeper.old) (λ l. IsOurs gathered.header l.header)) }
+    ensures other { OnOk result (IfSome (K.told keeper.old) (λ l. other_run gathered.header l.header ≡ None)) }
+    ensures attached { OnOk result (K.attached keeper.new ≡ Some gathered.names.ledger) }
+    ensures named { IfErr result (NamedAtHalt (K.attached keeper.old) (K.attached keeper.new) gathered.names.ledger) }
+    ensures err { IfErr result (HaltsPlan gathered.header (K.told keeper.old) (K.told keeper.new) (K.faults keeper.old) (K.faults keeper.new)) }
+    ensures counts { K.faults keeper.old ≤ K.faults keeper.new }
+{
+    let Gathered {
+        names,
+        ruled,
+        header,
+        inputs,
+    } = gathered;
+    open_ledger(alloc, keeper, &names.ledger, &header)?;
+    let works = plan_works(alloc, keeper, &ruled.rules, inputs)?;
+    Ok(Prepared {
+        header,
+        to: names.to,
+        works,
+    })
+}
+
+/// Reads words, rules and files, opens the ledger and plans the works.
+pub(crate) fn prepare<F: Folders, K: Keeper>(
+    alloc: Global,
+    words: &[Text],
+    folders: &mut F,
+    keeper: &mut K,
+) -> Result<Prepared, Halt>
+    ensures folders { F.told folders.new ≡ F.told folders.old }
+    ensures ledger { IfOk result (λ p. K.told keeper.new ≡ option_map (with_header p.header) (K.told keeper.old)) }
+    ensures planned { IfOk result (λ p. WhereTold (F.told folders.old) (K.told keeper.old) (λ m l. Planned words.now m l p.to p.header p.works.items)) }
+    ensures root { IfOk result (λ p. IsPathRoot p.to) }
+    ensures relative { IfOk result (λ p. AllRelative (map (λ work. work.target) p.works.items)) }
+    ensures few { IfOk result (λ p. length p.works.items < 2 ^ 32) }
+    ensures attached { IfOk result (λ _. IsAttached words.now (K.attached keeper.new)) }
+    ensures named { IfErr result (NamedEarly words.now (K.attached keeper.old) (K.attached keeper.new)) }
+    ensures err { IfErr result (HaltsEarly words.now (F.told folders.old) (K.told keeper.old) (K.told keeper.new)
+        (F.faults folders.old) (F.faults folders.new) (K.faults keeper.old) (K.faults keeper.new)) }
+    ensures counts_f { F.faults folders.old ≤ F.faults folders.new }
+    ensures counts_k { K.faults keeper.old ≤ K.faults keeper.new }
+{
+    match gather(alloc, words, folders) {
+        Ok(gathered) => plan(alloc, keeper, gathered),
+        Err(halt) => Err(halt),
+    }
+}
+
+/// Reports what was done.
+fn tell<O: Sink>(out: &mut O, works: Vec<Work>) -> Status
+    requires { length works.items < 2 ^ 32 }
+    ensures output { Reported (report_of_works works.items) (O.told out.old) (O.told out.new) result }
+    ensures only { IsTold result }
+    ensures cause { HasCauses [] result 0 0 0 0 (O.faults out.old) (O.faults out.new) }
+    ensures counts { O.faults out.old ≤ O.faults out.new }
+{
+    match write_report(out, works) {
+        Ok(()) => Status::Done,
+        Err(_) => Status::OutputFault,
+    }
+}
+
+/// Writes the files and the report.
+pub(crate) fn finish<F: Folders, K: Keeper, O: Sink>(
+    alloc: Global,
+    folders: &mut F,
+    keeper: &mut K,
+    out: &mut O,
+    prepared: Prepared,
+) -> Status
+    requires attached { IsSome (K.attached keeper.old) }
+    requires root { IsPathRoot prepared.to }
+    requires relative { AllRelative (map (λ work. work.target) prepared.works.items) }
+    requires few { length prepared.works.items < 2 ^ 32 }
+    ensures finishes { Finishes prepared.to prepared.works.items (F.told folders.old) (F.told folders.new) (K.told keeper.old) (K.told keeper.new) result }
+    ensures output { Reported (report_of_works prepared.works.items) (O.told out.old) (O.told out.new) result }
+    ensures attached { K.attached keeper.new ≡ K.attached keeper.old }
+    ensures causes { HasCauses [] result (F.faults folders.old) (F.faults folders.new) (K.faults keeper.old) (K.faults keeper.new) (O.faults out.old) (O.faults out.new) }
+    ensures counts_f { F.faults folders.old ≤ F.faults folders.new }
+    ensures counts_k { K.faults keeper.old ≤ K.faults keeper.new }
+    ensures counts_o { O.faults out.old ≤ O.faults out.new }
+{
+    let Prepared { to, works, .. } = prepared;
+    match write_all(alloc, folders, keeper, &to, &works) {
+        Ok(()) => tell(out, works),
+        Err(stopped) => status_of_stop(stopped.why, stopped.done),
+    }
+}

@@ -1,0 +1,90 @@
+//! What a run goes by: its words, its rules and its files, read before the ledger is opened.
+
+ghost use Rattle.std.specs.Prelude.{◌≡◌, ◌≤◌, ◌<◌, ◌^◌, Ok, IfOk, IfErr, IfSome, length, map};
+ghost use Rattle.desk_folders.specs.Contents.{Rose, files_below};
+ghost use Rattle.desk_run.specs.Endings.{AreInputs};
+ghost use Rattle.desk_run.specs.Halts.{HaltsAtFiles, HaltsGathering};
+ghost use Rattle.desk_run.specs.Meaning.{roots_of_words, run_of, run_of_words};
+ghost use Rattle.desk_run.specs.Roots.{AreRoots};
+ghost use Rattle.desk_run.specs.Runs.{AllRelative};
+
+use crate::check::check_all;
+use crate::files::Input;
+use crate::roots::{Roots, roots_of_words};
+use crate::rules::{Ruled, read_rules};
+use crate::sources::{copy_of, read_sources};
+use crate::stops::Halt;
+use desk_base::{Memory, Text};
+use desk_folders::Folders;
+use desk_ledger::Header;
+use std::alloc::Global;
+
+/// What a run goes by: its roots, its rules, its header, and its files.
+#[derive(Drop)]
+pub(crate) struct Gathered {
+    pub(crate) names: Roots,
+    pub(crate) ruled: Ruled,
+    pub(crate) header: Header,
+    pub(crate) inputs: Vec<Input>,
+}
+
+/// The header of a run.
+fn header_of(alloc: Global, names: &Roots, ruled: &Ruled) -> Result<Header, Memory>
+    ensures { IfOk result (λ header. header ≡ (run_of names.now ruled.now).header) }
+{
+    let from = copy_of(alloc, &names.from)?;
+    let to = copy_of(alloc, &names.to)?;
+    Ok(Header {
+        from,
+        to,
+        rules: ruled.digest,
+    })
+}
+
+/// Reads the files of a run, and checks that each is built.
+fn read_inputs<F: Folders>(
+    alloc: Global,
+    folders: &mut F,
+    names: &Roots,
+    ruled: &Ruled,
+) -> Result<Vec<Input>, Halt>
+    requires { AreRoots names.now }
+    ensures told { F.told folders.new ≡ F.told folders.old }
+    ensures inputs { IfOk result (λ inputs. IfSome (F.told folders.old) (λ m. AreInputs (run_of names.now ruled.now) m inputs.items)) }
+    ensures relative { IfOk result (λ inputs. AllRelative (map (λ input. input.target) inputs.items)) }
+    ensures few { IfOk result (λ inputs. length inputs.items < 2 ^ 32) }
+    ensures err { IfErr result (HaltsAtFiles (run_of names.now ruled.now) (F.told folders.old) (F.faults folders.old) (F.faults folders.new)) }
+    ensures counts { F.faults folders.old ≤ F.faults folders.new }
+{
+    let sources = read_sources(alloc, folders, names, ruled)?;
+    check_all(alloc, &ruled.rules, sources)
+}
+
+/// Reads words, rules and files.
+pub(crate) fn gather<F: Folders>(
+    alloc: Global,
+    words: &[Text],
+    folders: &mut F,
+) -> Result<Gathered, Halt>
+    ensures told { F.told folders.new ≡ F.told folders.old }
+    ensures names { IfOk result (λ g. roots_of_words words.now ≡ Ok g.names) }
+    ensures sound { IfOk result (λ g. AreRoots g.names) }
+    ensures header { IfOk result (λ g. g.header ≡ (run_of g.names g.ruled).header) }
+    ensures run { IfOk result (λ g. IfSome (F.told folders.old) (λ m. run_of_words words.now m ≡ Ok (run_of g.names g.ruled))) }
+    ensures inputs { IfOk result (λ g. IfSome (F.told folders.old) (λ m. AreInputs (run_of g.names g.ruled) m g.inputs.items)) }
+    ensures relative { IfOk result (λ g. AllRelative (map (λ input. input.target) g.inputs.items)) }
+    ensures few { IfOk result (λ g. length g.inputs.items < 2 ^ 32) }
+    ensures err { IfErr result (HaltsGathering words.now (F.told folders.old) (F.faults folders.old) (F.faults folders.new)) }
+    ensures counts { F.faults folders.old ≤ F.faults folders.new }
+{
+    let names = roots_of_words(alloc, words)?;
+    let ruled = read_rules(alloc, folders, &names.rules)?;
+    let inputs = read_inputs(alloc, folders, &names, &ruled)?;
+    let header = header_of(alloc, &names, &ruled)?;
+    Ok(Gathered {
+        names,
+        ruled,
+        header,
+        inputs,
+    })
+}
