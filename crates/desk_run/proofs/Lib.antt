@@ -11,3 +11,5 @@ pub mod Writing
 pub mod RuleFolder
 pub mod Checking
 pub mod Reporting
+pub mod Gathering
+pub mod Preparing

@@ -1,22 +1,24 @@
 -- Where the steps before the first write may halt.
-use Rattle.std.specs.Prelude.{◌≡◌, ◌⊎◌, ◌<◌, ℕ, List, length, Option, Some, None, Bool, true, false, Result, Err, IfSome, option_map}
+use Rattle.std.specs.Prelude.{◌≡◌, ◌⊎◌, ◌<◌, ℕ, List, length, Option, Some, None, Bool, true, false, Result, Ok, Err, IfSome, option_map}
 use Rattle.desk_base.specs.Names.{Text}
 use Rattle.desk_folders.specs.Contents.{Contents, File, Rose, files_below, paths_below}
 use Rattle.desk_ledger.specs.declared.keeper.Header.{Header}
 use Rattle.desk_ledger.specs.Ledger.{Ledger, with_header}
 use Rattle.desk_report.specs.declared.status.Status.{Status}
-use Rattle.desk_report.specs.declared.status.Status.TheVariants.{BadRules, NotBuilt, OtherRun}
+use Rattle.desk_report.specs.declared.status.Status.TheVariants.{Usage, NestedRoots, BadRules, NotBuilt, OtherRun}
 use Rattle.desk_rules.specs.Rules.{Rules}
 use Rattle.desk_rules.specs.declared.RuleFault.{RuleFault}
 use Rattle.desk_run.specs.declared.image.Image.{Image}
 use Rattle.desk_run.specs.declared.files.Source.{Source}
 use Rattle.desk_run.specs.declared.stops.Halt.{Halt}
 use Rattle.desk_run.specs.declared.stops.Halt.TheVariants.{Memory, Folders, Ledger as LedgerHalt, Answer}
+use Rattle.desk_run.specs.declared.roots.Roots.{Roots}
+use Rattle.desk_run.specs.declared.rules.Ruled.{Ruled}
 use Rattle.desk_run.specs.declared.words.Task.{Task}
 use Rattle.desk_run.specs.declared.TheConstants.{MOST}
 use Rattle.desk_run.specs.Runs.{Run}
-use Rattle.desk_run.specs.Meaning.{roots_of_task, roots_of_words, ruled}
-use Rattle.desk_run.specs.Answers.{files_answer, first_answer, other_run, some_answer, is_answer, WordsCause}
+use Rattle.desk_run.specs.Meaning.{roots_of_task, roots_of_words, ruled, run_of}
+use Rattle.desk_run.specs.Answers.{files_answer, first_answer, other_run, some_answer, WordsCause}
 use Rattle.desk_run.specs.Truth.{IsOurs}
 use Rattle.desk_run.specs.Sources.{is_fit, first_unfit}
 
@@ -125,9 +127,29 @@ abbrev pub NamedAtHalt : Option Text → Option Text → Text → Halt → Type 
 NamedAtHalt old new name (Answer status) = new ≡ Some name
 NamedAtHalt old new name _ = (new ≡ old) ⊎ (new ≡ Some name)
 
+-- what stands against a run by the rules of its folder, or by its files
+abbrev pub reading_answer : Roots → Contents → Result Ruled Status → Option Status
+reading_answer names m (Err status) = Some status
+reading_answer names m (Ok ruled) = files_answer (run_of names ruled) m
+
+-- where rules and files are read
+abbrev pub HaltsReadingAll : Roots → Option Contents → ℕ → ℕ → Halt → Type 0
+HaltsReadingAll names told f f' Memory = Unit {0}
+HaltsReadingAll names told f f' Folders = Rose f f'
+HaltsReadingAll names told f f' (Answer status) = (is_rules_status status ≡ true) × IfSome told (λ m. reading_answer names m (ruled names.rules (files_below names.rules m)) ≡ Some status)
+HaltsReadingAll names told f f' _ = ⊥
+
+-- a status with which words or folders stand against a run
+abbrev pub is_early_answer : Status → Bool
+is_early_answer Usage = true
+is_early_answer (NestedRoots first second) = true
+is_early_answer (BadRules fault) = true
+is_early_answer (NotBuilt path) = true
+is_early_answer _ = false
+
 -- before the ledger is opened
 pub record GatheringAnswer (words : List Text) (told : Option Contents) (status : Status) : Type 0 where
-  pub is : is_answer status ≡ true
+  pub is : is_early_answer status ≡ true
   pub cause : WordsCause words status
   pub first : IfSome told (λ m. (l : Ledger) → first_answer words m l ≡ status)
 

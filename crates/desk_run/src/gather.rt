@@ -3,8 +3,8 @@
 ghost use Rattle.std.specs.Prelude.{◌≡◌, ◌≤◌, ◌<◌, ◌^◌, Ok, IfOk, IfErr, IfSome, length, map};
 ghost use Rattle.desk_folders.specs.Contents.{Rose, files_below};
 ghost use Rattle.desk_run.specs.Endings.{AreInputs};
-ghost use Rattle.desk_run.specs.Halts.{HaltsAtFiles, HaltsGathering};
-ghost use Rattle.desk_run.specs.Meaning.{roots_of_words, run_of, run_of_words};
+ghost use Rattle.desk_run.specs.Halts.{HaltsAtFiles, HaltsGathering, HaltsReadingAll};
+ghost use Rattle.desk_run.specs.Meaning.{roots_of_words, ruled, run_of, run_of_words};
 ghost use Rattle.desk_run.specs.Roots.{AreRoots};
 ghost use Rattle.desk_run.specs.Runs.{AllRelative};
 
@@ -56,8 +56,40 @@ fn read_inputs<F: Folders>(
     ensures err { IfErr result (HaltsAtFiles (run_of names.now ruled.now) (F.told folders.old) (F.faults folders.old) (F.faults folders.new)) }
     ensures counts { F.faults folders.old ≤ F.faults folders.new }
 {
-    let sources = read_sources(alloc, folders, names, ruled)?;
-    check_all(alloc, &ruled.rules, sources)
+    match read_sources(alloc, folders, names, ruled) {
+        Ok(sources) => check_all(alloc, &ruled.rules, sources),
+        Err(halt) => Err(halt),
+    }
+}
+
+/// Reads rules and files, by the roots of words.
+fn gather_by<F: Folders>(alloc: Global, folders: &mut F, names: Roots) -> Result<Gathered, Halt>
+    requires { AreRoots names }
+    ensures told { F.told folders.new ≡ F.told folders.old }
+    ensures names { IfOk result (λ g. g.names ≡ names) }
+    ensures header { IfOk result (λ g. g.header ≡ (run_of names g.ruled).header) }
+    ensures rules { IfOk result (λ g. IfSome (F.told folders.old) (λ m. ruled names.rules (files_below names.rules m) ≡ Ok g.ruled)) }
+    ensures inputs { IfOk result (λ g. IfSome (F.told folders.old) (λ m. AreInputs (run_of names g.ruled) m g.inputs.items)) }
+    ensures relative { IfOk result (λ g. AllRelative (map (λ input. input.target) g.inputs.items)) }
+    ensures few { IfOk result (λ g. length g.inputs.items < 2 ^ 32) }
+    ensures err { IfErr result (HaltsReadingAll names (F.told folders.old) (F.faults folders.old) (F.faults folders.new)) }
+    ensures counts { F.faults folders.old ≤ F.faults folders.new }
+{
+    let ruled = match read_rules(alloc, folders, &names.rules) {
+        Ok(ruled) => ruled,
+        Err(halt) => return Err(halt),
+    };
+    let inputs = match read_inputs(alloc, folders, &names, &ruled) {
+        Ok(inputs) => inputs,
+        Err(halt) => return Err(halt),
+    };
+    let header = header_of(alloc, &names, &ruled)?;
+    Ok(Gathered {
+        names,
+        ruled,
+        header,
+        inputs,
+    })
 }
 
 /// Reads words, rules and files.
@@ -77,14 +109,8 @@ pub(crate) fn gather<F: Folders>(
     ensures err { IfErr result (HaltsGathering words.now (F.told folders.old) (F.faults folders.old) (F.faults folders.new)) }
     ensures counts { F.faults folders.old ≤ F.faults folders.new }
 {
-    let names = roots_of_words(alloc, words)?;
-    let ruled = read_rules(alloc, folders, &names.rules)?;
-    let inputs = read_inputs(alloc, folders, &names, &ruled)?;
-    let header = header_of(alloc, &names, &ruled)?;
-    Ok(Gathered {
-        names,
-        ruled,
-        header,
-        inputs,
-    })
+    match roots_of_words(alloc, words) {
+        Ok(names) => gather_by(alloc, folders, names),
+        Err(halt) => Err(halt),
+    }
 }

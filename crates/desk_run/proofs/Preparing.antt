@@ -1,0 +1,269 @@
+-- From what was gathered and planned to a run that is ready.
+use Rattle.std.proofs.Common.{◌≡◌, ◌≢◌, ◌⊎◌, inl, inr, ℕ, ◌+◌, ◌<◌, ◌≤◌, ◌^◌, Bool, true, false, List, [], ◌∷◌, ◌++◌, length, Option, Some, None, refl, sym, ap, ◌∙◌, subst, cond, map, arith, Result, Ok, Err, IfOk, IfErr, IfSome, OnOk, is_some, zero, suc, zero-add, append_assoc, Vec, Global}
+use Rattle.std.specs.Prelude.{◌&&◌, nat_le, count_by, if◌then◌else◌, option_map}
+use Rattle.std.specs.Str.{bytes_eq}
+use Rattle.std.proofs.lemmas.Bool.{and_parts, and_from}
+use Rattle.std.proofs.lemmas.List.{length-map}
+use Rattle.std.proofs.lemmas.List.Sums.{sum_by-append}
+use Rattle.std.proofs.lemmas.Slice.Eq.{bytes_eq-Decides}
+use Rattle.desk_base.specs.Names.{Text}
+use Rattle.desk_folders.specs.Contents.{Contents, File, Rose, files_below, paths_below}
+use Rattle.desk_ledger.specs.declared.keeper.Header.{Header}
+use Rattle.desk_ledger.specs.Ledger.{Ledger, Rows, with_header}
+use Rattle.desk_report.specs.declared.status.Status.{Status}
+use Rattle.desk_report.specs.declared.status.Status.TheVariants.{Done, Memory, FolderFault, LedgerFault, OutputFault, Usage, NestedRoots, BadRules, OtherRun, NotBuilt}
+use Rattle.desk_run.specs.declared.files.Input.{Input}
+use Rattle.desk_run.specs.declared.finish.Prepared.{Prepared}
+use Rattle.desk_run.specs.declared.image.Image.{Image}
+use Rattle.desk_run.specs.declared.planning.Work.{Work}
+use Rattle.desk_run.specs.declared.roots.Roots.{Roots}
+use Rattle.desk_run.specs.declared.rules.Ruled.{Ruled}
+use Rattle.desk_run.specs.declared.stops.Halt.{Halt}
+use Rattle.desk_run.specs.declared.stops.Halt.TheVariants as halt
+use Rattle.desk_run.specs.declared.TheConstants.{SIZE}
+use Rattle.desk_run.specs.Meaning.{roots_of_words, run_of, run_of_words}
+use Rattle.desk_run.specs.Roots.{AreRoots}
+use Rattle.desk_run.specs.Runs.{Run, AllRelative, AllApart, Misses, TargetsApart, targets_of}
+use Rattle.desk_run.specs.Answers.{goers, is_short, is_built, first_unbuilt, some_answer, files_answer, or_else, other_run, first_answer, answer_of_run, is_answer, WordsCause}
+use Rattle.desk_run.specs.Inputs.{input_of, work_of_input}
+use Rattle.desk_run.specs.Works.{work_of, works_of}
+use Rattle.desk_run.specs.Truth.{IsOurs}
+use Rattle.desk_run.specs.Stops.{status_of_halt}
+use Rattle.desk_run.specs.Halts.{HaltsGathering, HaltsPlan, LedgerOwn, NamedAtHalt, is_ledger_status, is_early_answer}
+use Rattle.desk_run.specs.Endings.{AreInputs, IsReady, Planned, WhereTold, LedgerEarly, SetsHeader, IsAnswer, HaltsEarly, Named, NamedBy, NamedByRoots, NamedEarly}
+use Rattle.desk_run.proofs.Reading.{if_some, at_some}
+
+-- how many go to a target, file by file
+goers_cons : (run : Run) (t : Text) (file : File) (files : List File) → goers run t (file ∷ files) ≡ cond (bytes_eq (run.target file.path) t) 1 0 + goers run t files
+goers_cons run t file files =
+    sum_by-append (λ (f : File). cond (bytes_eq (run.target f.path) t) 1 0) (file ∷ []) files
+    ∙ ap (λ n. n + goers run t files) (zero-add (cond (bytes_eq (run.target file.path) t) 1 0))
+
+none_goes : (b : Bool) (n : ℕ) → cond b 1 0 + n ≡ 0 → (b ≡ false) × (n ≡ 0)
+none_goes true n e = absurd (omega arith)
+none_goes false n e = (refl, sym (zero-add n) ∙ e)
+
+misses_from_none : (run : Run) (t : Text) (files : List File) → goers run t files ≡ 0 → Misses t (targets_of run files)
+misses_from_none run t [] e = tt
+misses_from_none run t (file ∷ files) e =
+    let n = none_goes (bytes_eq (run.target file.path) t) (goers run t files) (sym (goers_cons run t file files) ∙ e) in
+    ((λ same. let h = (bytes_eq-Decides (run.target file.path) t).1 (sym same) in let k : true ≡ false = sym h ∙ n.0 in cc), misses_from_none run t files n.1)
+
+goers_at : (run : Run) (before rest : List File) (file : File) → 1 + goers run (run.target file.path) rest ≤ goers run (run.target file.path) (before ++ file ∷ rest)
+goers_at run before rest file =
+    let t = run.target file.path in
+    let split = sum_by-append (λ (f : File). cond (bytes_eq (run.target f.path) t) 1 0) before (file ∷ rest) in
+    let head : goers run t (file ∷ rest) ≡ 1 + goers run t rest = goers_cons run t file rest ∙ ap (λ b. cond b 1 0 + goers run t rest) ((bytes_eq-Decides t t).1 refl) in
+    let whole : goers run t (before ++ file ∷ rest) ≡ goers run t before + (1 + goers run t rest) = split ∙ ap (λ n. goers run t before + n) head in
+    omega arith
+
+le_true : (a b : ℕ) → nat_le a b ≡ true → a ≤ b
+le_true a b e = grind arith
+
+if_none : {X : Type 0} (b : Bool) (o : Option X) (x : X) → (if b then o else Some x) ≡ None → (b ≡ true) × (o ≡ None)
+if_none true o x e = (refl, e)
+if_none false o x e = cc
+
+last_of : (a b c d e : Bool) → a && (b && (c && (d && e))) ≡ true → e ≡ true
+last_of true true true true e h = h
+last_of true true true false e h = cc
+last_of true true false d e h = cc
+last_of true false c d e h = cc
+last_of false b c d e h = cc
+
+apart_suffix : (run : Run) (all before files : List File) → all ≡ before ++ files → first_unbuilt run all files ≡ None → AllApart (targets_of run files)
+apart_suffix run all before [] e h = tt
+apart_suffix run all before (file ∷ files) e h =
+    let n = if_none (is_built run all file) (first_unbuilt run all files) file.path h in
+    let t = run.target file.path in
+    let one : goers run t all ≤ 1 = le_true _ _ (last_of (is_short file.path) (is_short t) (nat_le (length file.bytes) SIZE) (is_some (run.image file.path file.bytes)) _ n.0) in
+    let more : 1 + goers run t files ≤ goers run t all = subst (λ (fs : List File). 1 + goers run t files ≤ goers run t fs) (sym e) (goers_at run before files file) in
+    (misses_from_none run t files (omega arith), apart_suffix run all (before ++ file ∷ []) files (e ∙ sym (append_assoc before (file ∷ []) files)) n.1)
+
+no_answer : (o : Option Text) → some_answer o ≡ None → o ≡ None
+no_answer None e = refl
+no_answer (Some path) e = cc
+
+built_apart : (run : Run) (m : Contents) → files_answer run m ≡ None → AllApart (targets_of run (files_below run.from m))
+built_apart run m e = apart_suffix run (files_below run.from m) [] (files_below run.from m) refl (by _ e) where
+  by : (b : Bool) → (if b then Some (NotBuilt run.from) else some_answer (first_unbuilt run (files_below run.from m) (files_below run.from m))) ≡ None → first_unbuilt run (files_below run.from m) (files_below run.from m) ≡ None
+  by true f = cc
+  by false f = no_answer _ f
+
+targets_inputs : (run : Run) (files : List File) → map (λ (i : Input). i.target) (map (input_of run) files) ≡ targets_of run files
+targets_inputs run [] = refl
+targets_inputs run (file ∷ files) = ap (λ ts. run.target file.path ∷ ts) (targets_inputs run files)
+
+-- a run that was gathered is ready
+pub ready : (words : List Text) (names : Roots) (r : Ruled) (m : Contents) (inputs : List Input) → AreRoots names → run_of_words words m ≡ Ok (run_of names r) → AreInputs (run_of names r) m inputs
+    → AllRelative (map (λ (i : Input). i.target) inputs) → IsReady words m (run_of names r)
+ready words names r m inputs sound is are rel = record {
+  is = is;
+  built = are.built;
+  apart = record {
+    roots = sound.apart;
+    relative = subst AllRelative (ap (map (λ (i : Input). i.target)) are.are ∙ targets_inputs (run_of names r) (files_below names.from m)) rel;
+    distinct = built_apart (run_of names r) m are.built;
+  };
+}
+
+works_inputs : (run : Run) (rows : Rows) (files : List File) → map (work_of_input run.image rows) (map (input_of run) files) ≡ works_of run rows files
+works_inputs run rows [] = refl
+works_inputs run rows (file ∷ files) = ap (λ ws. work_of run rows file ∷ ws) (works_inputs run rows files)
+
+-- what was planned
+pub planned : (words : List Text) (names : Roots) (r : Ruled) (header : Header) (inputs : List Input) (f0 : Option Contents) (k0 : Option Ledger) (p : Prepared) → AreRoots names → header ≡ (run_of names r).header
+    → IfSome f0 (λ m. run_of_words words m ≡ Ok (run_of names r)) → IfSome f0 (λ m. AreInputs (run_of names r) m inputs) → AllRelative (map (λ (i : Input). i.target) inputs)
+    → p.header ≡ header → p.to ≡ names.to → IfSome k0 (λ l. p.works.items ≡ map (work_of_input (run_of names r).image l.rows) inputs) → IfSome k0 (λ l. IsOurs header l.header)
+    → IfSome k0 (λ l. other_run header l.header ≡ None) → WhereTold f0 k0 (λ m l. Planned words m l p.to p.header p.works.items)
+planned words names r header inputs f0 k0 p sound same is are rel head to works ours other = λ m l ef ek.
+    let run = run_of names r in
+    let inputs_are = at_some (λ m. AreInputs run m inputs) f0 m ef are in
+    record {
+      run = run;
+      ready = ready words names r m inputs sound (at_some (λ m. run_of_words words m ≡ Ok run) f0 m ef is) inputs_are rel;
+      to_is = to;
+      header_is = head ∙ same;
+      other = subst (λ h. other_run h l.header ≡ None) same (at_some (λ l. other_run header l.header ≡ None) k0 l ek other);
+      ours = subst (λ h. IsOurs h l.header) same (at_some (λ l. IsOurs header l.header) k0 l ek ours);
+      are = at_some (λ l. p.works.items ≡ map (work_of_input run.image l.rows) inputs) k0 l ek works ∙ ap (map (work_of_input run.image l.rows)) inputs_are.are ∙ works_inputs run l.rows (files_below run.from m);
+    }
+
+own_early : (words : List Text) (names : Roots) (r : Ruled) (header : Header) (inputs : List Input) (f0 : Option Contents) (k0 k1 : Option Ledger) → AreRoots names → header ≡ (run_of names r).header
+    → IfSome f0 (λ m. run_of_words words m ≡ Ok (run_of names r)) → IfSome f0 (λ m. AreInputs (run_of names r) m inputs) → AllRelative (map (λ (i : Input). i.target) inputs)
+    → LedgerOwn header k0 k1 → LedgerEarly words f0 k0 k1
+own_early words names r header inputs f0 k0 k1 sound same is are rel (inl e) = inl e
+own_early words names r header inputs f0 k0 k1 sound same is are rel (inr own) = inr (record {
+  header = header;
+  ledger = own.0;
+  ours = own.1;
+  whose = if_some _ f0 (λ m ef. (run_of names r,
+      ready words names r m inputs sound (at_some (λ m. run_of_words words m ≡ Ok (run_of names r)) f0 m ef is) (at_some (λ m. AreInputs (run_of names r) m inputs) f0 m ef are) rel,
+      same));
+})
+
+ledger_status : (words : List Text) (status : Status) → is_ledger_status status ≡ true → (is_answer status ≡ true) × WordsCause words status
+ledger_status words (OtherRun kept wanted) e = (refl, tt)
+ledger_status words (BadRules fault) e = cc
+ledger_status words (NotBuilt path) e = cc
+ledger_status words Done e = cc
+ledger_status words Memory e = cc
+ledger_status words (FolderFault done) e = cc
+ledger_status words (LedgerFault done) e = cc
+ledger_status words OutputFault e = cc
+ledger_status words Usage e = cc
+ledger_status words (NestedRoots first second) e = cc
+
+-- where the ledger is opened or the works are planned, a run halts early
+pub plan_early : (words : List Text) (names : Roots) (r : Ruled) (header : Header) (inputs : List Input) (f0 : Option Contents) (k0 k1 : Option Ledger) (a b c d : ℕ) (h : Halt) → AreRoots names → header ≡ (run_of names r).header
+    → IfSome f0 (λ m. run_of_words words m ≡ Ok (run_of names r)) → IfSome f0 (λ m. AreInputs (run_of names r) m inputs) → AllRelative (map (λ (i : Input). i.target) inputs)
+    → HaltsPlan header k0 k1 c d h → HaltsEarly words f0 k0 k1 a b c d h
+plan_early words names r header inputs f0 k0 k1 a b c d halt.Memory sound same is are rel g = own_early words names r header inputs f0 k0 k1 sound same is are rel g
+plan_early words names r header inputs f0 k0 k1 a b c d halt.Folders sound same is are rel g = absurd g
+plan_early words names r header inputs f0 k0 k1 a b c d halt.Ledger sound same is are rel g = (own_early words names r header inputs f0 k0 k1 sound same is are rel g.0, g.1)
+plan_early words names r header inputs f0 k0 k1 a b c d (halt.Answer status) sound same is are rel g =
+    let s = ledger_status words status g.1 in
+    (g.0, record {
+      is = s.0;
+      cause = s.1;
+      first = λ m l ef ek.
+          let run = run_of names r in
+          ap (answer_of_run m l) (at_some (λ m. run_of_words words m ≡ Ok run) f0 m ef is)
+          ∙ ap (λ o. or_else o (or_else (other_run run.header l.header) Done)) (at_some (λ m. AreInputs run m inputs) f0 m ef are).built
+          ∙ ap (λ o. or_else o Done) (ap (λ h. other_run h l.header) (sym same) ∙ at_some (λ l. other_run header l.header ≡ Some status) k0 l ek g.2);
+    })
+
+early_status : (status : Status) → is_early_answer status ≡ true → is_answer status ≡ true
+early_status Usage e = refl
+early_status (NestedRoots first second) e = refl
+early_status (BadRules fault) e = refl
+early_status (NotBuilt path) e = refl
+early_status Done e = cc
+early_status Memory e = cc
+early_status (FolderFault done) e = cc
+early_status (LedgerFault done) e = cc
+early_status OutputFault e = cc
+early_status (OtherRun kept wanted) e = cc
+
+-- where something is gathered, too
+pub gather_early : (words : List Text) (f0 : Option Contents) (k0 : Option Ledger) (a b c d : ℕ) (h : Halt) → HaltsGathering words f0 a b h → HaltsEarly words f0 k0 k0 a b c d h
+gather_early words f0 k0 a b c d halt.Memory g = inl refl
+gather_early words f0 k0 a b c d halt.Folders g = (refl, g)
+gather_early words f0 k0 a b c d halt.Ledger g = absurd g
+gather_early words f0 k0 a b c d (halt.Answer status) g = (refl, record {
+  is = early_status status g.is;
+  cause = g.cause;
+  first = λ m l ef ek. at_some (λ m. (l : Ledger) → first_answer words m l ≡ status) f0 m ef g.first l;
+})
+
+early_named : (old : Option Text) (name : Text) (status : Status) → is_early_answer status ≡ true → NamedBy old old name status
+early_named old name Usage e = refl
+early_named old name (NestedRoots first second) e = refl
+early_named old name (BadRules fault) e = refl
+early_named old name (NotBuilt path) e = refl
+early_named old name Done e = cc
+early_named old name Memory e = cc
+early_named old name (FolderFault done) e = cc
+early_named old name (LedgerFault done) e = cc
+early_named old name OutputFault e = cc
+early_named old name (OtherRun kept wanted) e = cc
+
+pub gather_named : (words : List Text) (f0 : Option Contents) (old : Option Text) (a b : ℕ) (h : Halt) → HaltsGathering words f0 a b h → NamedEarly words old old h
+gather_named words f0 old a b h g = by (roots_of_words words) h g where
+  by : (r : Result Roots Status) (h : Halt) → HaltsGathering words f0 a b h → NamedByRoots old old (status_of_halt h) r
+  by (Err status) h g = refl
+  by (Ok roots) halt.Memory g = inl refl
+  by (Ok roots) halt.Folders g = inl refl
+  by (Ok roots) halt.Ledger g = inl refl
+  by (Ok roots) (halt.Answer status) g = early_named old roots.ledger status g.is
+
+other_named : (old new : Option Text) (name : Text) (status : Status) → is_ledger_status status ≡ true → new ≡ Some name → NamedBy old new name status
+other_named old new name (OtherRun kept wanted) e n = n
+other_named old new name Usage e n = cc
+other_named old new name (NestedRoots first second) e n = cc
+other_named old new name (BadRules fault) e n = cc
+other_named old new name (NotBuilt path) e n = cc
+other_named old new name Done e n = cc
+other_named old new name Memory e n = cc
+other_named old new name (FolderFault done) e n = cc
+other_named old new name (LedgerFault done) e n = cc
+other_named old new name OutputFault e n = cc
+
+pub plan_named : (words : List Text) (names : Roots) (header : Header) (k0 k1 : Option Ledger) (c d : ℕ) (old new : Option Text) (h : Halt) → roots_of_words words ≡ Ok names → HaltsPlan header k0 k1 c d h
+    → NamedAtHalt old new names.ledger h → NamedEarly words old new h
+plan_named words names header k0 k1 c d old new h e g n = subst (NamedByRoots old new (status_of_halt h)) (sym e) (by h g n) where
+  by : (h : Halt) → HaltsPlan header k0 k1 c d h → NamedAtHalt old new names.ledger h → NamedBy old new names.ledger (status_of_halt h)
+  by halt.Memory g n = n
+  by halt.Folders g n = n
+  by halt.Ledger g n = n
+  by (halt.Answer status) g n = other_named old new names.ledger status g.1 n
+
+pub few_works : (inputs : List Input) (works : List Work) → map (λ (w : Work). w.target) works ≡ map (λ (i : Input). i.target) inputs → length inputs < 2 ^ 32 → length works < 2 ^ 32
+few_works inputs works e h =
+    let n : length works ≡ length inputs = sym (length-map works (λ (w : Work). w.target)) ∙ ap length e ∙ length-map inputs (λ (i : Input). i.target) in
+    subst (λ k. k < 2 ^ 32) (sym n) h
+
+-- the clauses of what is prepared, whichever way the planning ends
+pub ok_planned : (words : List Text) (names : Roots) (r : Ruled) (header : Header) (inputs : List Input) (f0 : Option Contents) (k0 : Option Ledger) (res : Result Prepared Halt) → AreRoots names → header ≡ (run_of names r).header
+    → IfSome f0 (λ m. run_of_words words m ≡ Ok (run_of names r)) → IfSome f0 (λ m. AreInputs (run_of names r) m inputs) → AllRelative (map (λ (i : Input). i.target) inputs)
+    → IfOk res (λ p. p.header ≡ header) → IfOk res (λ p. p.to ≡ names.to) → IfOk res (λ p. IfSome k0 (λ l. p.works.items ≡ map (work_of_input (run_of names r).image l.rows) inputs))
+    → OnOk res (IfSome k0 (λ l. IsOurs header l.header)) → OnOk res (IfSome k0 (λ l. other_run header l.header ≡ None))
+    → IfOk res (λ p. WhereTold f0 k0 (λ m l. Planned words m l p.to p.header p.works.items))
+ok_planned words names r header inputs f0 k0 (Ok p) sound same is are rel head to works ours other = planned words names r header inputs f0 k0 p sound same is are rel head to works ours other
+ok_planned words names r header inputs f0 k0 (Err h) sound same is are rel head to works ours other = tt
+
+pub ok_few : (inputs : List Input) (res : Result Prepared Halt) → IfOk res (λ p. map (λ (w : Work). w.target) p.works.items ≡ map (λ (i : Input). i.target) inputs) → length inputs < 2 ^ 32
+    → IfOk res (λ p. length p.works.items < 2 ^ 32)
+ok_few inputs (Ok p) e h = few_works inputs p.works.items e h
+ok_few inputs (Err x) e h = tt
+
+pub err_plan : (words : List Text) (names : Roots) (r : Ruled) (header : Header) (inputs : List Input) (f0 : Option Contents) (k0 k1 : Option Ledger) (a b c d : ℕ) (res : Result Prepared Halt) → AreRoots names → header ≡ (run_of names r).header
+    → IfSome f0 (λ m. run_of_words words m ≡ Ok (run_of names r)) → IfSome f0 (λ m. AreInputs (run_of names r) m inputs) → AllRelative (map (λ (i : Input). i.target) inputs)
+    → IfErr res (HaltsPlan header k0 k1 c d) → IfErr res (HaltsEarly words f0 k0 k1 a b c d)
+err_plan words names r header inputs f0 k0 k1 a b c d (Ok p) sound same is are rel g = tt
+err_plan words names r header inputs f0 k0 k1 a b c d (Err h) sound same is are rel g = plan_early words names r header inputs f0 k0 k1 a b c d h sound same is are rel g
+
+pub err_named : (words : List Text) (names : Roots) (header : Header) (k0 k1 : Option Ledger) (c d : ℕ) (old new : Option Text) (res : Result Prepared Halt) → roots_of_words words ≡ Ok names → IfErr res (HaltsPlan header k0 k1 c d)
+    → IfErr res (NamedAtHalt old new names.ledger) → IfErr res (NamedEarly words old new)
+err_named words names header k0 k1 c d old new (Ok p) e g n = tt
+err_named words names header k0 k1 c d old new (Err h) e g n = plan_named words names header k0 k1 c d old new h e g n
