@@ -13,3 +13,5 @@ pub mod Checking
 pub mod Reporting
 pub mod Gathering
 pub mod Preparing
+pub mod Remaining
+pub mod Ending

@@ -1,5 +1,5 @@
 -- How a run ends.
-use Rattle.std.specs.Prelude.{◌≡◌, ◌⊎◌, ℕ, ◌≤◌, ◌++◌, List, [], length, Option, Some, None, Bool, true, false, Result, Ok, Err, IfSome, option_map, map}
+use Rattle.std.specs.Prelude.{◌≡◌, ◌⊎◌, ℕ, ◌≤◌, ◌++◌, List, [], length, Option, Some, None, Bool, true, false, Result, Ok, Err, IfSome, option_map, map, IsOkAnd}
 use Rattle.desk_base.specs.Names.{Text}
 use Rattle.desk_folders.specs.Contents.{Contents, File, Rose, files_below}
 use Rattle.desk_ledger.specs.declared.keeper.Header.{Header}
@@ -15,6 +15,7 @@ use Rattle.desk_run.specs.declared.stops.Halt.TheVariants as halt
 use Rattle.desk_run.specs.Runs.{Run, TargetsApart}
 use Rattle.desk_run.specs.Works.{works_of, files_after, ledger_after}
 use Rattle.desk_run.specs.Truth.{IsOurs}
+use Rattle.desk_run.specs.Reports.{report}
 use Rattle.desk_run.specs.Inputs.{input_of}
 use Rattle.desk_run.specs.Stops.{StoppedAt, status_of_halt}
 use Rattle.desk_run.specs.Stands.{Unchanged, Between, Within}
@@ -100,6 +101,12 @@ abbrev pub Reported : Text → Option Text → Option Text → Status → Type 0
 Reported text o o' Done = o' ≡ writing text o
 Reported text o o' OutputFault = WritesFront text o o'
 Reported text o o' _ = o' ≡ o
+
+-- what was written of the report of a run of these words; nothing of it at any other status
+abbrev pub ReportedOf : List Text → Option Contents → Option Ledger → Option Text → Option Text → Status → Type 0
+ReportedOf words f k o o' Done = WhereTold f k (λ m l. IsOkAnd (run_of_words words m) (λ run. o' ≡ writing (report run l.rows (files_below run.from m)) o))
+ReportedOf words f k o o' OutputFault = WhereTold f k (λ m l. IsOkAnd (run_of_words words m) (λ run. WritesFront (report run l.rows (files_below run.from m)) o o'))
+ReportedOf words f k o o' _ = o' ≡ o
 
 -- a status has its cause
 abbrev pub HasCauses : List Text → Status → ℕ → ℕ → ℕ → ℕ → ℕ → ℕ → Type 0

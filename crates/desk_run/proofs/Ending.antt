@@ -1,0 +1,351 @@
+-- From the plan and the writing to where a run stands, and to what is promised of it.
+use Rattle.std.proofs.Common.{◌≡◌, ◌≢◌, ◌⊎◌, inl, inr, ℕ, ◌+◌, ◌<◌, ◌≤◌, List, [], ◌∷◌, ◌++◌, Option, Some, None, refl, sym, ap, ◌∙◌, subst, true, false, Bool, cond, arith, append_assoc, append-nil, is_some, map, length, length-append, IfSome, Result, Ok, Err, OnOk, OnErr, IfOk, IfErr}
+use Rattle.std.specs.Prelude.{not, ◌&&◌, count_by, is_none, option_map, IsOkAnd, MatchResult}
+use Rattle.std.specs.List.{flat_map, fold}
+use Rattle.std.specs.FinMap as fin
+use Rattle.std.proofs.lemmas.Grind.{common_steps}
+use Rattle.std.proofs.lemmas.List.{length-map}
+use Rattle.desk_base.specs.Names.{Text}
+use Rattle.desk_base.specs.Paths.{full}
+use Rattle.desk_folders.specs.Contents.{Contents, File, Rose, setting, files_below, ChangesOnly}
+use Rattle.desk_folders.specs.ContentsLaws.{Rose-earlier, Rose-later}
+use Rattle.desk_ledger.specs.declared.keeper.Header.{Header}
+use Rattle.desk_ledger.specs.Ledger.{Ledger, Rows, with_header}
+use Rattle.desk_report.specs.declared.sink.SinkFault.{SinkFault}
+use Rattle.desk_report.specs.declared.status.Status.{Status}
+use Rattle.desk_report.specs.declared.status.Status.TheVariants.{Done, Memory, FolderFault, LedgerFault, OutputFault, Usage, NestedRoots, BadRules, OtherRun, NotBuilt}
+use Rattle.desk_report.specs.declared.lines.Summary.{Summary}
+use Rattle.desk_report.specs.declared.lines.Line.TheVariants.{Written, Kept}
+use Rattle.desk_report.specs.Texts.{line_text, summary_text, fault_text}
+use Rattle.desk_report.specs.Written.{WritesFront, writing}
+use Rattle.desk_run.specs.declared.image.Image.{Image}
+use Rattle.desk_run.specs.declared.planning.Plan.{Plan}
+use Rattle.desk_run.specs.declared.planning.Plan.TheVariants.{Keep, Leave, Write}
+use Rattle.desk_run.specs.declared.planning.Work.{Work}
+use Rattle.desk_run.specs.declared.roots.Roots.{Roots}
+use Rattle.desk_run.specs.declared.stops.Halt.{Halt}
+use Rattle.desk_run.specs.declared.stops.Halt.TheVariants as halt
+use Rattle.desk_run.specs.Runs.{Run, TargetsApart, is_kept_file, is_fresh, held_of}
+use Rattle.desk_run.specs.Works.{work_of, works_of, fresh, writes, keeps, leaves, cleared, files_after, ledger_after}
+use Rattle.desk_run.specs.Truth.{IsOurs, TrueLedger}
+use Rattle.desk_run.specs.Stops.{Broken, StoppedAt, Untouched, Begun, status_of_halt}
+use Rattle.desk_run.specs.Stands.{Unchanged, Between, Within, Stands, Remains}
+use Rattle.desk_run.specs.Meaning.{roots_of_words, run_of_words}
+use Rattle.desk_run.specs.Answers.{files_answer, other_run, or_else, answer_of_run, first_answer, is_answer, WordsCause}
+use Rattle.desk_run.specs.Reports.{report, line_of, file_line, is_refused, summary_of, line_of_work, plan_line, summary_of_works, report_of_works}
+use Rattle.desk_run.specs.Endings.{WhereTold, Tells, IsReady, Planned, SetsHeader, LedgerEarly, IsAnswer, HaltsEarly, AllWritten, SomeWritten, Finishes, Reported, ReportedOf, HasCauses, HasBegun, StandsAt, StandsSomewhere, IsDone, StandsAfter, is_final, IsTold, Named, NamedBy, NamedByRoots, IsAttached}
+use Rattle.desk_run.specs.Clauses.{HoldsFiles, HoldsRows, Files, CompleteRows, KeepsLedger, LedgerHolds, TwoFronts, Output, Exact, RemainsAt, RemainsSomewhere, Left}
+use Rattle.desk_run.proofs.Splits.{Mapped, mapped}
+use Rattle.desk_run.proofs.After.{header_after}
+use Rattle.desk_run.proofs.Reading.{at_some}
+use Rattle.desk_run.proofs.Remaining.{remains_of, truth_of}
+
+-- all is written
+all_written : (words : List Text) (m0 : Contents) (l0 : Ledger) (to : Text) (header : Header) (works : List Work) (f' : Option Contents) (k' : Option Ledger) → Planned words m0 l0 to header works
+    → AllWritten to works (Some m0) f' (Some (with_header header l0)) k' → Tells f' k' (λ m l. IsDone words m0 l0 m l)
+all_written words m0 l0 to header works f' k' p a = record {
+  m = files_after to works m0;
+  l = ledger_after works (with_header header l0);
+  folders = a.folders;
+  ledger = a.ledger;
+  holds = record {
+    run = p.run;
+    is = p.ready.is;
+    stands = record {
+      before = files_below p.run.from m0;
+      rest = [];
+      split = sym (append-nil (files_below p.run.from m0));
+      count = refl;
+      apart = p.ready.apart;
+      ours = p.ours;
+      folder = ap (λ ws. files_after to ws m0) p.are ∙ ap (λ t. files_after t (works_of p.run l0.rows (files_below p.run.from m0)) m0) p.to_is;
+      ledger = ap (λ ws. ledger_after ws (with_header header l0)) p.are ∙ ap (λ h. ledger_after (works_of p.run l0.rows (files_below p.run.from m0)) (with_header h l0)) p.header_is;
+    };
+  };
+}
+
+-- some is written
+stopped_stands : (words : List Text) (m0 : Contents) (l0 : Ledger) (to : Text) (header : Header) (works : List Work) (done : ℕ) (f' : Option Contents) (k' : Option Ledger) → Planned words m0 l0 to header works
+    → StoppedAt to works done (Some m0) f' (Some (with_header header l0)) k' → Tells f' k' (λ m l. StandsAt words m0 l0 m l done)
+stopped_stands words m0 l0 to header works done f' k' p s = by s.broken where
+  run : Run
+  run = p.run
+
+  at : Mapped (work_of p.run l0.rows) (files_below p.run.from m0) s.before s.work s.rest
+  at = mapped (work_of p.run l0.rows) (files_below p.run.from m0) s.before s.work s.rest (sym p.are ∙ s.split)
+
+  count : length at.before ≡ done
+  count = sym (ap length at.front ∙ length-map at.before (work_of p.run l0.rows)) ∙ s.count
+
+  by : Broken to s.work (Some (files_after to s.before m0)) f' (Some (ledger_after s.before (with_header header l0))) k' → Tells f' k' (λ m l. StandsAt words m0 l0 m l done)
+  by (inl u) = record {
+    m = files_after to s.before m0;
+    l = ledger_after s.before (with_header header l0);
+    folders = u.folders;
+    ledger = u.ledger;
+    holds = inr (record {
+      run = p.run;
+      is = p.ready.is;
+      stands = inl (record {
+        before = at.before;
+        rest = at.at ∷ at.rest;
+        split = at.split;
+        count = count;
+        apart = p.ready.apart;
+        ours = p.ours;
+        folder = ap (λ ws. files_after to ws m0) at.front ∙ ap (λ t. files_after t (works_of p.run l0.rows at.before) m0) p.to_is;
+        ledger = ap (λ ws. ledger_after ws (with_header header l0)) at.front ∙ ap (λ h. ledger_after (works_of p.run l0.rows at.before) (with_header h l0)) p.header_is;
+      });
+    });
+  }
+  by (inr b) = record {
+    m = setting (full to s.work.target) b.folders.left (files_after to s.before m0);
+    l = cleared s.work (ledger_after s.before (with_header header l0));
+    folders = b.folders.is;
+    ledger = b.ledger;
+    holds = inr (record {
+      run = p.run;
+      is = p.ready.is;
+      stands = inr (record {
+        before = at.before;
+        file = at.at;
+        rest = at.rest;
+        split = at.split;
+        count = count;
+        apart = p.ready.apart;
+        ours = p.ours;
+        fresh = ap (λ (w : Work). writes w.plan) (sym at.is) ∙ b.writes;
+        folder = record {
+          left = b.folders.left;
+          is = ap Some (ap (λ t. setting (full t s.work.target) b.folders.left (files_after t s.before m0)) p.to_is
+              ∙ ap (λ (w : Work). setting (full p.run.to w.target) b.folders.left (files_after p.run.to s.before m0)) at.is
+              ∙ ap (λ ws. setting (full p.run.to (p.run.target at.at.path)) b.folders.left (files_after p.run.to ws m0)) at.front);
+        };
+        ledger = ap (λ w. cleared w (ledger_after s.before (with_header header l0))) at.is
+            ∙ ap (λ ws. cleared (work_of p.run l0.rows at.at) (ledger_after ws (with_header header l0))) at.front
+            ∙ ap (λ h. cleared (work_of p.run l0.rows at.at) (ledger_after (works_of p.run l0.rows at.before) (with_header h l0))) p.header_is;
+      });
+    });
+  }
+
+-- where a run stands after the writing
+finish_stands : (words : List Text) (m0 : Contents) (l0 : Ledger) (to : Text) (header : Header) (works : List Work) (f' : Option Contents) (k' : Option Ledger) (status : Status) → Planned words m0 l0 to header works
+    → Finishes to works (Some m0) f' (Some (with_header header l0)) k' status → Tells f' k' (λ m l. StandsAfter words m0 l0 m l status)
+finish_stands words m0 l0 to header works f' k' Done p a = all_written words m0 l0 to header works f' k' p a
+finish_stands words m0 l0 to header works f' k' OutputFault p a = all_written words m0 l0 to header works f' k' p a
+finish_stands words m0 l0 to header works f' k' Memory p a =
+    let s = stopped_stands words m0 l0 to header works a.done f' k' p a.stopped in
+    record { m = s.m; l = s.l; folders = s.folders; ledger = s.ledger; holds = record { done = a.done; stands = s.holds } }
+finish_stands words m0 l0 to header works f' k' (FolderFault done) p a = stopped_stands words m0 l0 to header works done f' k' p a
+finish_stands words m0 l0 to header works f' k' (LedgerFault done) p a = stopped_stands words m0 l0 to header works done f' k' p a
+finish_stands words m0 l0 to header works f' k' Usage p a = absurd a
+finish_stands words m0 l0 to header works f' k' (NestedRoots first second) p a = absurd a
+finish_stands words m0 l0 to header works f' k' (BadRules fault) p a = absurd a
+finish_stands words m0 l0 to header works f' k' (OtherRun kept wanted) p a = absurd a
+finish_stands words m0 l0 to header works f' k' (NotBuilt path) p a = absurd a
+
+-- nothing is written yet, and the header may be set
+early : (words : List Text) (m0 : Contents) (l0 : Ledger) (f' : Option Contents) (k' : Option Ledger) → f' ≡ Some m0 → LedgerEarly words (Some m0) (Some l0) k' → Tells f' k' (λ m l. StandsAt words m0 l0 m l 0)
+early words m0 l0 f' k' f (inl k) = record { m = m0; l = l0; folders = f; ledger = k; holds = inl (record { folder = refl; ledger = refl; none = refl }) }
+early words m0 l0 f' k' f (inr k) = record {
+  m = m0;
+  l = with_header k.header l0;
+  folders = f;
+  ledger = k.ledger;
+  holds = inr (record {
+    run = k.whose.0;
+    is = k.whose.1.is;
+    stands = inl (record {
+      before = [];
+      rest = files_below k.whose.0.from m0;
+      split = refl;
+      count = refl;
+      apart = k.whose.1.apart;
+      ours = subst (λ h. IsOurs h l0.header) k.whose.2 k.ours;
+      folder = refl;
+      ledger = ap (λ h. with_header h l0) k.whose.2;
+    });
+  });
+}
+
+unchanged : (words : List Text) (m0 : Contents) (l0 : Ledger) (f' : Option Contents) (k' : Option Ledger) → f' ≡ Some m0 → k' ≡ Some l0 → Tells f' k' (λ m l. Unchanged m0 l0 m l 0)
+unchanged words m0 l0 f' k' f k = record { m = m0; l = l0; folders = f; ledger = k; holds = record { folder = refl; ledger = refl; none = refl } }
+
+answer_stands : (words : List Text) (m0 : Contents) (l0 : Ledger) (m : Contents) (l : Ledger) (status : Status) → is_answer status ≡ true → Unchanged m0 l0 m l 0 → StandsAfter words m0 l0 m l status
+answer_stands words m0 l0 m l Usage e u = u
+answer_stands words m0 l0 m l (NestedRoots first second) e u = u
+answer_stands words m0 l0 m l (BadRules fault) e u = u
+answer_stands words m0 l0 m l (OtherRun kept wanted) e u = u
+answer_stands words m0 l0 m l (NotBuilt path) e u = u
+answer_stands words m0 l0 m l Done e u = cc
+answer_stands words m0 l0 m l Memory e u = cc
+answer_stands words m0 l0 m l (FolderFault done) e u = cc
+answer_stands words m0 l0 m l (LedgerFault done) e u = cc
+answer_stands words m0 l0 m l OutputFault e u = cc
+
+-- where a run stands that halts early
+early_stands : (words : List Text) (m0 : Contents) (l0 : Ledger) (f' : Option Contents) (k' : Option Ledger) (a b c d : ℕ) (h : Halt) → f' ≡ Some m0
+    → HaltsEarly words (Some m0) (Some l0) k' a b c d h → Tells f' k' (λ m l. StandsAfter words m0 l0 m l (status_of_halt h))
+early_stands words m0 l0 f' k' a b c d halt.Memory f s =
+    let e = early words m0 l0 f' k' f s in record { m = e.m; l = e.l; folders = e.folders; ledger = e.ledger; holds = record { done = 0; stands = e.holds } }
+early_stands words m0 l0 f' k' a b c d halt.Folders f s = early words m0 l0 f' k' f (inl s.0)
+early_stands words m0 l0 f' k' a b c d halt.Ledger f s = early words m0 l0 f' k' f s.0
+early_stands words m0 l0 f' k' a b c d (halt.Answer status) f s =
+    let u = unchanged words m0 l0 f' k' f s.0 in
+    record { m = u.m; l = u.l; folders = u.folders; ledger = u.ledger; holds = answer_stands words m0 l0 u.m u.l status s.1.is u.holds }
+
+-- an early answer is the first
+early_first : (words : List Text) (m0 : Contents) (l0 : Ledger) (k' : Option Ledger) (a b c d : ℕ) (h : Halt) → HaltsEarly words (Some m0) (Some l0) k' a b c d h → is_final (status_of_halt h) ≡ true
+    → status_of_halt h ≡ first_answer words m0 l0
+early_first words m0 l0 k' a b c d halt.Memory s e = cc
+early_first words m0 l0 k' a b c d halt.Folders s e = cc
+early_first words m0 l0 k' a b c d halt.Ledger s e = cc
+early_first words m0 l0 k' a b c d (halt.Answer status) s e = sym (s.1.first m0 l0 refl refl)
+
+planned_first : (words : List Text) (m0 : Contents) (l0 : Ledger) (to : Text) (header : Header) (works : List Work) → Planned words m0 l0 to header works → Done ≡ first_answer words m0 l0
+planned_first words m0 l0 to header works p =
+    sym (ap (answer_of_run m0 l0) p.ready.is
+    ∙ ap (λ o. or_else o (or_else (other_run p.run.header l0.header) Done)) p.ready.built
+    ∙ ap (λ o. or_else o Done) p.other)
+
+-- a late answer is the first
+finish_first : (words : List Text) (m0 : Contents) (l0 : Ledger) (to : Text) (header : Header) (works : List Work) (f f' : Option Contents) (k k' : Option Ledger) (status : Status) → Planned words m0 l0 to header works
+    → Finishes to works f f' k k' status → is_final status ≡ true → status ≡ first_answer words m0 l0
+finish_first words m0 l0 to header works f f' k k' Done p a e = planned_first words m0 l0 to header works p
+finish_first words m0 l0 to header works f f' k k' OutputFault p a e = cc
+finish_first words m0 l0 to header works f f' k k' Memory p a e = cc
+finish_first words m0 l0 to header works f f' k k' (FolderFault done) p a e = cc
+finish_first words m0 l0 to header works f f' k k' (LedgerFault done) p a e = cc
+finish_first words m0 l0 to header works f f' k k' Usage p a e = absurd a
+finish_first words m0 l0 to header works f f' k k' (NestedRoots first second) p a e = absurd a
+finish_first words m0 l0 to header works f f' k k' (BadRules fault) p a e = absurd a
+finish_first words m0 l0 to header works f f' k k' (OtherRun kept wanted) p a e = absurd a
+finish_first words m0 l0 to header works f f' k k' (NotBuilt path) p a e = absurd a
+
+-- the report of the works is that of the run
+line_plan : (path target : Text) (kept found : Bool) (o : Option Image) → plan_line path target (cond kept Keep (fresh found o)) ≡ file_line path target kept o
+line_plan path target true found o = refl
+line_plan path target false found (Some image) = refl
+line_plan path target false found None = refl
+
+lines_works : (run : Run) (rows : Rows) (files : List File) → flat_map line_of_work (works_of run rows files) ≡ flat_map (line_of run rows) files
+lines_works run rows [] = refl
+lines_works run rows (file ∷ files) =
+    ap (λ t. t ++ flat_map line_of_work (works_of run rows files)) (line_plan file.path (run.target file.path) _ _ _) ∙ ap (λ t. line_of run rows file ++ t) (lines_works run rows files)
+
+counted : (p : Work → Bool) (q : File → Bool) (run : Run) (rows : Rows) → ((file : File) → p (work_of run rows file) ≡ q file) → (files : List File) → count_by p (works_of run rows files) ≡ count_by q files
+counted p q run rows same files = by 0 files where
+  by : (n : ℕ) (files : List File) → fold (λ a w. a + cond (p w) 1 0) n (works_of run rows files) ≡ fold (λ a f. a + cond (q f) 1 0) n files
+  by n [] = refl
+  by n (file ∷ files) = by (n + cond (p (work_of run rows file)) 1 0) files ∙ ap (λ b. fold (λ a f. a + cond (q f) 1 0) (n + cond b 1 0) files) (same file)
+
+written_same : (kept found : Bool) (o : Option Image) → writes (cond kept Keep (fresh found o)) ≡ not kept && is_some o
+written_same true found o = refl
+written_same false found (Some image) = refl
+written_same false found None = refl
+
+kept_same : (kept found : Bool) (o : Option Image) → keeps (cond kept Keep (fresh found o)) ≡ kept
+kept_same true found o = refl
+kept_same false found (Some image) = refl
+kept_same false found None = refl
+
+left_same : (kept found : Bool) (o : Option Image) → leaves (cond kept Keep (fresh found o)) ≡ not kept && is_none o
+left_same true found o = refl
+left_same false found (Some image) = refl
+left_same false found None = refl
+
+summary_works : (run : Run) (rows : Rows) (files : List File) → summary_of_works (works_of run rows files) ≡ summary_of run rows files
+summary_works run rows files =
+    let all : length (works_of run rows files) ≡ length files = length-map files (work_of run rows) in
+    let written = counted (λ (w : Work). writes w.plan) (is_fresh run rows) run rows (λ file. written_same (is_kept_file run rows file) _ (run.image file.path file.bytes)) files in
+    let kept = counted (λ (w : Work). keeps w.plan) (is_kept_file run rows) run rows (λ file. kept_same (is_kept_file run rows file) _ (run.image file.path file.bytes)) files in
+    let left = counted (λ (w : Work). leaves w.plan) (is_refused run rows) run rows (λ file. left_same (is_kept_file run rows file) _ (run.image file.path file.bytes)) files in
+    λ i. record { files = all i; written = written i; kept = kept i; refused = left i; renamed = 0; added = 0 }
+
+report_works : (words : List Text) (m0 : Contents) (l0 : Ledger) (to : Text) (header : Header) (works : List Work) (p : Planned words m0 l0 to header works)
+    → report_of_works works ≡ report p.run l0.rows (files_below p.run.from m0)
+report_works words m0 l0 to header works p =
+    ap report_of_works p.are
+    ∙ ap (λ t. t ++ summary_text (summary_of_works (works_of p.run l0.rows (files_below p.run.from m0)))) (lines_works p.run l0.rows (files_below p.run.from m0))
+    ∙ ap (λ s. flat_map (line_of p.run l0.rows) (files_below p.run.from m0) ++ summary_text s) (summary_works p.run l0.rows (files_below p.run.from m0))
+
+ok_and : {T E : Type 0} (r : Result T E) (x : T) (P : T → Type 0) → r ≡ Ok x → P x → IsOkAnd r P
+ok_and r x P e p = subst (λ r. IsOkAnd r P) (sym e) p
+
+finish_reported : (words : List Text) (f0 : Option Contents) (k0 : Option Ledger) (to : Text) (header : Header) (works : List Work) (f f' : Option Contents) (k k' : Option Ledger) (o o' : Option Text) (status : Status)
+    → WhereTold f0 k0 (λ m l. Planned words m l to header works) → Finishes to works f f' k k' status → Reported (report_of_works works) o o' status → ReportedOf words f0 k0 o o' status
+finish_reported words f0 k0 to header works f f' k k' o o' Done p a r = λ m l ef ek.
+    let q = p m l ef ek in ok_and (run_of_words words m) q.run _ q.ready.is (r ∙ ap (λ t. writing t o) (report_works words m l to header works q))
+finish_reported words f0 k0 to header works f f' k k' o o' OutputFault p a r = λ m l ef ek.
+    let q = p m l ef ek in ok_and (run_of_words words m) q.run _ q.ready.is (subst (λ t. WritesFront t o o') (report_works words m l to header works q) r)
+finish_reported words f0 k0 to header works f f' k k' o o' Memory p a r = r
+finish_reported words f0 k0 to header works f f' k k' o o' (FolderFault done) p a r = r
+finish_reported words f0 k0 to header works f f' k k' o o' (LedgerFault done) p a r = r
+finish_reported words f0 k0 to header works f f' k k' o o' Usage p a r = absurd a
+finish_reported words f0 k0 to header works f f' k k' o o' (NestedRoots first second) p a r = absurd a
+finish_reported words f0 k0 to header works f f' k k' o o' (BadRules fault) p a r = absurd a
+finish_reported words f0 k0 to header works f f' k k' o o' (OtherRun kept wanted) p a r = absurd a
+finish_reported words f0 k0 to header works f f' k k' o o' (NotBuilt path) p a r = absurd a
+
+answer_reported : (words : List Text) (f0 : Option Contents) (k0 : Option Ledger) (o : Option Text) (status : Status) → is_answer status ≡ true → ReportedOf words f0 k0 o o status
+answer_reported words f0 k0 o Usage e = refl
+answer_reported words f0 k0 o (NestedRoots first second) e = refl
+answer_reported words f0 k0 o (BadRules fault) e = refl
+answer_reported words f0 k0 o (OtherRun kept wanted) e = refl
+answer_reported words f0 k0 o (NotBuilt path) e = refl
+answer_reported words f0 k0 o Done e = cc
+answer_reported words f0 k0 o Memory e = refl
+answer_reported words f0 k0 o (FolderFault done) e = refl
+answer_reported words f0 k0 o (LedgerFault done) e = refl
+answer_reported words f0 k0 o OutputFault e = cc
+
+early_reported : (words : List Text) (f0 : Option Contents) (k0 k' : Option Ledger) (a b c d : ℕ) (o : Option Text) (h : Halt) → HaltsEarly words f0 k0 k' a b c d h → ReportedOf words f0 k0 o o (status_of_halt h)
+early_reported words f0 k0 k' a b c d o halt.Memory s = refl
+early_reported words f0 k0 k' a b c d o halt.Folders s = refl
+early_reported words f0 k0 k' a b c d o halt.Ledger s = refl
+early_reported words f0 k0 k' a b c d o (halt.Answer status) s = answer_reported words f0 k0 o status s.1.is
+
+answer_causes : (words : List Text) (status : Status) (f f' k k' o o' : ℕ) → is_answer status ≡ true → WordsCause words status → HasCauses words status f f' k k' o o'
+answer_causes words Usage f f' k k' o o' e c = c
+answer_causes words (NestedRoots first second) f f' k k' o o' e c = c
+answer_causes words (BadRules fault) f f' k k' o o' e c = tt
+answer_causes words (OtherRun kept wanted) f f' k k' o o' e c = tt
+answer_causes words (NotBuilt path) f f' k k' o o' e c = tt
+answer_causes words Done f f' k k' o o' e c = tt
+answer_causes words Memory f f' k k' o o' e c = tt
+answer_causes words (FolderFault done) f f' k k' o o' e c = cc
+answer_causes words (LedgerFault done) f f' k k' o o' e c = cc
+answer_causes words OutputFault f f' k k' o o' e c = cc
+
+pub early_causes : (words : List Text) (f0 : Option Contents) (k0 k' : Option Ledger) (a b c d o o' : ℕ) (h : Halt) → HaltsEarly words f0 k0 k' a b c d h → HasCauses words (status_of_halt h) a b c d o o'
+early_causes words f0 k0 k' a b c d o o' halt.Memory s = tt
+early_causes words f0 k0 k' a b c d o o' halt.Folders s = s.1
+early_causes words f0 k0 k' a b c d o o' halt.Ledger s = s.1
+early_causes words f0 k0 k' a b c d o o' (halt.Answer status) s = answer_causes words status a b c d o o' s.1.is s.1.cause
+
+pub finish_causes : (words : List Text) (to : Text) (works : List Work) (x x' : Option Contents) (y y' : Option Ledger) (f0 f1 f2 k0 k1 k2 o o' : ℕ) (status : Status) → f0 ≤ f1 → k0 ≤ k1 → Finishes to works x x' y y' status
+    → HasCauses [] status f1 f2 k1 k2 o o' → HasCauses words status f0 f2 k0 k2 o o'
+finish_causes words to works x x' y y' f0 f1 f2 k0 k1 k2 o o' Done lf lk a c = tt
+finish_causes words to works x x' y y' f0 f1 f2 k0 k1 k2 o o' OutputFault lf lk a c = c
+finish_causes words to works x x' y y' f0 f1 f2 k0 k1 k2 o o' Memory lf lk a c = tt
+finish_causes words to works x x' y y' f0 f1 f2 k0 k1 k2 o o' (FolderFault done) lf lk a c = Rose-earlier f0 f1 f2 lf c
+finish_causes words to works x x' y y' f0 f1 f2 k0 k1 k2 o o' (LedgerFault done) lf lk a c = Rose-earlier k0 k1 k2 lk c
+finish_causes words to works x x' y y' f0 f1 f2 k0 k1 k2 o o' Usage lf lk a c = absurd a
+finish_causes words to works x x' y y' f0 f1 f2 k0 k1 k2 o o' (NestedRoots first second) lf lk a c = absurd a
+finish_causes words to works x x' y y' f0 f1 f2 k0 k1 k2 o o' (BadRules fault) lf lk a c = absurd a
+finish_causes words to works x x' y y' f0 f1 f2 k0 k1 k2 o o' (OtherRun kept wanted) lf lk a c = absurd a
+finish_causes words to works x x' y y' f0 f1 f2 k0 k1 k2 o o' (NotBuilt path) lf lk a c = absurd a
+
+pub finish_named : (words : List Text) (to : Text) (works : List Work) (x x' : Option Contents) (y y' : Option Ledger) (old mid new : Option Text) (status : Status) → IsAttached words mid → new ≡ mid → Finishes to works x x' y y' status → Named words old new status
+finish_named words to works x x' y y' old mid new status at same a = subst (NamedByRoots old new status) (sym at.are) (by status a) where
+  by : (status : Status) → Finishes to works x x' y y' status → NamedBy old new at.roots.ledger status
+  by Done a = same ∙ at.is
+  by OutputFault a = same ∙ at.is
+  by Memory a = inr (same ∙ at.is)
+  by (FolderFault done) a = inr (same ∙ at.is)
+  by (LedgerFault done) a = inr (same ∙ at.is)
+  by Usage a = absurd a
+  by (NestedRoots first second) a = absurd a
+  by (BadRules fault) a = absurd a
+  by (OtherRun kept wanted) a = absurd a
+  by (NotBuilt path) a = absurd a
