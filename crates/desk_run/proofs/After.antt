@@ -1,17 +1,17 @@
 -- What works leave at the paths and targets that they don't name.
-use Rattle.std.proofs.Common.{◌≡◌, ◌≢◌, ℕ, List, [], ◌∷◌, ◌++◌, Option, Some, None, refl, sym, ap, ◌∙◌, true, false, Bool}
+use Rattle.std.proofs.Common.{◌≡◌, ◌≢◌, ℕ, List, [], ◌∷◌, ◌++◌, refl, sym, ◌∙◌, true, false, Bool}
 use Rattle.std.specs.Prelude.{map}
 use Rattle.std.specs.FinMap as fin
 use Rattle.std.proofs.lemmas.List.{append_cancel_left}
 use Rattle.desk_base.specs.Paths.{full, folder}
-use Rattle.desk_folders.specs.Contents.{Contents, setting}
+use Rattle.desk_folders.specs.Contents.{Contents}
 use Rattle.desk_ledger.specs.declared.keeper.Held.{Held}
 use Rattle.desk_ledger.specs.Ledger.{Ledger}
-use Rattle.desk_folders.specs.ContentsLaws.{get-insert-same, get-insert-other, get-remove-other, get-remove-same}
+use Rattle.desk_folders.specs.ContentsLaws.{get-insert-other, get-remove-other}
 use Rattle.desk_run.specs.declared.planning.Plan.{Plan}
 use Rattle.desk_run.specs.declared.planning.Plan.TheVariants.{Keep, Leave, Write}
 use Rattle.desk_run.specs.declared.planning.Work.{Work}
-use Rattle.desk_run.specs.Works.{wrote, wrote_plan, logged, logged_plan, forgot, cleared, cleared_plan, writes, files_after, ledger_after}
+use Rattle.desk_run.specs.Works.{wrote, wrote_plan, logged, logged_plan, forgot, cleared_plan, writes, files_after, ledger_after}
 use Rattle.desk_run.specs.Runs.{Misses}
 
 pub full_apart : (root p q : List ℕ) → p ≢ q → full root p ≢ full root q

@@ -1,12 +1,12 @@
 -- Roots of which neither lies in the other have no path in common.
-use Rattle.std.proofs.Common.{◌≡◌, ◌≢◌, ◌⊎◌, inl, inr, ℕ, Bool, true, false, List, [], ◌∷◌, ◌++◌, length, take, Option, Some, None, refl, sym, ap, ◌∙◌, subst, arith, append_assoc, cond}
-use Rattle.std.specs.Prelude.{not, ◌&&◌, ◌||◌, ◌==◌, filter, Result, Ok, Err, if◌then◌else◌}
-use Rattle.std.specs.List.{list_all, list_any, slice_split, starts_with, onto_first}
+use Rattle.std.proofs.Common.{◌≡◌, ℕ, Bool, true, false, List, [], ◌∷◌, ◌++◌, refl, sym, ap, ◌∙◌, append_assoc}
+use Rattle.std.specs.Prelude.{not, ◌&&◌, ◌||◌, ◌==◌, if◌then◌else◌}
+use Rattle.std.specs.List.{list_all, starts_with}
 use Rattle.std.specs.Str.{bytes_eq}
 use Rattle.std.proofs.lemmas.Bool.{and_parts, and_from}
 use Rattle.std.proofs.lemmas.Slice.Eq.{bytes_eq-Decides}
-use Rattle.desk_base.specs.Names.{Text, slash, is_empty, is_whole, written}
-use Rattle.desk_base.specs.Paths.{here, top, is_segment, is_relative_path, written_root, written_segments, folder, full}
+use Rattle.desk_base.specs.Names.{Text, slash, is_whole, written}
+use Rattle.desk_base.specs.Paths.{here, top, is_segment, is_relative_path, written_root, full}
 use Rattle.desk_run.specs.declared.roots.Root.{Root}
 use Rattle.desk_run.specs.Words.{overlap, written as written_of}
 use Rattle.desk_run.specs.Runs.{RootsApart}

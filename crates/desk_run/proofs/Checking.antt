@@ -1,11 +1,9 @@
 -- The first of the files that were read that isn't built.
-use Rattle.std.proofs.Common.{◌≡◌, ◌≢◌, ℕ, ◌+◌, ◌<◌, ◌≤◌, Bool, true, false, List, [], ◌∷◌, ◌++◌, length, Option, Some, None, refl, sym, ap, ◌∙◌, subst, cond, arith, append_assoc, map, take, drop, get_or, suc}
+use Rattle.std.proofs.Common.{◌≡◌, ℕ, ◌<◌, Bool, true, false, List, [], ◌∷◌, ◌++◌, length, Option, Some, None, refl, sym, ap, ◌∙◌, arith, map, take, drop, get_or, suc}
 use Rattle.std.specs.Prelude.{if◌then◌else◌}
 use Rattle.desk_base.specs.Names.{Text}
 use Rattle.desk_run.specs.declared.files.Source.{Source}
-use Rattle.desk_run.specs.declared.files.Input.{Input}
 use Rattle.desk_run.specs.declared.image.Image.{Image}
-use Rattle.desk_run.specs.Inputs.{source_of_input}
 use Rattle.std.proofs.Common.{map-id, zero}
 use Rattle.std.specs.Prelude.{not, ◌&&◌, nat_le, unwrap_or}
 use Rattle.std.specs.FinMap as fin

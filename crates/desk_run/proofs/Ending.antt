@@ -1,44 +1,33 @@
 -- From the plan and the writing to where a run stands, and to what is promised of it.
-use Rattle.std.proofs.Common.{◌≡◌, ◌≢◌, ◌⊎◌, inl, inr, ℕ, ◌+◌, ◌<◌, ◌≤◌, List, [], ◌∷◌, ◌++◌, Option, Some, None, refl, sym, ap, ◌∙◌, subst, true, false, Bool, cond, arith, append_assoc, append-nil, is_some, map, length, length-append, IfSome, Result, Ok, Err, OnOk, OnErr, IfOk, IfErr}
-use Rattle.std.specs.Prelude.{not, ◌&&◌, count_by, is_none, option_map, IsOkAnd, MatchResult}
+use Rattle.std.proofs.Common.{◌≡◌, inl, inr, ℕ, ◌+◌, ◌≤◌, List, [], ◌∷◌, ◌++◌, Option, Some, None, refl, sym, ap, ◌∙◌, subst, true, false, Bool, cond, append-nil, is_some, length, Result, Ok}
+use Rattle.std.specs.Prelude.{not, ◌&&◌, count_by, is_none, IsOkAnd}
 use Rattle.std.specs.List.{flat_map, fold}
-use Rattle.std.specs.FinMap as fin
-use Rattle.std.proofs.lemmas.Grind.{common_steps}
 use Rattle.std.proofs.lemmas.List.{length-map}
 use Rattle.desk_base.specs.Names.{Text}
 use Rattle.desk_base.specs.Paths.{full}
-use Rattle.desk_folders.specs.Contents.{Contents, File, Rose, setting, files_below, ChangesOnly}
-use Rattle.desk_folders.specs.ContentsLaws.{Rose-earlier, Rose-later}
+use Rattle.desk_folders.specs.Contents.{Contents, File, setting, files_below}
+use Rattle.desk_folders.specs.ContentsLaws.{Rose-earlier}
 use Rattle.desk_ledger.specs.declared.keeper.Header.{Header}
 use Rattle.desk_ledger.specs.Ledger.{Ledger, Rows, with_header}
-use Rattle.desk_report.specs.declared.sink.SinkFault.{SinkFault}
 use Rattle.desk_report.specs.declared.status.Status.{Status}
 use Rattle.desk_report.specs.declared.status.Status.TheVariants.{Done, Memory, FolderFault, LedgerFault, OutputFault, Usage, NestedRoots, BadRules, OtherRun, NotBuilt}
-use Rattle.desk_report.specs.declared.lines.Summary.{Summary}
-use Rattle.desk_report.specs.declared.lines.Line.TheVariants.{Written, Kept}
-use Rattle.desk_report.specs.Texts.{line_text, summary_text, fault_text}
+use Rattle.desk_report.specs.Texts.{summary_text}
 use Rattle.desk_report.specs.Written.{WritesFront, writing}
 use Rattle.desk_run.specs.declared.image.Image.{Image}
-use Rattle.desk_run.specs.declared.planning.Plan.{Plan}
-use Rattle.desk_run.specs.declared.planning.Plan.TheVariants.{Keep, Leave, Write}
+use Rattle.desk_run.specs.declared.planning.Plan.TheVariants.{Keep}
 use Rattle.desk_run.specs.declared.planning.Work.{Work}
-use Rattle.desk_run.specs.declared.roots.Roots.{Roots}
 use Rattle.desk_run.specs.declared.stops.Halt.{Halt}
 use Rattle.desk_run.specs.declared.stops.Halt.TheVariants as halt
-use Rattle.desk_run.specs.Runs.{Run, TargetsApart, is_kept_file, is_fresh, held_of}
+use Rattle.desk_run.specs.Runs.{Run, is_kept_file, is_fresh}
 use Rattle.desk_run.specs.Works.{work_of, works_of, fresh, writes, keeps, leaves, cleared, files_after, ledger_after}
-use Rattle.desk_run.specs.Truth.{IsOurs, TrueLedger}
-use Rattle.desk_run.specs.Stops.{Broken, StoppedAt, Untouched, Begun, status_of_halt}
-use Rattle.desk_run.specs.Stands.{Unchanged, Between, Within, Stands, Remains}
-use Rattle.desk_run.specs.Meaning.{roots_of_words, run_of_words}
-use Rattle.desk_run.specs.Answers.{files_answer, other_run, or_else, answer_of_run, first_answer, is_answer, WordsCause}
+use Rattle.desk_run.specs.Truth.{IsOurs}
+use Rattle.desk_run.specs.Stops.{Broken, StoppedAt, status_of_halt}
+use Rattle.desk_run.specs.Stands.{Unchanged}
+use Rattle.desk_run.specs.Meaning.{run_of_words}
+use Rattle.desk_run.specs.Answers.{other_run, or_else, answer_of_run, first_answer, is_answer, WordsCause}
 use Rattle.desk_run.specs.Reports.{report, line_of, file_line, is_refused, summary_of, line_of_work, plan_line, summary_of_works, report_of_works}
-use Rattle.desk_run.specs.Endings.{WhereTold, Tells, IsReady, Planned, SetsHeader, LedgerEarly, IsAnswer, HaltsEarly, AllWritten, SomeWritten, Finishes, Reported, ReportedOf, HasCauses, HasBegun, StandsAt, StandsSomewhere, IsDone, StandsAfter, is_final, IsTold, Named, NamedBy, NamedByRoots, IsAttached}
-use Rattle.desk_run.specs.Clauses.{HoldsFiles, HoldsRows, Files, CompleteRows, KeepsLedger, LedgerHolds, TwoFronts, Output, Exact, RemainsAt, RemainsSomewhere, Left}
+use Rattle.desk_run.specs.Endings.{WhereTold, Tells, Planned, LedgerEarly, HaltsEarly, AllWritten, Finishes, Reported, ReportedOf, HasCauses, StandsAt, IsDone, StandsAfter, is_final, Named, NamedBy, NamedByRoots, IsAttached}
 use Rattle.desk_run.proofs.Splits.{Mapped, mapped}
-use Rattle.desk_run.proofs.After.{header_after}
-use Rattle.desk_run.proofs.Reading.{at_some}
-use Rattle.desk_run.proofs.Remaining.{remains_of, truth_of}
 
 -- all is written
 all_written : (words : List Text) (m0 : Contents) (l0 : Ledger) (to : Text) (header : Header) (works : List Work) (f' : Option Contents) (k' : Option Ledger) → Planned words m0 l0 to header works
@@ -129,7 +118,7 @@ stopped_stands words m0 l0 to header works done f' k' p s = by s.broken where
   }
 
 -- where a run stands after the writing
-finish_stands : (words : List Text) (m0 : Contents) (l0 : Ledger) (to : Text) (header : Header) (works : List Work) (f' : Option Contents) (k' : Option Ledger) (status : Status) → Planned words m0 l0 to header works
+pub finish_stands : (words : List Text) (m0 : Contents) (l0 : Ledger) (to : Text) (header : Header) (works : List Work) (f' : Option Contents) (k' : Option Ledger) (status : Status) → Planned words m0 l0 to header works
     → Finishes to works (Some m0) f' (Some (with_header header l0)) k' status → Tells f' k' (λ m l. StandsAfter words m0 l0 m l status)
 finish_stands words m0 l0 to header works f' k' Done p a = all_written words m0 l0 to header works f' k' p a
 finish_stands words m0 l0 to header works f' k' OutputFault p a = all_written words m0 l0 to header works f' k' p a
@@ -184,7 +173,7 @@ answer_stands words m0 l0 m l (LedgerFault done) e u = cc
 answer_stands words m0 l0 m l OutputFault e u = cc
 
 -- where a run stands that halts early
-early_stands : (words : List Text) (m0 : Contents) (l0 : Ledger) (f' : Option Contents) (k' : Option Ledger) (a b c d : ℕ) (h : Halt) → f' ≡ Some m0
+pub early_stands : (words : List Text) (m0 : Contents) (l0 : Ledger) (f' : Option Contents) (k' : Option Ledger) (a b c d : ℕ) (h : Halt) → f' ≡ Some m0
     → HaltsEarly words (Some m0) (Some l0) k' a b c d h → Tells f' k' (λ m l. StandsAfter words m0 l0 m l (status_of_halt h))
 early_stands words m0 l0 f' k' a b c d halt.Memory f s =
     let e = early words m0 l0 f' k' f s in record { m = e.m; l = e.l; folders = e.folders; ledger = e.ledger; holds = record { done = 0; stands = e.holds } }
@@ -195,7 +184,7 @@ early_stands words m0 l0 f' k' a b c d (halt.Answer status) f s =
     record { m = u.m; l = u.l; folders = u.folders; ledger = u.ledger; holds = answer_stands words m0 l0 u.m u.l status s.1.is u.holds }
 
 -- an early answer is the first
-early_first : (words : List Text) (m0 : Contents) (l0 : Ledger) (k' : Option Ledger) (a b c d : ℕ) (h : Halt) → HaltsEarly words (Some m0) (Some l0) k' a b c d h → is_final (status_of_halt h) ≡ true
+pub early_first : (words : List Text) (m0 : Contents) (l0 : Ledger) (k' : Option Ledger) (a b c d : ℕ) (h : Halt) → HaltsEarly words (Some m0) (Some l0) k' a b c d h → is_final (status_of_halt h) ≡ true
     → status_of_halt h ≡ first_answer words m0 l0
 early_first words m0 l0 k' a b c d halt.Memory s e = cc
 early_first words m0 l0 k' a b c d halt.Folders s e = cc
@@ -209,7 +198,7 @@ planned_first words m0 l0 to header works p =
     ∙ ap (λ o. or_else o Done) p.other)
 
 -- a late answer is the first
-finish_first : (words : List Text) (m0 : Contents) (l0 : Ledger) (to : Text) (header : Header) (works : List Work) (f f' : Option Contents) (k k' : Option Ledger) (status : Status) → Planned words m0 l0 to header works
+pub finish_first : (words : List Text) (m0 : Contents) (l0 : Ledger) (to : Text) (header : Header) (works : List Work) (f f' : Option Contents) (k k' : Option Ledger) (status : Status) → Planned words m0 l0 to header works
     → Finishes to works f f' k k' status → is_final status ≡ true → status ≡ first_answer words m0 l0
 finish_first words m0 l0 to header works f f' k k' Done p a e = planned_first words m0 l0 to header works p
 finish_first words m0 l0 to header works f f' k k' OutputFault p a e = cc
@@ -272,7 +261,7 @@ report_works words m0 l0 to header works p =
 ok_and : {T E : Type 0} (r : Result T E) (x : T) (P : T → Type 0) → r ≡ Ok x → P x → IsOkAnd r P
 ok_and r x P e p = subst (λ r. IsOkAnd r P) (sym e) p
 
-finish_reported : (words : List Text) (f0 : Option Contents) (k0 : Option Ledger) (to : Text) (header : Header) (works : List Work) (f f' : Option Contents) (k k' : Option Ledger) (o o' : Option Text) (status : Status)
+pub finish_reported : (words : List Text) (f0 : Option Contents) (k0 : Option Ledger) (to : Text) (header : Header) (works : List Work) (f f' : Option Contents) (k k' : Option Ledger) (o o' : Option Text) (status : Status)
     → WhereTold f0 k0 (λ m l. Planned words m l to header works) → Finishes to works f f' k k' status → Reported (report_of_works works) o o' status → ReportedOf words f0 k0 o o' status
 finish_reported words f0 k0 to header works f f' k k' o o' Done p a r = λ m l ef ek.
     let q = p m l ef ek in ok_and (run_of_words words m) q.run _ q.ready.is (r ∙ ap (λ t. writing t o) (report_works words m l to header works q))
@@ -299,7 +288,7 @@ answer_reported words f0 k0 o (FolderFault done) e = refl
 answer_reported words f0 k0 o (LedgerFault done) e = refl
 answer_reported words f0 k0 o OutputFault e = cc
 
-early_reported : (words : List Text) (f0 : Option Contents) (k0 k' : Option Ledger) (a b c d : ℕ) (o : Option Text) (h : Halt) → HaltsEarly words f0 k0 k' a b c d h → ReportedOf words f0 k0 o o (status_of_halt h)
+pub early_reported : (words : List Text) (f0 : Option Contents) (k0 k' : Option Ledger) (a b c d : ℕ) (o : Option Text) (h : Halt) → HaltsEarly words f0 k0 k' a b c d h → ReportedOf words f0 k0 o o (status_of_halt h)
 early_reported words f0 k0 k' a b c d o halt.Memory s = refl
 early_reported words f0 k0 k' a b c d o halt.Folders s = refl
 early_reported words f0 k0 k' a b c d o halt.Ledger s = refl

@@ -1,10 +1,10 @@
 -- What was read makes a run, or an answer.
-use Rattle.std.proofs.Common.{◌≡◌, ◌≢◌, ◌⊎◌, inl, inr, ℕ, ◌+◌, ◌<◌, ◌≤◌, Bool, true, false, List, [], ◌∷◌, length, Option, Some, None, refl, sym, ap, ◌∙◌, subst, cond, nat_lt, map, arith, Result, Ok, Err, IfOk, IfErr, IfSome, is_some, zero, suc}
-use Rattle.std.specs.Prelude.{◌&&◌, nat_le, count_by, if◌then◌else◌, option_map}
+use Rattle.std.proofs.Common.{◌≡◌, ℕ, ◌+◌, ◌<◌, ◌≤◌, Bool, true, false, List, [], ◌∷◌, length, Option, Some, None, refl, sym, ap, ◌∙◌, subst, cond, nat_lt, map, arith, Result, Ok, Err, IfOk, IfErr, IfSome, is_some}
+use Rattle.std.specs.Prelude.{◌&&◌, nat_le, if◌then◌else◌}
 use Rattle.std.specs.List.{fold}
 use Rattle.std.specs.Str.{bytes_eq}
 use Rattle.desk_base.specs.Names.{Text}
-use Rattle.desk_folders.specs.Contents.{Contents, File, Rose, files_below, paths_below}
+use Rattle.desk_folders.specs.Contents.{Contents, File, files_below, paths_below}
 use Rattle.desk_ledger.specs.Ledger.{Ledger}
 use Rattle.desk_report.specs.declared.status.Status.{Status}
 use Rattle.desk_report.specs.declared.status.Status.TheVariants.{Done, Memory, FolderFault, LedgerFault, OutputFault, Usage, NestedRoots, BadRules, OtherRun, NotBuilt}
@@ -21,11 +21,11 @@ use Rattle.desk_run.specs.declared.words.Task.TheVariants as task
 use Rattle.desk_run.specs.declared.TheConstants.{MOST, SIZE}
 use Rattle.desk_run.specs.Words.{task_of, first_nested}
 use Rattle.desk_run.specs.Meaning.{nested_status, roots_apart, roots_of_task, roots_of_words, ruled, run_of, run_by_roots, run_by_rules, run_of_words}
-use Rattle.desk_run.specs.Runs.{Run, AllRelative, targets_of}
-use Rattle.desk_run.specs.Answers.{or_else, other_run, goers, is_short, is_built, first_unbuilt, some_answer, files_answer, answer_of_run, first_answer, WordsCause}
+use Rattle.desk_run.specs.Runs.{Run, AllRelative}
+use Rattle.desk_run.specs.Answers.{or_else, other_run, goers, is_short, is_built, first_unbuilt, some_answer, files_answer, answer_of_run, WordsCause}
 use Rattle.desk_run.specs.Sources.{within_limit, source_of, sources_of, readers_of, bytes_have_image, is_fit, first_unfit}
 use Rattle.desk_run.specs.Inputs.{source_of_input, input_of}
-use Rattle.desk_run.specs.Halts.{HaltsAtWords, HaltsAtFiles, HaltsAtSources, HaltsAtCheck, HaltsGathering, HaltsReadingAll, GatheringAnswer, reading_answer, is_rules_status, is_files_status, is_early_answer}
+use Rattle.desk_run.specs.Halts.{HaltsAtWords, HaltsAtFiles, HaltsAtSources, HaltsAtCheck, HaltsGathering, HaltsReadingAll, reading_answer, is_rules_status, is_files_status, is_early_answer}
 use Rattle.desk_run.specs.Endings.{AreInputs}
 use Rattle.std.proofs.Common.{Vec, Global}
 use Rattle.desk_run.proofs.Reading.{if_some, at_some}

@@ -15,3 +15,4 @@ pub mod Gathering
 pub mod Preparing
 pub mod Remaining
 pub mod Ending
+pub mod Promised

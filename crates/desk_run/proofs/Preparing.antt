@@ -1,20 +1,18 @@
 -- From what was gathered and planned to a run that is ready.
-use Rattle.std.proofs.Common.{◌≡◌, ◌≢◌, ◌⊎◌, inl, inr, ℕ, ◌+◌, ◌<◌, ◌≤◌, ◌^◌, Bool, true, false, List, [], ◌∷◌, ◌++◌, length, Option, Some, None, refl, sym, ap, ◌∙◌, subst, cond, map, arith, Result, Ok, Err, IfOk, IfErr, IfSome, OnOk, is_some, zero, suc, zero-add, append_assoc, Vec, Global}
-use Rattle.std.specs.Prelude.{◌&&◌, nat_le, count_by, if◌then◌else◌, option_map}
+use Rattle.std.proofs.Common.{◌≡◌, inl, inr, ℕ, ◌+◌, ◌<◌, ◌≤◌, ◌^◌, Bool, true, false, List, [], ◌∷◌, ◌++◌, length, Option, Some, None, refl, sym, ap, ◌∙◌, subst, cond, map, arith, Result, Ok, Err, IfOk, IfErr, IfSome, OnOk, is_some, zero-add, append_assoc}
+use Rattle.std.specs.Prelude.{◌&&◌, nat_le, if◌then◌else◌}
 use Rattle.std.specs.Str.{bytes_eq}
-use Rattle.std.proofs.lemmas.Bool.{and_parts, and_from}
 use Rattle.std.proofs.lemmas.List.{length-map}
 use Rattle.std.proofs.lemmas.List.Sums.{sum_by-append}
 use Rattle.std.proofs.lemmas.Slice.Eq.{bytes_eq-Decides}
 use Rattle.desk_base.specs.Names.{Text}
-use Rattle.desk_folders.specs.Contents.{Contents, File, Rose, files_below, paths_below}
+use Rattle.desk_folders.specs.Contents.{Contents, File, files_below}
 use Rattle.desk_ledger.specs.declared.keeper.Header.{Header}
-use Rattle.desk_ledger.specs.Ledger.{Ledger, Rows, with_header}
+use Rattle.desk_ledger.specs.Ledger.{Ledger, Rows}
 use Rattle.desk_report.specs.declared.status.Status.{Status}
 use Rattle.desk_report.specs.declared.status.Status.TheVariants.{Done, Memory, FolderFault, LedgerFault, OutputFault, Usage, NestedRoots, BadRules, OtherRun, NotBuilt}
 use Rattle.desk_run.specs.declared.files.Input.{Input}
 use Rattle.desk_run.specs.declared.finish.Prepared.{Prepared}
-use Rattle.desk_run.specs.declared.image.Image.{Image}
 use Rattle.desk_run.specs.declared.planning.Work.{Work}
 use Rattle.desk_run.specs.declared.roots.Roots.{Roots}
 use Rattle.desk_run.specs.declared.rules.Ruled.{Ruled}
@@ -23,14 +21,14 @@ use Rattle.desk_run.specs.declared.stops.Halt.TheVariants as halt
 use Rattle.desk_run.specs.declared.TheConstants.{SIZE}
 use Rattle.desk_run.specs.Meaning.{roots_of_words, run_of, run_of_words}
 use Rattle.desk_run.specs.Roots.{AreRoots}
-use Rattle.desk_run.specs.Runs.{Run, AllRelative, AllApart, Misses, TargetsApart, targets_of}
+use Rattle.desk_run.specs.Runs.{Run, AllRelative, AllApart, Misses, targets_of}
 use Rattle.desk_run.specs.Answers.{goers, is_short, is_built, first_unbuilt, some_answer, files_answer, or_else, other_run, first_answer, answer_of_run, is_answer, WordsCause}
 use Rattle.desk_run.specs.Inputs.{input_of, work_of_input}
 use Rattle.desk_run.specs.Works.{work_of, works_of}
 use Rattle.desk_run.specs.Truth.{IsOurs}
 use Rattle.desk_run.specs.Stops.{status_of_halt}
 use Rattle.desk_run.specs.Halts.{HaltsGathering, HaltsPlan, LedgerOwn, NamedAtHalt, is_ledger_status, is_early_answer}
-use Rattle.desk_run.specs.Endings.{AreInputs, IsReady, Planned, WhereTold, LedgerEarly, SetsHeader, IsAnswer, HaltsEarly, Named, NamedBy, NamedByRoots, NamedEarly}
+use Rattle.desk_run.specs.Endings.{AreInputs, IsReady, Planned, WhereTold, LedgerEarly, HaltsEarly, NamedBy, NamedByRoots, NamedEarly}
 use Rattle.desk_run.proofs.Reading.{if_some, at_some}
 
 -- how many go to a target, file by file
@@ -137,9 +135,11 @@ own_early words names r header inputs f0 k0 k1 sound same is are rel (inr own) =
   header = header;
   ledger = own.0;
   ours = own.1;
-  whose = if_some _ f0 (λ m ef. (run_of names r,
-      ready words names r m inputs sound (at_some (λ m. run_of_words words m ≡ Ok (run_of names r)) f0 m ef is) (at_some (λ m. AreInputs (run_of names r) m inputs) f0 m ef are) rel,
-      same));
+  whose = if_some _ f0 (λ m ef. (
+    run_of names r,
+    ready words names r m inputs sound (at_some (λ m. run_of_words words m ≡ Ok (run_of names r)) f0 m ef is) (at_some (λ m. AreInputs (run_of names r) m inputs) f0 m ef are) rel,
+    same,
+  ));
 })
 
 ledger_status : (words : List Text) (status : Status) → is_ledger_status status ≡ true → (is_answer status ≡ true) × WordsCause words status
@@ -162,16 +162,18 @@ plan_early words names r header inputs f0 k0 k1 a b c d halt.Memory sound same i
 plan_early words names r header inputs f0 k0 k1 a b c d halt.Folders sound same is are rel g = absurd g
 plan_early words names r header inputs f0 k0 k1 a b c d halt.Ledger sound same is are rel g = (own_early words names r header inputs f0 k0 k1 sound same is are rel g.0, g.1)
 plan_early words names r header inputs f0 k0 k1 a b c d (halt.Answer status) sound same is are rel g =
-    let s = ledger_status words status g.1 in
-    (g.0, record {
-      is = s.0;
-      cause = s.1;
-      first = λ m l ef ek.
-          let run = run_of names r in
-          ap (answer_of_run m l) (at_some (λ m. run_of_words words m ≡ Ok run) f0 m ef is)
-          ∙ ap (λ o. or_else o (or_else (other_run run.header l.header) Done)) (at_some (λ m. AreInputs run m inputs) f0 m ef are).built
-          ∙ ap (λ o. or_else o Done) (ap (λ h. other_run h l.header) (sym same) ∙ at_some (λ l. other_run header l.header ≡ Some status) k0 l ek g.2);
-    })
+    let s = ledger_status words status g.1 in (
+      g.0,
+      record {
+        is = s.0;
+        cause = s.1;
+        first = λ m l ef ek.
+            let run = run_of names r in
+            ap (answer_of_run m l) (at_some (λ m. run_of_words words m ≡ Ok run) f0 m ef is)
+            ∙ ap (λ o. or_else o (or_else (other_run run.header l.header) Done)) (at_some (λ m. AreInputs run m inputs) f0 m ef are).built
+            ∙ ap (λ o. or_else o Done) (ap (λ h. other_run h l.header) (sym same) ∙ at_some (λ l. other_run header l.header ≡ Some status) k0 l ek g.2);
+      },
+    )
 
 early_status : (status : Status) → is_early_answer status ≡ true → is_answer status ≡ true
 early_status Usage e = refl
@@ -190,11 +192,14 @@ pub gather_early : (words : List Text) (f0 : Option Contents) (k0 : Option Ledge
 gather_early words f0 k0 a b c d halt.Memory g = inl refl
 gather_early words f0 k0 a b c d halt.Folders g = (refl, g)
 gather_early words f0 k0 a b c d halt.Ledger g = absurd g
-gather_early words f0 k0 a b c d (halt.Answer status) g = (refl, record {
-  is = early_status status g.is;
-  cause = g.cause;
-  first = λ m l ef ek. at_some (λ m. (l : Ledger) → first_answer words m l ≡ status) f0 m ef g.first l;
-})
+gather_early words f0 k0 a b c d (halt.Answer status) g = (
+  refl,
+  record {
+    is = early_status status g.is;
+    cause = g.cause;
+    first = λ m l ef ek. at_some (λ m. (l : Ledger) → first_answer words m l ≡ status) f0 m ef g.first l;
+  },
+)
 
 early_named : (old : Option Text) (name : Text) (status : Status) → is_early_answer status ≡ true → NamedBy old old name status
 early_named old name Usage e = refl

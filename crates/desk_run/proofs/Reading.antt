@@ -9,14 +9,13 @@ use Rattle.std.proofs.lemmas.Grind.{common_steps}
 use Rattle.std.proofs.Common.{◌≡◌, ℕ, ◌+◌, List, [], ◌++◌, Option, Some, None, refl, sym, ap, ◌∙◌, subst, take, drop, length, arith, length-append}
 use Rattle.std.specs.Prelude.{IfSome}
 use Rattle.std.proofs.Math.Seq.{take-add}
-use Rattle.std.proofs.Common.{suc, ◌<◌, ◌∷◌, map, get_or, cond, Bool, true, false, nat_lt, IsSome, append_assoc, drop-cons}
+use Rattle.std.proofs.Common.{suc, ◌<◌, ◌∷◌, map, get_or, true, IsSome, append_assoc, drop-cons}
 use Rattle.std.proofs.lemmas.List.{map-append}
 use Rattle.std.specs.FinMap as fin
 use Rattle.desk_base.specs.Paths.{full}
-use Rattle.desk_folders.specs.Contents.{Contents, File, IsPart, bytes_at, paths_below, files_below, file_at}
-use Rattle.desk_run.specs.declared.TheConstants.{SIZE}
+use Rattle.desk_folders.specs.Contents.{Contents, IsPart, bytes_at, paths_below, files_below, file_at}
 use Rattle.desk_run.proofs.Writing.{split_at}
-use Rattle.desk_run.proofs.Truths.{AllThere, IsThere, there_at, files_there}
+use Rattle.desk_run.proofs.Truths.{AllThere, there_at, files_there}
 
 pub at_some : {A : Type 0} (P : A → Type 0) (o : Option A) (x : A) → o ≡ Some x → IfSome o P → P x
 at_some P o x e h = subst (λ v. IfSome v P) e h

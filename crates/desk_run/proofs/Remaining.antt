@@ -1,27 +1,25 @@
 -- What remains of a run that stands at some file.
-use Rattle.std.proofs.Common.{◌≡◌, ◌≢◌, ◌⊎◌, inl, inr, ℕ, ◌+◌, ◌<◌, ◌≤◌, List, [], ◌∷◌, ◌++◌, Option, Some, None, refl, sym, ap, ◌∙◌, subst, true, false, Bool, cond, arith, append_assoc, is_some, map, length, length-append}
+use Rattle.std.proofs.Common.{◌≡◌, ◌≢◌, ◌⊎◌, inl, inr, ℕ, ◌<◌, ◌≤◌, List, [], ◌∷◌, ◌++◌, Option, Some, None, refl, sym, ap, ◌∙◌, subst, true, false, Bool, cond, arith, append_assoc, is_some, map, length, length-append}
 use Rattle.std.specs.Prelude.{not, ◌&&◌, ◌==◌}
 use Rattle.std.specs.FinMap as fin
 use Rattle.std.specs.Cmp.Lexicographic.{pointwise}
-use Rattle.std.proofs.lemmas.List.{map-append, append_cancel_left}
+use Rattle.std.proofs.lemmas.List.{map-append}
 use Rattle.std.proofs.lemmas.Slice.Eq.{bytes_eq-Decides}
-use Rattle.sha2.specs.Sha256.{sha256}
 use Rattle.desk_base.specs.Names.{Text}
-use Rattle.desk_base.specs.Paths.{full, folder, is_relative_path}
-use Rattle.desk_folders.specs.Contents.{Contents, File, setting, files_below, ChangesOnly}
+use Rattle.desk_base.specs.Paths.{full, is_relative_path}
+use Rattle.desk_folders.specs.Contents.{Contents, File, setting, files_below}
 use Rattle.desk_ledger.specs.declared.keeper.Held.{Held}
 use Rattle.desk_ledger.specs.Ledger.{Ledger, Rows, with_header}
-use Rattle.desk_folders.specs.ContentsLaws.{get-insert-same, get-insert-other, get-setting-other, get-remove-same}
+use Rattle.desk_folders.specs.ContentsLaws.{get-insert-same, get-setting-other, get-remove-same}
 use Rattle.desk_run.specs.declared.image.Image.{Image}
-use Rattle.desk_run.specs.declared.planning.Plan.{Plan}
-use Rattle.desk_run.specs.declared.planning.Plan.TheVariants.{Keep, Leave, Write}
+use Rattle.desk_run.specs.declared.planning.Plan.TheVariants.{Keep}
 use Rattle.desk_run.specs.declared.planning.Work.{Work}
-use Rattle.desk_run.specs.Runs.{Run, RootsApart, TargetsApart, AllRelative, Misses, AllApart, held_of, is_kept, is_kept_file, is_fresh, targets_of}
-use Rattle.desk_run.specs.Works.{work_of, works_of, fresh, wrote, wrote_plan, logged, logged_plan, cleared, cleared_plan, forgot, writes, files_after, ledger_after}
-use Rattle.desk_run.specs.Truth.{HasImage, TrueRows, TrueLedger, IsOurs}
+use Rattle.desk_run.specs.Runs.{Run, TargetsApart, AllRelative, Misses, AllApart, held_of, is_kept, is_kept_file, is_fresh, targets_of}
+use Rattle.desk_run.specs.Works.{work_of, works_of, fresh, wrote_plan, logged_plan, cleared_plan, writes, files_after, ledger_after}
+use Rattle.desk_run.specs.Truth.{TrueRows, TrueLedger, IsOurs}
 use Rattle.desk_run.specs.Stands.{Unchanged, Between, Within, Stands, Remains}
-use Rattle.desk_run.proofs.Splits.{Covered, covered, same_place, apart_before, apart_behind, misses_front, misses_back, relative_at, relative_front}
-use Rattle.desk_run.proofs.After.{Off, Spares, full_apart, files_spare, rows_spare, off_from_misses, spares_from_misses, files_after-join, ledger_after-join, header_after, header_cleared, plan_spares, logged_spares, cleared_spares}
+use Rattle.desk_run.proofs.Splits.{covered, same_place, apart_before, apart_behind, misses_front, misses_back, relative_at, relative_front}
+use Rattle.desk_run.proofs.After.{Off, Spares, full_apart, files_spare, rows_spare, off_from_misses, spares_from_misses, files_after-join, ledger_after-join, header_after, header_cleared, cleared_spares}
 use Rattle.desk_run.proofs.Truths.{AllThere, IsThere, there_at, files_there, true_after, true_broken}
 
 pub and_both : (a b : Bool) → a && b ≡ true → (a ≡ true) × (b ≡ true)

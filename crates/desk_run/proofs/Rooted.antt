@@ -1,13 +1,13 @@
 -- What roots of words are: their segments are names, and what is written of them are roots and full paths.
-use Rattle.std.proofs.Common.{◌≡◌, ◌≢◌, ℕ, Bool, true, false, List, [], ◌∷◌, ◌++◌, length, Option, Some, None, refl, sym, ap, ◌∙◌, subst, arith, append_assoc, cond, IsTrue}
-use Rattle.std.specs.Prelude.{not, ◌&&◌, ◌||◌, ◌==◌, filter, Result, Ok, Err, if◌then◌else◌}
-use Rattle.std.specs.List.{All, list_all, list_any, slice_split, onto_first}
+use Rattle.std.proofs.Common.{◌≡◌, Bool, true, false, List, [], ◌∷◌, ◌++◌, Option, Some, None, refl, sym, ap, ◌∙◌, subst, cond}
+use Rattle.std.specs.Prelude.{not, ◌&&◌, ◌||◌, ◌==◌, filter, Ok, if◌then◌else◌}
+use Rattle.std.specs.List.{All, list_all, list_any, onto_first}
 use Rattle.std.specs.Str.{bytes_eq}
 use Rattle.std.proofs.lemmas.Bool.{and_parts, and_from, not-true, eq-eqb}
 use Rattle.std.proofs.lemmas.List.Elements.{All-nil, All-cons}
-use Rattle.std.proofs.lemmas.List.Splits.{slice_split_none, slice_split_at, join_with_byte-slice_split}
+use Rattle.std.proofs.lemmas.List.Splits.{slice_split_none, slice_split_at}
 use Rattle.desk_base.specs.Names.{Text, slash, is_empty, is_whole, written}
-use Rattle.desk_base.specs.Paths.{here, top, is_segment, is_relative_path, is_full_path, is_root, written_root, folder, full}
+use Rattle.desk_base.specs.Paths.{here, top, is_segment, is_relative_path, is_full_path, is_root, written_root, full}
 use Rattle.desk_run.specs.declared.roots.Root.{Root}
 use Rattle.desk_run.specs.declared.words.Task.{Task}
 use Rattle.desk_run.specs.declared.words.Task.TheVariants.{Run}

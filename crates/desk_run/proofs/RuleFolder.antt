@@ -1,25 +1,16 @@
 -- The rules of a folder, by what was listed and read of it.
-use Rattle.std.proofs.Common.{◌≡◌, ◌≢◌, ◌⊎◌, inl, inr, ℕ, ◌<◌, ◌≤◌, Bool, true, false, List, [], ◌∷◌, length, Option, Some, None, refl, sym, ap, ◌∙◌, subst, cond, nat_lt, map, arith, IsSome, Result, Ok, Err, IfOk, IfErr, IfSome, zero, suc, lit<}
-use Rattle.std.specs.Prelude.{not, ◌||◌, if◌then◌else◌}
-use Rattle.std.specs.List.{list_any}
-use Rattle.std.specs.Str.{bytes_eq}
+use Rattle.std.proofs.Common.{◌≡◌, inl, inr, ℕ, ◌<◌, ◌≤◌, Bool, true, false, List, [], ◌∷◌, length, Option, Some, None, refl, sym, ap, ◌∙◌, cond, nat_lt, map, arith, IsSome, Result, Ok, Err, IfOk, IfErr, IfSome, lit<}
 use Rattle.std.specs.FinMap as fin
-use Rattle.std.proofs.lemmas.List.{length-map}
-use Rattle.std.proofs.lemmas.Bool.{false_from_ne_true}
-use Rattle.std.proofs.lemmas.Slice.Eq.{bytes_eq-Decides}
 use Rattle.desk_base.specs.Names.{Text}
 use Rattle.desk_base.specs.Paths.{full}
-use Rattle.desk_folders.specs.Contents.{Contents, File, Rose, IsListing, bytes_at, files_below, paths_below}
-use Rattle.desk_report.specs.declared.status.Status.{Status}
-use Rattle.desk_report.specs.declared.status.Status.TheVariants.{NotBuilt}
-use Rattle.desk_rules.specs.Files.{renames_name}
+use Rattle.desk_folders.specs.Contents.{Contents, IsListing, bytes_at, files_below, paths_below}
 use Rattle.desk_run.specs.declared.rules.Ruled.{Ruled}
 use Rattle.desk_run.specs.declared.stops.Halt.{Halt}
 use Rattle.desk_run.specs.declared.stops.Halt.TheVariants as halt
 use Rattle.desk_run.specs.declared.TheConstants.{SIZE}
-use Rattle.desk_run.specs.Meaning.{is_other, ruled}
+use Rattle.desk_run.specs.Meaning.{ruled}
 use Rattle.desk_run.specs.Sources.{within_limit}
-use Rattle.desk_run.specs.Halts.{HaltsAtRules, HaltsRuled, IsNotBuilt, is_rules_status}
+use Rattle.desk_run.specs.Halts.{HaltsAtRules, HaltsRuled}
 use Rattle.desk_run.proofs.Reading.{if_some, at_some, there_listed}
 
 pub whole_bytes : (bytes whole : Text) → Some bytes ≡ within_limit whole → (bytes ≡ whole) × (nat_lt SIZE (length whole) ≡ false)

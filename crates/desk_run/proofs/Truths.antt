@@ -1,5 +1,5 @@
 -- A true ledger stays true, whatever is done or left undone.
-use Rattle.std.proofs.Common.{◌≡◌, ◌≢◌, ◌⊎◌, inl, inr, ℕ, List, [], ◌∷◌, ◌++◌, Option, Some, None, refl, sym, ap, ◌∙◌, subst, true, false, Bool, cond, unwrap_or, append_assoc, is_some, map, eqb, arith}
+use Rattle.std.proofs.Common.{◌≡◌, ◌≢◌, ◌⊎◌, inl, inr, List, [], ◌∷◌, ◌++◌, Option, Some, None, refl, sym, ap, ◌∙◌, true, false, Bool, cond, unwrap_or, append_assoc, is_some, map, eqb, arith}
 use Rattle.std.specs.Prelude.{option_and_then, if◌then◌else◌}
 use Rattle.std.specs.FinMap as fin
 use Rattle.std.specs.Ordering.{nat_cmp, eq_by_cmp}
@@ -10,19 +10,18 @@ use Rattle.std.specs.List.{filter_map, list_any}
 use Rattle.std.specs.Str.{bytes_eq}
 use Rattle.std.proofs.lemmas.Slice.Eq.{bytes_eq-Decides}
 use Rattle.std.proofs.lemmas.Bool.Decides.{not_from_Decides, Decides-eqb}
-use Rattle.sha2.specs.Sha256.{sha256}
 use Rattle.desk_base.specs.Names.{Text}
 use Rattle.desk_base.specs.Paths.{full, folder, is_relative_path}
-use Rattle.desk_folders.specs.Contents.{Contents, File, behind, below, relative, setting, bytes_at, file_at, files_below, paths_below}
+use Rattle.desk_folders.specs.Contents.{Contents, File, behind, below, relative, setting, file_at, files_below}
 use Rattle.desk_folders.specs.ContentsLaws.{get-insert-same, get-insert-other, get-setting-other}
 use Rattle.desk_ledger.specs.declared.keeper.Held.{Held}
 use Rattle.desk_ledger.specs.Ledger.{Ledger, Rows}
 use Rattle.desk_run.specs.declared.image.Image.{Image}
 use Rattle.desk_run.specs.declared.planning.Plan.{Plan}
-use Rattle.desk_run.specs.declared.planning.Plan.TheVariants.{Keep, Leave, Write}
+use Rattle.desk_run.specs.declared.planning.Plan.TheVariants.{Keep}
 use Rattle.desk_run.specs.Runs.{Run, RootsApart, AllRelative, held_of, targets_of}
-use Rattle.desk_run.specs.Works.{work_of, works_of, fresh, wrote, wrote_plan, logged, logged_plan, writes, files_after, ledger_after}
-use Rattle.desk_run.specs.Truth.{HasImage, TrueRows, TrueLedger}
+use Rattle.desk_run.specs.Works.{work_of, works_of, fresh, wrote, wrote_plan, logged, logged_plan, files_after, ledger_after}
+use Rattle.desk_run.specs.Truth.{TrueRows}
 use Rattle.desk_run.proofs.After.{full_apart, plan_spares}
 
 pub text_case : (p q : Text) → (p ≡ q) ⊎ (p ≢ q)

@@ -3,7 +3,6 @@ use Rattle.std.proofs.Common.{◌≡◌, ℕ, ◌+◌, ◌-◌, List, [], ◌++�
 use Rattle.std.specs.Prelude.{Bool, true, false, Some, None, option_map, length, get_or, ◌∷◌, ◌<◌}
 use Rattle.std.proofs.lemmas.List.{take_more, take-append-drop}
 use Rattle.std.proofs.Common.{drop-cons}
-use Rattle.desk_base.specs.Names.{Text}
 use Rattle.desk_ledger.specs.declared.keeper.Row.{Row}
 use Rattle.desk_ledger.specs.Ledger.{Ledger, with_row, held_in}
 use Rattle.desk_folders.specs.ContentsLaws.{insert-remove}

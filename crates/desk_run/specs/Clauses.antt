@@ -1,5 +1,5 @@
 -- What is promised of a run, clause by clause.
-use Rattle.std.specs.Prelude.{◌≡◌, ◌≢◌, ◌⊎◌, ℕ, ◌++◌, List, ◌∷◌, length, Option, Some, None, Bool, true, false, Result, Ok, Err, IsOkAnd, MatchResult}
+use Rattle.std.specs.Prelude.{◌≡◌, ◌≢◌, ◌⊎◌, ℕ, ◌++◌, List, ◌∷◌, Option, Some, true, false, Ok, IsOkAnd, MatchResult}
 use Rattle.std.specs.FinMap as fin
 use Rattle.desk_base.specs.Names.{Text}
 use Rattle.desk_base.specs.Paths.{full}

@@ -1,11 +1,11 @@
 -- How a run ends.
-use Rattle.std.specs.Prelude.{◌≡◌, ◌⊎◌, ℕ, ◌≤◌, ◌++◌, List, [], length, Option, Some, None, Bool, true, false, Result, Ok, Err, IfSome, option_map, map, IsOkAnd}
+use Rattle.std.specs.Prelude.{◌≡◌, ◌⊎◌, ℕ, List, length, Option, Some, None, Bool, true, false, Result, Ok, Err, IfSome, option_map, map, IsOkAnd}
 use Rattle.desk_base.specs.Names.{Text}
-use Rattle.desk_folders.specs.Contents.{Contents, File, Rose, files_below}
+use Rattle.desk_folders.specs.Contents.{Contents, Rose, files_below}
 use Rattle.desk_ledger.specs.declared.keeper.Header.{Header}
 use Rattle.desk_ledger.specs.Ledger.{Ledger, with_header}
 use Rattle.desk_report.specs.declared.status.Status.{Status}
-use Rattle.desk_report.specs.declared.status.Status.TheVariants.{Done, Memory, FolderFault, LedgerFault, OutputFault, Usage, NestedRoots, BadRules, OtherRun, NotBuilt}
+use Rattle.desk_report.specs.declared.status.Status.TheVariants.{Done, Memory, FolderFault, LedgerFault, OutputFault, OtherRun}
 use Rattle.desk_report.specs.Written.{WritesFront, writing}
 use Rattle.desk_run.specs.declared.planning.Work.{Work}
 use Rattle.desk_run.specs.declared.roots.Roots.{Roots}

@@ -1,5 +1,5 @@
 -- Files that are built, and what is done with them.
-use Rattle.std.specs.Prelude.{List, Option, Some, cond, is_some, map}
+use Rattle.std.specs.Prelude.{Option, Some, cond, is_some}
 use Rattle.std.specs.FinMap as fin
 use Rattle.sha2.specs.Sha256.{sha256}
 use Rattle.desk_base.specs.Names.{Text}

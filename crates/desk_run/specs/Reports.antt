@@ -1,5 +1,5 @@
 -- The report of a run that completes.
-use Rattle.std.specs.Prelude.{ℕ, ◌++◌, List, [], Option, Some, None, Bool, true, false, not, ◌&&◌, length, count_by, is_none}
+use Rattle.std.specs.Prelude.{◌++◌, List, [], Option, Some, None, Bool, true, false, not, ◌&&◌, length, count_by, is_none}
 use Rattle.std.specs.List.{flat_map}
 use Rattle.desk_base.specs.Names.{Text}
 use Rattle.desk_folders.specs.Contents.{File}

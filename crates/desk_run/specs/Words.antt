@@ -1,5 +1,5 @@
 -- What words mean: the task that they ask for, or none.
-use Rattle.std.specs.Prelude.{ℕ, Bool, true, false, not, ◌&&◌, ◌||◌, ◌==◌, nat_le, List, [], ◌∷◌, Option, Some, None, length, filter, codes, if◌then◌else◌}
+use Rattle.std.specs.Prelude.{Bool, true, false, not, ◌&&◌, ◌||◌, ◌==◌, nat_le, List, [], ◌∷◌, Option, Some, None, length, filter, codes, if◌then◌else◌}
 use Rattle.std.specs.List.{slice_split, list_any, starts_with}
 use Rattle.std.specs.Str.{bytes_eq, is_utf8}
 use Rattle.desk_base.specs.Names.{Text, is_empty, slash}

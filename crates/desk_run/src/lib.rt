@@ -1,6 +1,11 @@
 //! The desk: one run from its words to its report.
 #![tactic(auto)]
 
+ghost use Rattle.std.specs.Prelude.{◌≡◌, ◌≤◌, true};
+ghost use Rattle.desk_run.specs.Answers.{first_answer};
+ghost use Rattle.desk_run.specs.Clauses.{Exact, Files, LedgerHolds, Left, Output};
+ghost use Rattle.desk_run.specs.Endings.{HasCauses, Named, ReportedOf, StandsAfter, Tells, WhereTold, is_final};
+
 mod check;
 mod files;
 mod finish;
@@ -17,7 +22,14 @@ mod tally;
 mod words;
 mod write;
 
+use desk_base::Text;
+use desk_folders::Folders;
+use desk_ledger::Keeper;
+use desk_report::{Sink, Status, write_fault};
+use finish::{finish, prepare};
 pub use roots::Root;
+use std::alloc::Global;
+use stops::status_of_halt;
 pub use words::{Task, WordsFault, read_words};
 
 /// How many files a run takes.
@@ -28,3 +40,58 @@ pub const SIZE: usize = 1_048_576;
 
 /// How many bytes a path or a target may have.
 pub const LENGTH: usize = 1024;
+
+/// A run up to its end, without the line of a fault.
+fn run_words<F: Folders, K: Keeper, O: Sink>(
+    alloc: Global,
+    words: &[Text],
+    folders: &mut F,
+    keeper: &mut K,
+    out: &mut O,
+) -> Status
+    ensures stands { WhereTold (F.told folders.old) (K.told keeper.old) (λ m0 l0. Tells (F.told folders.new) (K.told keeper.new) (λ m l. StandsAfter words.now m0 l0 m l result)) }
+    ensures first { WhereTold (F.told folders.old) (K.told keeper.old) (λ m l. is_final result ≡ true → result ≡ first_answer words.now m l) }
+    ensures output { ReportedOf words.now (F.told folders.old) (K.told keeper.old) (O.told out.old) (O.told out.new) result }
+    ensures named { Named words.now (K.attached keeper.old) (K.attached keeper.new) result }
+    ensures causes { HasCauses words.now result (F.faults folders.old) (F.faults folders.new) (K.faults keeper.old) (K.faults keeper.new) (O.faults out.old) (O.faults out.new) }
+    ensures counts_f { F.faults folders.old ≤ F.faults folders.new }
+    ensures counts_k { K.faults keeper.old ≤ K.faults keeper.new }
+    ensures counts_o { O.faults out.old ≤ O.faults out.new }
+{
+    match prepare(alloc, words, folders, keeper) {
+        Ok(prepared) => finish(alloc, folders, keeper, out, prepared),
+        Err(halt) => status_of_halt(halt),
+    }
+}
+
+/// Migrates the application that words name: reads the rules and the source, opens the ledger, writes
+/// each file that isn't kept from an earlier run, and then the report; or the line of what stands
+/// against it.
+///
+/// The words are `run --rules R --from A --to B --ledger L`. The statuses, of which the first that
+/// stands is the answer:
+/// `Usage` (other words), `NestedRoots` (a root lies in another that is written to or holds the ledger),
+/// `NotBuilt` with the rules' root (a rule folder of another form), `BadRules`, `NotBuilt` with the
+/// source's root (more than 1,000 files) or with the least path of a file that isn't built,
+/// `OtherRun` (the ledger's header isn't this run's), `Done`.
+/// `FolderFault`, `LedgerFault` and `OutputFault` come only where the count of faults of that object rose
+/// in this call; `Memory` may come at any step.
+pub fn desk<F: Folders, K: Keeper, O: Sink>(
+    alloc: Global,
+    words: &[Text],
+    folders: &mut F,
+    keeper: &mut K,
+    out: &mut O,
+) -> Status
+    ensures files { WhereTold (F.told folders.old) (K.told keeper.old) (λ m0 l0. Tells (F.told folders.new) (K.told keeper.new) (λ m l. Files words.now m0 l0 m result)) }
+    ensures ledger { LedgerHolds words.now (F.told folders.old) (F.told folders.new) (K.told keeper.old) (K.told keeper.new) (K.attached keeper.old) (K.attached keeper.new) result }
+    ensures output { Output words.now (F.told folders.old) (K.told keeper.old) (O.told out.old) (O.told out.new) (O.faults out.old) (O.faults out.new) result }
+    ensures status { WhereTold (F.told folders.old) (K.told keeper.old) (λ m l. Exact (first_answer words.now m l) result
+        (F.faults folders.old) (F.faults folders.new) (K.faults keeper.old) (K.faults keeper.new) (O.faults out.old) (O.faults out.new)) }
+    ensures causes { HasCauses words.now result (F.faults folders.old) (F.faults folders.new) (K.faults keeper.old) (K.faults keeper.new) (O.faults out.old) (O.faults out.new) }
+    ensures remains { WhereTold (F.told folders.old) (K.told keeper.old) (λ m0 l0. Tells (F.told folders.new) (K.told keeper.new) (λ m l. Left words.now m0 l0 m l result)) }
+{
+    let status = run_words(alloc, words, folders, keeper, out);
+    let _ = write_fault(&status, out);
+    status
+}

@@ -1,5 +1,4 @@
-use Rattle.desk_run.specs.Meaning.{run_of}
-use Rattle.desk_run.proofs.Preparing.{ok_planned, ok_few, err_plan, err_named, gather_early, gather_named}
+use Rattle.desk_run.proofs.Preparing.{ok_planned, ok_few, err_plan, gather_named}
 use Rattle.desk_run.proofs.finish.prepare.Goals as goal
 
 pub returns-in-Ok-clause-planned : goal.returns-in-Ok-clause-planned

@@ -1,4 +1,3 @@
-use Rattle.std.proofs.lemmas.Result.{IfOk-weaker}
 use Rattle.desk_run.proofs.Gathering.{halts_at_words, err_reading}
 use Rattle.desk_run.proofs.gather.gather.Goals as goal
 

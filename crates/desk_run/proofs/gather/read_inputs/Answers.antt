@@ -1,6 +1,5 @@
-use Rattle.std.proofs.Common.{◌≡◌, refl, Result, Ok, Err}
 use Rattle.desk_run.specs.Meaning.{run_of}
-use Rattle.desk_run.proofs.Gathering.{ok_inputs, ok_relative, err_check, halts_at_sources}
+use Rattle.desk_run.proofs.Gathering.{ok_inputs, ok_relative, err_check}
 use Rattle.desk_run.proofs.gather.read_inputs.Goals as goal
 
 pub returns-in-Ok-clause-inputs : goal.returns-in-Ok-clause-inputs

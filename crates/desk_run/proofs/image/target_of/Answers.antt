@@ -1,4 +1,4 @@
-use Rattle.std.proofs.Common.{subst, IfOk, IsTrue, ◌≡◌}
+use Rattle.std.proofs.Common.{subst, IfOk, IsTrue}
 use Rattle.desk_base.specs.Paths.{is_relative_path}
 use Rattle.desk_run.proofs.image.target_of.Goals as goal
 

@@ -1,7 +1,6 @@
-use Rattle.std.proofs.Common.{rules, ◌≡◌, ◌∙◌, ap, sym, map, ◌++◌, ◌∷◌, [], map-id}
+use Rattle.std.proofs.Common.{rules, ◌≡◌, ◌∙◌, ap, sym, map, map-id}
 use Rattle.std.proofs.lemmas.Iterator.Adapters.{YieldsList-from_vec}
 use Rattle.std.proofs.lemmas.Iterator.Consumers.{YieldsList-end}
-use Rattle.std.proofs.lemmas.List.{map-append}
 use Rattle.desk_run.specs.Images.{image}
 use Rattle.desk_run.specs.Inputs.{work_of_input}
 use Rattle.desk_run.specs.declared.files.Input.{Input}

@@ -1,4 +1,4 @@
-use Rattle.std.proofs.Common.{◌≡◌, map, ap, ◌∙◌, sym, rules, tests, ◌==◌, ◌∷◌, []}
+use Rattle.std.proofs.Common.{ap, ◌∙◌, rules, tests, ◌==◌}
 use Rattle.std.specs.Prelude.{filter, not}
 use Rattle.std.proofs.lemmas.List.{map-append}
 use Rattle.std.proofs.lemmas.List.Elements.{filter-append}

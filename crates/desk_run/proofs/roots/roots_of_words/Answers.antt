@@ -1,6 +1,5 @@
-use Rattle.std.proofs.Common.{◌≡◌, ◌∙◌, ap, Option, Ok}
+use Rattle.std.proofs.Common.{◌∙◌, ap}
 use Rattle.std.proofs.lemmas.Result.{IfOk-weaker}
-use Rattle.desk_run.specs.declared.words.Task.{Task}
 use Rattle.desk_run.specs.declared.roots.Roots.{Roots}
 use Rattle.desk_run.specs.Meaning.{roots_of_task}
 use Rattle.desk_run.proofs.Rooted.{roots_of_words_are}

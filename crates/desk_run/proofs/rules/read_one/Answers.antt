@@ -1,4 +1,4 @@
-use Rattle.std.proofs.Common.{◌≡◌, ◌≢◌, ◌∙◌, ap, sym, refl}
+use Rattle.std.proofs.Common.{refl}
 use Rattle.desk_run.proofs.RuleFolder.{one_there, one_ok, one_err}
 use Rattle.desk_run.proofs.rules.read_one.Goals as goal
 

@@ -1,4 +1,4 @@
-use Rattle.std.proofs.Common.{◌≡◌, ◌≢◌, ◌∙◌, ap, sym, [], lit≤}
+use Rattle.std.proofs.Common.{◌∙◌, sym, [], lit≤}
 use Rattle.desk_run.proofs.RuleFolder.{none_ok, none_err, listed_few, no_items}
 use Rattle.desk_run.proofs.rules.read_rules.Goals as goal
 

@@ -1,8 +1,6 @@
-use Rattle.std.proofs.Common.{rules, arith, ◌≡◌, Some, refl}
-use Rattle.desk_folders.specs.Contents.{Contents, files_below}
+use Rattle.std.proofs.Common.{rules}
 use Rattle.desk_run.specs.Meaning.{run_of}
-use Rattle.desk_run.specs.Sources.{sources_of}
-use Rattle.desk_run.proofs.Reading.{there_listed, sources_more, relative_more, if_some, nothing_left}
+use Rattle.desk_run.proofs.Reading.{there_listed, sources_more, relative_more}
 use Rattle.desk_run.proofs.sources.read_listed.Goals as goal
 
 pub read_source-requires-clause-there : goal.read_source-requires-clause-there

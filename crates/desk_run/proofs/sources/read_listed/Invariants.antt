@@ -1,4 +1,4 @@
-use Rattle.std.proofs.Common.{length, take, drop, ◌≡◌, ◌≤◌, ◌++◌, Some, map}
+use Rattle.std.proofs.Common.{length, drop, ◌≡◌, ◌≤◌, ◌++◌, Some, map}
 use Rattle.desk_folders.specs.Contents.{Contents, file_at, files_below}
 use Rattle.desk_run.specs.Meaning.{run_of}
 use Rattle.desk_run.specs.Runs.{AllRelative}

@@ -1,6 +1,6 @@
-use Rattle.std.proofs.Common.{◌≡◌, ◌<◌, ◌≤◌, ℕ, List, [], ◌∷◌, length, get_or, Option, Some, None, true, false, Bool, arith, sym, ap, ◌∙◌, subst, IfOk, if◌then◌else◌, cond, refl}
+use Rattle.std.proofs.Common.{◌≡◌, ◌<◌, ◌≤◌, ℕ, List, [], ◌∷◌, length, get_or, Option, None, true, false, Bool, arith, sym, ap, ◌∙◌, subst, IfOk, if◌then◌else◌, refl}
 use Rattle.desk_run.specs.declared.words.Task.{Task}
-use Rattle.desk_run.specs.Words.{task_of, are_options, run_of_roots, root_of}
+use Rattle.desk_run.specs.Words.{task_of, run_of_roots, root_of}
 use Rattle.desk_run.proofs.words.task_of.Goals as goal
 
 -- nine words, one by one

@@ -1,4 +1,4 @@
-use Rattle.std.proofs.Common.{rules, arith}
+use Rattle.std.proofs.Common.{rules}
 use Rattle.desk_run.proofs.Writing.{stopped_here, one_file_more, one_row_more, relative_work}
 use Rattle.desk_run.proofs.write.write_all.Goals as goal
 

@@ -1,4 +1,4 @@
-use Rattle.std.proofs.Common.{rules, ◌≡◌, take, arith}
+use Rattle.std.proofs.Common.{rules, take}
 use Rattle.desk_folders.specs.ContentsLaws.{IsSome-holding}
 use Rattle.desk_run.proofs.Writing.{on_err, changed_after, appended}
 use Rattle.desk_run.proofs.write.write_file.Goals as goal

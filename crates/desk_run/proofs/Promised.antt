@@ -1,0 +1,226 @@
+-- The clauses of a run, from where it stands at its end.
+use Rattle.std.proofs.Common.{◌≡◌, ◌⊎◌, inl, inr, ℕ, ◌<◌, ◌≤◌, List, [], ◌∷◌, ◌++◌, Option, Some, None, refl, sym, ap, ◌∙◌, subst, true, arith, append-nil, length, length-append, Result, Ok, Err, OnOk, OnErr}
+use Rattle.std.specs.Prelude.{option_map, IsOkAnd, MatchResult}
+use Rattle.desk_base.specs.Names.{Text}
+use Rattle.desk_folders.specs.Contents.{Contents, File, Rose, files_below}
+use Rattle.desk_folders.specs.ContentsLaws.{Rose-earlier, Rose-later}
+use Rattle.desk_ledger.specs.declared.keeper.Header.{Header}
+use Rattle.desk_ledger.specs.Ledger.{Ledger, with_header}
+use Rattle.desk_report.specs.declared.sink.SinkFault.{SinkFault}
+use Rattle.desk_report.specs.declared.status.Status.{Status}
+use Rattle.desk_report.specs.declared.status.Status.TheVariants.{Done, Memory, FolderFault, LedgerFault, OutputFault, Usage, NestedRoots, BadRules, OtherRun, NotBuilt}
+use Rattle.desk_report.specs.Texts.{fault_text}
+use Rattle.desk_report.specs.Written.{WritesFront, writing}
+use Rattle.desk_run.specs.declared.planning.Work.{Work}
+use Rattle.desk_run.specs.declared.stops.Halt.{Halt}
+use Rattle.desk_run.specs.Runs.{Run}
+use Rattle.desk_run.specs.Works.{works_of}
+use Rattle.desk_run.specs.Truth.{TrueLedger}
+use Rattle.desk_run.specs.Stops.{status_of_halt}
+use Rattle.desk_run.specs.Stands.{Unchanged, Between, Remains}
+use Rattle.desk_run.specs.Meaning.{run_of_words}
+use Rattle.desk_run.specs.Answers.{first_answer}
+use Rattle.desk_run.specs.Endings.{WhereTold, Tells, Planned, HaltsEarly, Finishes, ReportedOf, HasCauses, StandsAt, IsDone, StandsAfter, is_final, Named}
+use Rattle.desk_run.specs.Clauses.{HoldsFiles, HoldsRows, Files, CompleteRows, KeepsLedger, LedgerHolds, Output, Exact, RemainsAt, Left}
+use Rattle.desk_run.proofs.After.{header_after}
+use Rattle.desk_run.proofs.Remaining.{remains_of, truth_of}
+use Rattle.desk_run.proofs.Ending.{finish_stands, early_stands, early_first}
+
+shorter_than : (files before rest : List File) (file : File) → files ≡ before ++ file ∷ rest → length before < length files
+shorter_than files before rest file e = let h = ap length e in let k = length-append before (file ∷ rest) in omega arith
+
+holds_files : (run : Run) (m0 : Contents) (l0 : Ledger) (m : Contents) (l : Ledger) → Between run m0 l0 m l (length (files_below run.from m0)) → HoldsFiles run m0 l0 m
+holds_files run m0 l0 m l b =
+    let r = remains_of run m0 l0 m l (length (files_below run.from m0)) (inr (inl b)) in
+    record {
+      images = λ before rest file image e is truth. r.images before rest file image e (shorter_than (files_below run.from m0) before rest file e) is truth;
+      paths = λ path h. r.paths path (λ before rest file e le. h before rest file e);
+    }
+
+holds_rows : (run : Run) (m0 : Contents) (l0 : Ledger) (m : Contents) (l : Ledger) → Between run m0 l0 m l (length (files_below run.from m0)) → HoldsRows run m0 l0 l
+holds_rows run m0 l0 m l b =
+    let r = remains_of run m0 l0 m l (length (files_below run.from m0)) (inr (inl b)) in
+    record {
+      header = ap (λ (x : Ledger). x.header) b.ledger ∙ header_after (works_of run l0.rows b.before) (with_header run.header l0);
+      rows = λ before rest file image e is. r.rows before rest file image e (shorter_than (files_below run.from m0) before rest file e) is;
+      others = λ target h. r.others target (λ before rest file e le. h before rest file e);
+    }
+
+ok_and : {T E : Type 0} (r : Result T E) (x : T) (P : T → Type 0) → r ≡ Ok x → P x → IsOkAnd r P
+ok_and r x P e p = subst (λ r. IsOkAnd r P) (sym e) p
+
+same_ok : {T E : Type 0} (r : Result T E) (x y : T) → r ≡ Ok x → r ≡ Ok y → x ≡ y
+same_ok (Ok z) x y e f = cc
+same_ok (Err z) x y e f = cc
+
+pub files_clause : (words : List Text) (m0 : Contents) (l0 : Ledger) (f : Option Contents) (k : Option Ledger) (status : Status)
+    → Tells f k (λ m l. StandsAfter words m0 l0 m l status) → Tells f k (λ m l. Files words m0 l0 m status)
+files_clause words m0 l0 f k status t = record { m = t.m; l = t.l; folders = t.folders; ledger = t.ledger; holds = by status t.holds } where
+  by : (status : Status) → StandsAfter words m0 l0 t.m t.l status → Files words m0 l0 t.m status
+  by Done s = ok_and (run_of_words words m0) s.run (λ run. HoldsFiles run m0 l0 t.m) s.is (holds_files s.run m0 l0 t.m t.l s.stands)
+  by Memory s = tt
+  by OutputFault s = tt
+  by (FolderFault done) s = tt
+  by (LedgerFault done) s = tt
+  by Usage s = tt
+  by (NestedRoots first second) s = tt
+  by (BadRules fault) s = tt
+  by (OtherRun kept wanted) s = tt
+  by (NotBuilt path) s = tt
+
+keeps_ledger : (words : List Text) (m0 : Contents) (l0 : Ledger) (m : Contents) (l : Ledger) (status : Status) → StandsAfter words m0 l0 m l status → KeepsLedger words m0 l0 m l status
+keeps_ledger words m0 l0 m l status s = record { stays = λ run is. truth status s run is; complete = rows status s } where
+  untouched : (u : Unchanged m0 l0 m l 0) (run : Run) → TrueLedger run m0 l0 → TrueLedger run m l
+  untouched u run = truth_of run m0 l0 m l 0 (inl u)
+
+  begun : (done : ℕ) (run : Run) → run_of_words words m0 ≡ Ok run → StandsAt words m0 l0 m l done → TrueLedger run m0 l0 → TrueLedger run m l
+  begun done run is (inl u) = truth_of run m0 l0 m l done (inl u)
+  begun done run is (inr b) = subst (λ (r : Run). TrueLedger r m0 l0 → TrueLedger r m l) (same_ok (run_of_words words m0) b.run run b.is is) (truth_of b.run m0 l0 m l done (inr b.stands))
+
+  all : (d : IsDone words m0 l0 m l) (run : Run) → run_of_words words m0 ≡ Ok run → TrueLedger run m0 l0 → TrueLedger run m l
+  all d run is = subst (λ (r : Run). TrueLedger r m0 l0 → TrueLedger r m l) (same_ok (run_of_words words m0) d.run run d.is is) (truth_of d.run m0 l0 m l _ (inr (inl d.stands)))
+
+  truth : (status : Status) → StandsAfter words m0 l0 m l status → (run : Run) → run_of_words words m0 ≡ Ok run → TrueLedger run m0 l0 → TrueLedger run m l
+  truth Done s run is = all s run is
+  truth OutputFault s run is = all s run is
+  truth Memory s run is = begun s.done run is s.stands
+  truth (FolderFault done) s run is = begun done run is s
+  truth (LedgerFault done) s run is = begun done run is s
+  truth Usage s run is = untouched s run
+  truth (NestedRoots first second) s run is = untouched s run
+  truth (BadRules fault) s run is = untouched s run
+  truth (OtherRun kept wanted) s run is = untouched s run
+  truth (NotBuilt path) s run is = untouched s run
+
+  rows : (status : Status) → StandsAfter words m0 l0 m l status → CompleteRows words m0 l0 l status
+  rows Done s = ok_and (run_of_words words m0) s.run (λ run. HoldsRows run m0 l0 l) s.is (holds_rows s.run m0 l0 m l s.stands)
+  rows Memory s = tt
+  rows OutputFault s = tt
+  rows (FolderFault done) s = tt
+  rows (LedgerFault done) s = tt
+  rows Usage s = tt
+  rows (NestedRoots first second) s = tt
+  rows (BadRules fault) s = tt
+  rows (OtherRun kept wanted) s = tt
+  rows (NotBuilt path) s = tt
+
+pub ledger_clause : (words : List Text) (f0 f : Option Contents) (k0 k : Option Ledger) (name0 name : Option Text) (status : Status)
+    → WhereTold f0 k0 (λ m0 l0. Tells f k (λ m l. StandsAfter words m0 l0 m l status)) → Named words name0 name status → LedgerHolds words f0 f k0 k name0 name status
+ledger_clause words f0 f k0 k name0 name status stands named = record {
+  kept = λ m0 l0 ef ek.
+      let t = stands m0 l0 ef ek in
+      record { m = t.m; l = t.l; folders = t.folders; ledger = t.ledger; holds = keeps_ledger words m0 l0 t.m t.l status t.holds };
+  attached = named;
+}
+
+remains_at : (words : List Text) (m0 : Contents) (l0 : Ledger) (m : Contents) (l : Ledger) (done : ℕ) → StandsAt words m0 l0 m l done → RemainsAt words m0 l0 m l done
+remains_at words m0 l0 m l done (inl u) = by (run_of_words words m0) where
+  by : (r : Result Run Status) → MatchResult r (λ run. Remains run m0 l0 m l done) (λ _. Unchanged m0 l0 m l done)
+  by (Ok run) = remains_of run m0 l0 m l done (inl u)
+  by (Err status) = u
+remains_at words m0 l0 m l done (inr b) = subst (λ r. MatchResult r (λ run. Remains run m0 l0 m l done) (λ _. Unchanged m0 l0 m l done)) (sym b.is) (remains_of b.run m0 l0 m l done (inr b.stands))
+
+pub remains_clause : (words : List Text) (m0 : Contents) (l0 : Ledger) (f : Option Contents) (k : Option Ledger) (status : Status)
+    → Tells f k (λ m l. StandsAfter words m0 l0 m l status) → Tells f k (λ m l. Left words m0 l0 m l status)
+remains_clause words m0 l0 f k status t = record { m = t.m; l = t.l; folders = t.folders; ledger = t.ledger; holds = by status t.holds } where
+  by : (status : Status) → StandsAfter words m0 l0 t.m t.l status → Left words m0 l0 t.m t.l status
+  by Done s = tt
+  by OutputFault s = ok_and (run_of_words words m0) s.run (λ run. HoldsFiles run m0 l0 t.m × HoldsRows run m0 l0 t.l) s.is (holds_files s.run m0 l0 t.m t.l s.stands, holds_rows s.run m0 l0 t.m t.l s.stands)
+  by Memory s = record { done = s.done; remains = remains_at words m0 l0 t.m t.l s.done s.stands }
+  by (FolderFault done) s = remains_at words m0 l0 t.m t.l done s
+  by (LedgerFault done) s = remains_at words m0 l0 t.m t.l done s
+  by Usage s = (s.folder, s.ledger)
+  by (NestedRoots first second) s = (s.folder, s.ledger)
+  by (BadRules fault) s = (s.folder, s.ledger)
+  by (OtherRun kept wanted) s = (s.folder, s.ledger)
+  by (NotBuilt path) s = (s.folder, s.ledger)
+
+-- what is final is the first answer, and what else is quiet is want of memory
+pub status_clause : (words : List Text) (first status : Status) (f f' k k' o o' : ℕ) → (is_final status ≡ true → status ≡ first) → HasCauses words status f f' k k' o o' → Exact first status f f' k k' o o'
+status_clause words first status f f' k k' o o' h c = record { final = h; quiet = by status h c } where
+  by : (status : Status) → (is_final status ≡ true → status ≡ first) → HasCauses words status f f' k k' o o' → ¬ Rose f f' → ¬ Rose k k' → ¬ Rose o o' → (status ≡ first) ⊎ (status ≡ Memory)
+  by Done h c a b d = inl (h refl)
+  by Memory h c a b d = inr refl
+  by OutputFault h c a b d = absurd (d c)
+  by (FolderFault done) h c a b d = absurd (a c)
+  by (LedgerFault done) h c a b d = absurd (b c)
+  by Usage h c a b d = inl (h refl)
+  by (NestedRoots first second) h c a b d = inl (h refl)
+  by (BadRules fault) h c a b d = inl (h refl)
+  by (OtherRun kept wanted) h c a b d = inl (h refl)
+  by (NotBuilt path) h c a b d = inl (h refl)
+
+pub last_write : (line : Text) (old new : Option Text) (o o' : ℕ) (r : Result (Unit {0}) SinkFault) → OnOk r (new ≡ writing line old) → OnErr r (WritesFront line old new) → OnErr r (Rose o o')
+    → (new ≡ writing line old) ⊎ (WritesFront line old new × Rose o o')
+last_write line old new o o' (Ok x) a b c = inl a
+last_write line old new o o' (Err e) a b c = inr (b, c)
+
+writing_nothing : (old : Option Text) → writing [] old ≡ old
+writing_nothing None = refl
+writing_nothing (Some text) = ap Some (append-nil text)
+
+nothing_in_front : (front rest : Text) → [] ≡ front ++ rest → front ≡ []
+nothing_in_front [] rest e = refl
+nothing_in_front (x ∷ front) rest e = cc
+
+no_line : (old new : Option Text) (o o' : ℕ) → (new ≡ writing [] old) ⊎ (WritesFront [] old new × Rose o o') → new ≡ old
+no_line old new o o' (inl e) = e ∙ writing_nothing old
+no_line old new o o' (inr w) = w.0.is ∙ ap (λ t. writing t old) (nothing_in_front w.0.front w.0.rest w.0.all) ∙ writing_nothing old
+
+front_of_line : (line : Text) (old new : Option Text) (o o' : ℕ) → (new ≡ writing line old) ⊎ (WritesFront line old new × Rose o o') → WritesFront line old new
+front_of_line line old new o o' (inl e) = record { front = line; rest = []; all = sym (append-nil line); is = e }
+front_of_line line old new o o' (inr w) = w.0
+
+plain : (line : Text) (old mid new : Option Text) (o o1 o2 : ℕ) → o ≤ o1 → mid ≡ old → (new ≡ writing line mid) ⊎ (WritesFront line mid new × Rose o1 o2)
+    → (new ≡ writing line old) ⊎ (WritesFront line old new × Rose o o2)
+plain line old mid new o o1 o2 le e (inl w) = inl (w ∙ ap (writing line) e)
+plain line old mid new o o1 o2 le e (inr w) = inr (subst (λ m. WritesFront line m new) e w.0, Rose-earlier o o1 o2 le w.1)
+
+ok_map : {T E : Type 0} (r : Result T E) (P Q : T → Type 0) → ((x : T) → P x → Q x) → IsOkAnd r P → IsOkAnd r Q
+ok_map (Ok x) P Q h p = h x p
+ok_map (Err e) P Q h p = p
+
+pub output_clause : (words : List Text) (f0 : Option Contents) (k0 : Option Ledger) (status : Status) (old mid new : Option Text) (o o1 o2 : ℕ) → o ≤ o1 → ReportedOf words f0 k0 old mid status
+    → (new ≡ writing (fault_text status) mid) ⊎ (WritesFront (fault_text status) mid new × Rose o1 o2) → Output words f0 k0 old new o o2 status
+output_clause words f0 k0 Done old mid new o o1 o2 le r w = λ m l ef ek. ok_map (run_of_words words m) _ _ (λ run e. no_line mid new o1 o2 w ∙ e) (r m l ef ek)
+output_clause words f0 k0 OutputFault old mid new o o1 o2 le r w = λ m l ef ek.
+    ok_map (run_of_words words m) _ _ (λ run e. record { mid = mid; report = e; fault = front_of_line (fault_text OutputFault) mid new o1 o2 w }) (r m l ef ek)
+output_clause words f0 k0 Memory old mid new o o1 o2 le r w = plain (fault_text Memory) old mid new o o1 o2 le r w
+output_clause words f0 k0 (FolderFault done) old mid new o o1 o2 le r w = plain (fault_text (FolderFault done)) old mid new o o1 o2 le r w
+output_clause words f0 k0 (LedgerFault done) old mid new o o1 o2 le r w = plain (fault_text (LedgerFault done)) old mid new o o1 o2 le r w
+output_clause words f0 k0 Usage old mid new o o1 o2 le r w = plain (fault_text Usage) old mid new o o1 o2 le r w
+output_clause words f0 k0 (NestedRoots first second) old mid new o o1 o2 le r w = plain (fault_text (NestedRoots first second)) old mid new o o1 o2 le r w
+output_clause words f0 k0 (BadRules fault) old mid new o o1 o2 le r w = plain (fault_text (BadRules fault)) old mid new o o1 o2 le r w
+output_clause words f0 k0 (OtherRun kept wanted) old mid new o o1 o2 le r w = plain (fault_text (OtherRun kept wanted)) old mid new o o1 o2 le r w
+output_clause words f0 k0 (NotBuilt path) old mid new o o1 o2 le r w = plain (fault_text (NotBuilt path)) old mid new o o1 o2 le r w
+
+pub causes_after : (words : List Text) (status : Status) (f f' k k' o o1 o2 : ℕ) → o1 ≤ o2 → HasCauses words status f f' k k' o o1 → HasCauses words status f f' k k' o o2
+causes_after words OutputFault f f' k k' o o1 o2 le c = Rose-later o o1 o2 c le
+causes_after words (FolderFault done) f f' k k' o o1 o2 le c = c
+causes_after words (LedgerFault done) f f' k k' o o1 o2 le c = c
+causes_after words Done f f' k k' o o1 o2 le c = c
+causes_after words Memory f f' k k' o o1 o2 le c = c
+causes_after words Usage f f' k k' o o1 o2 le c = c
+causes_after words (NestedRoots first second) f f' k k' o o1 o2 le c = c
+causes_after words (BadRules fault) f f' k k' o o1 o2 le c = c
+causes_after words (OtherRun kept wanted) f f' k k' o o1 o2 le c = c
+causes_after words (NotBuilt path) f f' k k' o o1 o2 le c = c
+
+-- where a run stands that was prepared and finished
+pub finish_told : (words : List Text) (f0 f1 f' : Option Contents) (k0 k1 k' : Option Ledger) (m : Contents) (l : Ledger) (to : Text) (header : Header) (works : List Work) (status : Status) → f0 ≡ Some m → k0 ≡ Some l
+    → f1 ≡ f0 → k1 ≡ option_map (with_header header) k0 → Planned words m l to header works → Finishes to works f1 f' k1 k' status → Tells f' k' (λ m' l'. StandsAfter words m l m' l' status)
+finish_told words f0 f1 f' k0 k1 k' m l to header works status ef ek f k p a =
+    finish_stands words m l to header works f' k' status p
+    (subst (λ x. Finishes to works x f' (Some (with_header header l)) k' status) (f ∙ ef)
+    (subst (λ x. Finishes to works f1 f' x k' status) (k ∙ ap (option_map (with_header header)) ek) a))
+
+pub early_told : (words : List Text) (f0 f' : Option Contents) (k0 k' : Option Ledger) (m : Contents) (l : Ledger) (a b c d : ℕ) (h : Halt) → f0 ≡ Some m → k0 ≡ Some l → f' ≡ f0
+    → HaltsEarly words f0 k0 k' a b c d h → Tells f' k' (λ m' l'. StandsAfter words m l m' l' (status_of_halt h))
+early_told words f0 f' k0 k' m l a b c d h ef ek f s =
+    early_stands words m l f' k' a b c d h (f ∙ ef)
+    (subst (λ x. HaltsEarly words x (Some l) k' a b c d h) ef (subst (λ x. HaltsEarly words f0 x k' a b c d h) ek s))
+
+pub early_told_first : (words : List Text) (f0 : Option Contents) (k0 k' : Option Ledger) (m : Contents) (l : Ledger) (a b c d : ℕ) (h : Halt) → f0 ≡ Some m → k0 ≡ Some l
+    → HaltsEarly words f0 k0 k' a b c d h → is_final (status_of_halt h) ≡ true → status_of_halt h ≡ first_answer words m l
+early_told_first words f0 k0 k' m l a b c d h ef ek s e =
+    early_first words m l k' a b c d h (subst (λ x. HaltsEarly words x (Some l) k' a b c d h) ef (subst (λ x. HaltsEarly words f0 x k' a b c d h) ek s)) e
