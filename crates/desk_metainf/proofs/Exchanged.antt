@@ -1,17 +1,16 @@
 -- A line with its provider name exchanged between two places.
-use Rattle.std.proofs.Common.{◌≡◌, ◌≢◌, ◌<◌, ◌≤◌, ◌+◌, ◌-◌, ℕ, Bool, true, false, cond, not, ◌&&◌, [], ◌∷◌, ◌++◌, length, take, drop, refl, sym, ap, ◌∙◌, arith, append_assoc, length-append, take-append-drop}
-use Rattle.std.specs.List.{list_all}
+use Rattle.std.proofs.Common.{◌≡◌, ◌≢◌, ◌≤◌, ◌+◌, ◌-◌, ℕ, Bool, true, false, cond, not, ◌&&◌, [], ◌∷◌, ◌++◌, length, take, drop, refl, sym, ap, ◌∙◌, arith, append_assoc, length-append, take-append-drop}
 use Rattle.std.specs.Str.{bytes_eq}
 use Rattle.std.proofs.lemmas.Bool.{false_from_ne_true}
 use Rattle.std.proofs.lemmas.Slice.Eq.{bytes_eq-Decides}
 use Rattle.std.proofs.lemmas.List.{take_at, drop_at, drop-drop, append_cancel_right}
 use Rattle.desk_base.specs.Names.{Text, is_empty}
-use Rattle.desk_metainf.specs.Lines.{End, Line, line, end_bytes, joined, lines}
+use Rattle.desk_metainf.specs.Lines.{End, line, end_bytes, joined, lines}
 use Rattle.desk_metainf.specs.Cuts.{until, onward, is_inked, back_blanks, front_blanks}
 use Rattle.desk_metainf.specs.Services.{is_hash, provider, with_provider, line_image, is_changed}
 use Rattle.desk_metainf.specs.Reading.{IsFirstLine, IsProviderPlace, exchanged, is_exchanged}
 use Rattle.desk_metainf.proofs.LineLaws.{joined-lines}
-use Rattle.desk_metainf.proofs.ServiceLaws.{built, parts_joined}
+use Rattle.desk_metainf.proofs.ServiceLaws.{parts_joined}
 
 -- what is exchanged for itself leaves the line
 pub put_back : (line : Text) (from to : ℕ) → from ≤ to → take from line ++ (take (to - from) (drop from line) ++ drop to line) ≡ line

@@ -1,21 +1,21 @@
 -- How far a service file is migrated, line by line.
-use Rattle.std.proofs.Common.{◌≡◌, ◌<◌, ◌≤◌, ◌+◌, ◌-◌, ℕ, Bool, true, false, cond, not, List, [], ◌∷◌, ◌++◌, length, take, drop, Option, Some, None, Result, Ok, Err, ◌==◌, ◌||◌, take-append-drop, refl, sym, ap, subst, ◌∙◌, inl, inr, arith, append_assoc, append-nil, length-append, length-drop, drop_of_length-le}
+use Rattle.std.proofs.Common.{◌≡◌, ◌<◌, ◌≤◌, ◌+◌, ◌-◌, ℕ, Bool, true, false, cond, not, List, [], ◌∷◌, ◌++◌, length, take, drop, Some, None, Result, Ok, Err, ◌==◌, ◌||◌, take-append-drop, refl, sym, ap, ◌∙◌, inl, inr, arith, append_assoc, append-nil, length-drop, drop_of_length-le}
 use Rattle.std.specs.List.{list_all}
-use Rattle.std.proofs.lemmas.Bool.{and_parts, and_from, eqb-true, both_ways, cases_Bool, not_from_false, not-true, false_from_ne_true, cases_lt}
+use Rattle.std.proofs.lemmas.Bool.{and_from, eqb-true, both_ways, cases_Bool, not_from_false, not-true, false_from_ne_true, cases_lt}
 use Rattle.std.proofs.lemmas.List.{drop-drop, length-take-le}
-use Rattle.desk_base.specs.Names.{Text, is_empty, is_dotted, is_identifier_byte}
+use Rattle.desk_base.specs.Names.{Text, is_dotted, is_identifier_byte}
 use Rattle.desk_base.specs.declared.Changed.{Changed}
 use Rattle.desk_rules.specs.Rules.{Rules}
 use Rattle.desk_rules.specs.Images.{dotted}
 use Rattle.desk_rules.specs.RuleSets.{IsRuleSet}
 use Rattle.desk_rules.proofs.Laws.{dotted_stay, dotted_keep_form}
 use Rattle.desk_rules.proofs.DottedBytes.{dotted_bytes, dotted_filled}
-use Rattle.desk_metainf.specs.Lines.{End, Line, line, end_bytes, joined, lines}
+use Rattle.desk_metainf.specs.Lines.{Line, end_bytes, joined, lines}
 use Rattle.desk_metainf.specs.Cuts.{is_inked}
-use Rattle.desk_metainf.specs.Services.{provider, line_image, is_bad, first_bad, is_changed, count_changed, on_contents, migrated, service_by, service, ServiceStays, is_name_byte, is_provider_name}
+use Rattle.desk_metainf.specs.Services.{provider, line_image, is_bad, first_bad, is_changed, count_changed, on_contents, service_by, service, ServiceStays, is_name_byte, is_provider_name}
 use Rattle.desk_metainf.specs.Reading.{IsFirstLine, IsProviderPlace, exchanged, is_exchanged}
 use Rattle.desk_metainf.proofs.ServiceLaws.{IsImage, service-twice}
-use Rattle.desk_metainf.proofs.Exchanged.{line_cut, exchanged_line, exchanged_changed, FirstOf, first_of}
+use Rattle.desk_metainf.proofs.Exchanged.{line_cut, exchanged_line, exchanged_changed, first_of}
 
 take_and_drop : (n : ℕ) (t : Text) → take n t ++ drop n t ≡ t
 take_and_drop n t = take-append-drop n t

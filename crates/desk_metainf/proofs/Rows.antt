@@ -1,5 +1,5 @@
 -- Small service files and their images under the one rule that renames `javax.servlet` to `jakarta.servlet`.
-use Rattle.std.proofs.Common.{◌≡◌, ℕ, false, List, [], ◌∷◌, ◌++◌, Result, Ok, Err, refl}
+use Rattle.std.proofs.Common.{◌≡◌, ℕ, false, [], ◌∷◌, ◌++◌, Result, Ok, Err, refl}
 use Rattle.std.specs.Prelude.{codes}
 use Rattle.desk_base.specs.Names.{Text}
 use Rattle.desk_base.specs.declared.Changed.{Changed}

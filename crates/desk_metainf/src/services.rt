@@ -26,8 +26,10 @@ fn append_line(
 ) -> Result<bool, Memory>
     requires in_order { place.from ≤ place.to }
     requires inside { place.to ≤ length line.now }
-    ensures bytes { IfOk result (λ _. out.new ≡ out.old ++ exchanged (dotted rules.now.renames) place.from place.to line.now) }
-    ensures changed { IfOk result (λ changed. changed ≡ is_exchanged (dotted rules.now.renames) place.from place.to line.now) }
+    ensures bytes { IfOk result (λ _.
+        out.new ≡ out.old ++ exchanged (dotted rules.now.renames) place.from place.to line.now) }
+    ensures changed { IfOk result (λ changed.
+        changed ≡ is_exchanged (dotted rules.now.renames) place.from place.to line.now) }
     ensures settled { IsRuleSet rules.now }
 {
     match rename_dotted(alloc, rules, &line[place.from..place.to])? {
@@ -49,7 +51,7 @@ fn append_line(
 /// before the first `#`, without the spaces and tabs around it, is the provider name where it isn't
 /// empty; it is exchanged as a dotted name, and all other bytes stay. `BadLine` comes exactly where
 /// a provider name holds a space or a tab, with the offset of the first byte of the first such line.
-/// The only other error is want of memory.
+/// The only other error is want of memory. The image is its own image, without a changed name.
 pub fn migrate_service(alloc: Global, text: &[u8], rules: &RuleSet) -> Result<Changed, MetaFault>
     requires { length text.now ≤ 67108864 }
     ensures image { IfOk result (λ new. service rules.now text.now ≡ Ok new) }

@@ -1,5 +1,5 @@
 -- A target is its own target, has its path's kind, and is relative where its path is.
-use Rattle.std.proofs.Common.{◌≡◌, ℕ, Bool, true, false, cond, not, ◌&&◌, ◌==◌, List, [], ◌∷◌, ◌++◌, length, drop, codes, Option, Some, None, refl, sym, ap, subst, ◌∙◌, inl, inr}
+use Rattle.std.proofs.Common.{◌≡◌, Bool, true, false, cond, not, ◌&&◌, ◌==◌, List, [], ◌∷◌, ◌++◌, length, drop, codes, Option, Some, None, refl, sym, ap, ◌∙◌, inl, inr}
 use Rattle.std.specs.List.{list_all, starts_with, slice_split}
 use Rattle.std.specs.Str.{bytes_eq}
 use Rattle.std.proofs.lemmas.Bool.{and_parts, and_from, both_ways, cases_Bool, not_from_false, false_from_ne_true}
@@ -7,7 +7,7 @@ use Rattle.std.proofs.lemmas.Bool.Decides.{Decides-eqb}
 use Rattle.std.proofs.lemmas.Slice.Eq.{bytes_eq-Decides, starts_is}
 use Rattle.std.proofs.lemmas.List.{drop_at}
 use Rattle.std.proofs.lemmas.List.Splits.{slice_split_none}
-use Rattle.desk_base.specs.Names.{Text, is_empty, is_whole, slash, is_dotted, is_identifier_byte}
+use Rattle.desk_base.specs.Names.{Text, is_whole, slash, is_dotted}
 use Rattle.desk_base.specs.Paths.{is_segment, is_relative_path, here}
 use Rattle.desk_rules.specs.Rules.{Rules}
 use Rattle.desk_rules.specs.Images.{dotted}

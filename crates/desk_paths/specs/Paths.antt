@@ -1,5 +1,5 @@
 -- Paths of files: service files by their file names, and where a file goes.
-use Rattle.std.specs.Prelude.{Bool, not, ◌&&◌, ◌==◌, [], ◌∷◌, ◌++◌, length, drop, codes, Option, Some, None, if◌then◌else◌}
+use Rattle.std.specs.Prelude.{Bool, not, ◌&&◌, ◌==◌, ◌++◌, length, drop, codes, Option, Some, None, if◌then◌else◌}
 use Rattle.std.specs.List.{starts_with, ends_with}
 use Rattle.desk_base.specs.Names.{Text, is_empty, is_whole, slash}
 use Rattle.desk_rules.specs.Rules.{Rules}

@@ -43,7 +43,9 @@ fn is_file_name(name: &[u8]) -> bool
 
 /// The file name of a service file's path; none for any other path.
 fn service_name(path: &[u8]) -> Option<&[u8]>
-    ensures { MatchOption result (service_name path.now ≡ None) (λ name. service_name path.now ≡ Some name.now) }
+    ensures { MatchOption result
+        (service_name path.now ≡ None)
+        (λ name. service_name path.now ≡ Some name.now) }
 {
     if !path.starts_with(SERVICES) {
         return None;
@@ -68,11 +70,13 @@ pub fn kind_of(path: &[u8]) -> Option<Kind>
 }
 
 /// Where a file goes: a service file's path with its file name exchanged as a dotted name; any other
-/// path is itself. The only error is want of memory.
+/// path is itself. The target of a target is itself and has its kind, and the target of a relative
+/// path is a relative path. The only error is want of memory.
 pub fn target(alloc: Global, path: &[u8], rules: &RuleSet) -> Result<Text, Memory>
     ensures target { IfOk result (λ found. found ≡ target rules.now path.now) }
     ensures stays { IfOk result (λ _. TargetStays rules.now path.now) }
-    ensures relative { IfOk result (λ found. IsTrue (is_relative_path path.now) → IsTrue (is_relative_path found)) }
+    ensures relative { IfOk result (λ found.
+        IsTrue (is_relative_path path.now) → IsTrue (is_relative_path found)) }
 {
     let Some(name) = service_name(path) else {
         return Text::from_bytes(alloc, path);

@@ -1,8 +1,8 @@
 -- The image of a dotted name, by the front that the rule set answers.
-use Rattle.std.proofs.Common.{◌≡◌, ◌≢◌, ◌≤◌, ◌<◌, ◌+◌, ℕ, Bool, true, false, cond, not, List, [], ◌∷◌, ◌++◌, length, take, drop, Option, Some, None, refl, sym, ap, subst, ◌∙◌, inl, inr, arith, length-append}
+use Rattle.std.proofs.Common.{◌≡◌, ◌≢◌, ◌≤◌, ◌<◌, ◌+◌, ℕ, Bool, true, false, cond, not, List, [], ◌∷◌, ◌++◌, length, take, drop, Option, Some, None, refl, sym, ap, subst, ◌∙◌, inl, inr, arith}
 use Rattle.std.specs.List.{list_all}
 use Rattle.std.proofs.lemmas.Grind.{common_steps}
-use Rattle.std.proofs.lemmas.Bool.{and_parts, both_ways, not-true, not-false, cases_Bool}
+use Rattle.std.proofs.lemmas.Bool.{and_parts, both_ways, not-true, not-false}
 use Rattle.std.proofs.lemmas.List.{append_cancel_right, append_assoc, append-nil, drop_at}
 use Rattle.desk_base.specs.Names.{Text, Package, segments, written, front, simple, is_identifier, is_empty, is_dotted, same, dot}
 use Rattle.desk_rules.specs.Renames.{Renaming, pick, pkg, renamed_by, changes, in_scope, is_rename}

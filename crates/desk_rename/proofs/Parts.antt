@@ -1,11 +1,11 @@
 -- A dotted name, cut at its last dot.
-use Rattle.std.proofs.Common.{◌≡◌, ◌<◌, ◌≤◌, ◌+◌, ℕ, Bool, true, false, cond, not, ◌==◌, [], ◌∷◌, ◌++◌, length, take, drop, get_or, refl, sym, ap, subst, ◌∙◌, inl, inr, arith}
-use Rattle.std.specs.List.{slice_split, onto_first, count_by}
-use Rattle.std.proofs.lemmas.Bool.{and_parts, and_from, not_from_false, ne_eqb}
+use Rattle.std.proofs.Common.{◌≡◌, ◌<◌, ◌+◌, ℕ, Bool, true, false, ◌==◌, [], ◌∷◌, ◌++◌, length, take, drop, get_or, refl, sym, ap, ◌∙◌, inl, inr, arith}
+use Rattle.std.specs.List.{slice_split, onto_first}
+use Rattle.std.proofs.lemmas.Bool.{and_from, not_from_false, ne_eqb}
 use Rattle.std.proofs.lemmas.List.{take-append-drop, drop_more}
 use Rattle.std.proofs.lemmas.List.Splits.{slice_split_at, slice_split_none, slice_split-cons_yes, slice_split-cons_no, length-slice_split}
-use Rattle.desk_base.specs.Names.{Text, Package, segments, front, simple, is_dotted, is_whole, dot}
-use Rattle.desk_rules.proofs.Cuts.{none_is, front-push, simple-push}
+use Rattle.desk_base.specs.Names.{Text, Package, segments, front, is_dotted, is_whole, dot}
+use Rattle.desk_rules.proofs.Cuts.{none_is, front-push}
 use Rattle.desk_rename.specs.Fronts.{IsLastDot, IsFrontEnd}
 
 onto_first_push : (b : ℕ) (ps : Package) (more : Text) → 0 < length ps → onto_first b (ps ++ more ∷ []) ≡ onto_first b ps ++ more ∷ []

@@ -1,5 +1,5 @@
 -- The answer of a build, by the answer for its line.
-use Rattle.std.proofs.Common.{◌≡◌, ◌∙◌, ap, Some, None, Result, Ok, Err, IfOk, refl}
+use Rattle.std.proofs.Common.{◌≡◌, ◌∙◌, ap, Some, Result, Ok, Err, IfOk}
 use Rattle.std.specs.Prelude.{IfErr}
 use Rattle.std.specs.FinMap as map
 use Rattle.desk_base.specs.Names.{Text}

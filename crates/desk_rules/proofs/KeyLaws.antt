@@ -1,18 +1,13 @@
 -- The key of a rename tells its source.
-use Rattle.std.proofs.Common.{◌≡◌, ◌<◌, ℕ, zero, suc, Bool, true, false, cond, ◌==◌, List, [], ◌∷◌, ◌++◌, map, length, get_or, refl, sym, ap, ◌∙◌, ◌⊎◌, inl, inr, arith}
-use Rattle.std.specs.declared.cmp.Ordering.TheVariants.{Less, Equal}
-use Rattle.std.specs.Ordering.{nat_cmp}
-use Rattle.std.specs.Cmp.Lexicographic.{slice_cmp}
+use Rattle.std.proofs.Common.{◌≡◌, ℕ, Bool, true, false, cond, ◌==◌, [], ◌∷◌, ◌++◌, map, refl, sym, ap, ◌∙◌, ◌⊎◌, inl, inr}
 use Rattle.std.specs.List.{list_all}
-use Rattle.std.proofs.lemmas.Bool.{and_parts, or_cases, eqb-true, eq-eqb, not-true, cases_order}
+use Rattle.std.proofs.lemmas.Bool.{and_parts, or_cases, eqb-true, eq-eqb, not-true}
 use Rattle.std.proofs.lemmas.List.{append_cancel_right, map-append}
-use Rattle.std.proofs.lemmas.Cmp.{tied_itself, nat_list_cmp_total}
 use Rattle.desk_base.specs.Names.{Text, Package, written, is_identifier, is_identifier_byte}
 use Rattle.desk_rules.specs.Renames.{Renaming, key_of}
 use Rattle.desk_rules.specs.Keys.{is_separator, spelled, wanted, wanted_tail}
 use Rattle.desk_rules.proofs.Cuts.{Cuts}
 use Rattle.desk_rules.proofs.Bytes.{unreserved, undotted, unslashed, identifier_whole, identifier_part, part_whole}
-use Rattle.desk_rules.proofs.Picks.{In}
 
 pub separators : (s : ℕ) → is_separator s ≡ true → (s ≡ 46) ⊎ (s ≡ 47)
 separators s h = elim (or_cases _ _ h) [ inl e ↦ inl (eqb-true s 46 e) | inr e ↦ inr (eqb-true s 47 e) ]

@@ -1,11 +1,11 @@
 -- Under a rule set each image is its own image, and keeps its form.
-use Rattle.std.proofs.Common.{◌≡◌, ℕ, Bool, true, false, cond, List, [], ◌∷◌, Option, Some, None, refl, sym, ap, ◌∙◌}
+use Rattle.std.proofs.Common.{◌≡◌, ℕ, true, List, Option, Some, None, refl, ap, ◌∙◌}
 use Rattle.std.specs.List.{list_all}
-use Rattle.desk_base.specs.Names.{Text, Package, segments, written, front, simple, is_dotted, is_identifier, dot}
+use Rattle.desk_base.specs.Names.{Text, segments, written, front, simple, is_dotted, is_identifier, dot}
 use Rattle.desk_rules.specs.Renames.{Renaming, pkg, is_rename}
 use Rattle.desk_rules.specs.Rules.{Rules}
-use Rattle.desk_rules.specs.Settled.{first_pair, rename_then_rename, Chain, chain_of, IsSettled}
-use Rattle.desk_rules.specs.Images.{refronted, dotted}
+use Rattle.desk_rules.specs.Settled.{first_pair, rename_then_rename, chain_of, IsSettled}
+use Rattle.desk_rules.specs.Images.{refronted}
 use Rattle.desk_rules.specs.RuleSets.{IsRuleSet, PackagesStay, DottedStay, DottedKeepForm, IsDottedImage}
 use Rattle.desk_rules.proofs.Twice.{pkg_twice}
 use Rattle.desk_rules.proofs.Cuts.{front-push, simple-push}

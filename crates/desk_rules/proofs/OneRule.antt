@@ -1,15 +1,15 @@
 -- A rule set of one exact rename: what it picks, and that it is settled.
-use Rattle.std.proofs.Common.{◌≡◌, ◌≤◌, ℕ, Bool, true, false, cond, not, ◌&&◌, ◌||◌, ◌==◌, List, [], ◌∷◌, ◌++◌, map, length, Option, Some, None, refl, sym, ap, ◌∙◌, inl, inr, arith}
+use Rattle.std.proofs.Common.{◌≡◌, ℕ, Bool, true, false, cond, not, ◌&&◌, ◌||◌, ◌==◌, [], ◌∷◌, ◌++◌, map, length, Option, Some, None, refl, sym, ap, ◌∙◌, inl, inr, arith}
 use Rattle.std.specs.List.{list_all, slice_split}
 use Rattle.std.specs.Str.{bytes_eq}
-use Rattle.std.proofs.lemmas.Bool.{and_parts, and_from, both_ways, cases_Bool, not-true, false_from_ne_true}
+use Rattle.std.proofs.lemmas.Bool.{and_parts, and_from, both_ways, cases_Bool, false_from_ne_true}
 use Rattle.std.proofs.lemmas.Slice.Eq.{bytes_eq-Decides}
 use Rattle.std.proofs.lemmas.List.{append-nil}
-use Rattle.desk_base.specs.Names.{Text, Package, segments, written, same, begins_with, dot, is_dotted, is_identifier, is_package}
-use Rattle.desk_rules.specs.Renames.{Renaming, changes, pick, is_rename, key_of}
+use Rattle.desk_base.specs.Names.{Text, Package, segments, written, same, dot, is_dotted, is_identifier, is_package}
+use Rattle.desk_rules.specs.Renames.{Renaming, pick, is_rename, key_of}
 use Rattle.desk_rules.specs.Rules.{Rules}
-use Rattle.desk_rules.specs.Settled.{rename_then_rename, first_pair, chain_of, IsSettled, meets}
-use Rattle.desk_rules.specs.Keys.{is_separator, spelled, wanted}
+use Rattle.desk_rules.specs.Settled.{rename_then_rename, chain_of, IsSettled}
+use Rattle.desk_rules.specs.Keys.{is_separator, spelled}
 use Rattle.desk_rules.specs.RuleSets.{IsKept, kept_rename, IsRuleSet, only_changing, changing_pick, IsFrontOf}
 use Rattle.desk_rules.proofs.Same.{same_is, same_from}
 use Rattle.desk_rules.proofs.Cuts.{segments_written, written-segments}

@@ -50,7 +50,9 @@ impl RuleFiles {
 
     /// The bytes of the file with a name; none exactly where there is no such file.
     pub fn content(&self, name: &Text) -> Option<&[u8]>
-        ensures { MatchOption result (map.get self.now name.now ≡ None) (λ content. map.get self.now name.now ≡ Some content.now) }
+        ensures { MatchOption result
+            (map.get self.now name.now ≡ None)
+            (λ content. map.get self.now name.now ≡ Some content.now) }
     {
         match self.files.get(name) {
             None => None,

@@ -22,7 +22,9 @@ const RENAMES: &[u8] = b"renames.properties";
 /// What is exchanged of a package: its first `taken` bytes, for these segments.
 #[derive(Clone, Copy, Debug)]
 pub struct Front<'r> {
+    /// How many bytes of the package are exchanged, from its first on.
     pub taken: usize,
+    /// The segments that take their place.
     pub segments: &'r TextList,
 }
 
@@ -166,10 +168,14 @@ impl RuleSet {
     }
 
     /// What is exchanged of a package that is written with a separator, `.` or `/`: something exactly
-    /// where a changing rule is picked for it. It takes no memory.
+    /// where a changing rule is picked for it. It takes no memory. Every rule set is settled: under
+    /// it the image of a package or of a dotted name is its own image, and the image of a dotted
+    /// name is a dotted name with the same last part.
     pub fn package(&self, path: &[u8], separator: u8) -> Option<Front<'_>>
         requires { IsTrue (is_separator separator) }
-        ensures answer { MatchOption result (changing_pick self.now.renames (segments separator path.now) ≡ None) (λ front. IsFrontOf self.now.renames separator path.now front.taken front.segments.now) }
+        ensures answer { MatchOption result
+            (changing_pick self.now.renames (segments separator path.now) ≡ None)
+            (λ front. IsFrontOf self.now.renames separator path.now front.taken front.segments.now) }
         ensures settled { IsRuleSet self.now }
         ensures packages_stay { PackagesStay self.now.renames }
         ensures dotted_stay { DottedStay self.now.renames }

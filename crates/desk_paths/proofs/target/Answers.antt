@@ -3,7 +3,7 @@ use Rattle.desk_base.specs.Names.{Text}
 use Rattle.desk_base.specs.Paths.{is_relative_path}
 use Rattle.desk_base.specs.declared.Memory.{Memory}
 use Rattle.desk_rules.specs.Images.{dotted}
-use Rattle.desk_paths.specs.Paths.{services, target, service_name}
+use Rattle.desk_paths.specs.Paths.{services, target}
 use Rattle.desk_paths.proofs.Targets.{same_target, service_stays, target_relative, target_of_service}
 use Rattle.desk_paths.proofs.target.Goals as goal
 

@@ -1,6 +1,6 @@
-use Rattle.std.proofs.Common.{◌≡◌, ◌++◌, ◌∙◌, ap, sym, drop, rules}
+use Rattle.std.proofs.Common.{◌≡◌, ◌++◌, ◌∙◌, ap, sym, drop}
 use Rattle.std.proofs.lemmas.List.{take_rest}
-use Rattle.desk_base.specs.Names.{Text, Package, written, dot}
+use Rattle.desk_base.specs.Names.{Text, written, dot}
 use Rattle.desk_rename.proofs.DottedImage.{unchanged_image, changed_image}
 use Rattle.desk_rename.proofs.rename_dotted.Goals as goal
 

@@ -1,4 +1,4 @@
-use Rattle.std.proofs.Common.{sym, arith}
+use Rattle.std.proofs.Common.{arith}
 use Rattle.std.proofs.lemmas.Bool.{false_from_ne_true}
 use Rattle.desk_metainf.specs.Services.{is_hash}
 use Rattle.desk_metainf.proofs.Places.{until_length}

@@ -1,5 +1,5 @@
-use Rattle.std.proofs.Common.{◌≡◌, ◌∙◌, ap, sym, not, true, arith}
-use Rattle.desk_metainf.specs.Cuts.{is_inked, is_blank}
+use Rattle.std.proofs.Common.{ap, sym, not, arith}
+use Rattle.desk_metainf.specs.Cuts.{is_inked}
 use Rattle.desk_metainf.proofs.Places.{until_length}
 use Rattle.desk_metainf.proofs.providers.count_front_blanks.Goals as goal
 

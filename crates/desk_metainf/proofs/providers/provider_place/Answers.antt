@@ -1,6 +1,6 @@
-use Rattle.std.proofs.Common.{◌≡◌, ◌∙◌, ap, sym, refl, take, length}
+use Rattle.std.proofs.Common.{◌∙◌, ap, refl, take}
 use Rattle.std.proofs.lemmas.List.{take_rest}
-use Rattle.desk_metainf.specs.Cuts.{until, stripped}
+use Rattle.desk_metainf.specs.Cuts.{stripped}
 use Rattle.desk_metainf.specs.Services.{is_hash}
 use Rattle.desk_metainf.proofs.Places.{place_of, take_until}
 use Rattle.desk_metainf.proofs.providers.provider_place.Goals as goal

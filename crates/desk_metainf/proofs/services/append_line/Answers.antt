@@ -1,7 +1,6 @@
 use Rattle.std.proofs.Common.{◌≡◌, ◌++◌, ◌∙◌, ap, sym, take, drop, ◌-◌}
 use Rattle.desk_base.specs.Names.{Text}
 use Rattle.desk_rules.specs.Images.{dotted}
-use Rattle.desk_metainf.specs.Reading.{exchanged}
 use Rattle.desk_metainf.proofs.Exchanged.{put_back, differs}
 use Rattle.desk_metainf.proofs.services.append_line.Goals as goal
 

@@ -1,8 +1,6 @@
-use Rattle.std.proofs.Common.{◌≡◌, ◌<◌, ◌≤◌, ◌+◌, ◌-◌, ◌++◌, ◌∙◌, ap, sym, subst, cond, Bool, add-zero, length, take, drop, arith}
+use Rattle.std.proofs.Common.{◌+◌, ◌∙◌, ap, sym, cond, Bool, add-zero, arith}
 use Rattle.std.proofs.lemmas.List.{take_rest}
-use Rattle.desk_rules.specs.Images.{dotted}
-use Rattle.desk_metainf.specs.Reading.{IsFirstLine, IsProviderPlace, exchanged, is_exchanged}
-use Rattle.desk_metainf.proofs.Migrating.{IsMigratedTo, Reads, bad_here, one_line, image_stays}
+use Rattle.desk_metainf.proofs.Migrating.{bad_here, one_line, image_stays}
 use Rattle.desk_metainf.proofs.services.migrate_service.Goals as goal
 use Rattle.desk_metainf.proofs.services.migrate_service.Goals.{then-branch, else-branch}
 

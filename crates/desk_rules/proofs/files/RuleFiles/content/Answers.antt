@@ -1,4 +1,4 @@
-use Rattle.std.proofs.Common.{◌≡◌, ◌∙◌, ap, sym, rules}
+use Rattle.std.proofs.Common.{◌∙◌, ap, sym, rules}
 use Rattle.std.specs.FinMap as map
 use Rattle.desk_rules.specs.Files.{Files}
 use Rattle.desk_rules.proofs.Entries.{get_text}

@@ -1,6 +1,5 @@
-use Rattle.std.proofs.Common.{◌≡◌, ◌∙◌, ap, sym, Some, rules}
+use Rattle.std.proofs.Common.{◌≡◌, ◌∙◌, ap, sym, Some}
 use Rattle.std.specs.FinMap as map
-use Rattle.desk_base.specs.Names.{Text}
 use Rattle.desk_rules.specs.Files.{renames_name}
 use Rattle.desk_rules.specs.RuleFiles.{rules_of_content}
 use Rattle.desk_rules.proofs.Built.{built_files, refused_files}

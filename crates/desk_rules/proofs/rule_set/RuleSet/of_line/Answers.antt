@@ -1,8 +1,4 @@
-use Rattle.std.proofs.Common.{◌≡◌, ◌∙◌, ap, sym, not, rules}
-use Rattle.std.specs.Str.{bytes_eq}
-use Rattle.std.specs.List.{slice_split}
-use Rattle.desk_base.specs.Names.{Text, is_dotted, dot}
-use Rattle.desk_rules.specs.RuleSets.{IsKept, kept_rename}
+use Rattle.std.proofs.Common.{rules}
 use Rattle.desk_rules.proofs.OneRule.{read_kept, one_rule_set}
 use Rattle.desk_rules.proofs.rule_set.RuleSet.of_line.Goals as goal
 
