@@ -4,6 +4,8 @@
 mod digest;
 mod keeper;
 mod memory;
+#[cfg(test)]
+mod tests;
 
 pub use digest::{Digest, Digester, digest_of};
 pub use keeper::{Header, Held, Keeper, KeeperFault, Row};

@@ -5,7 +5,7 @@ ghost use Rattle.std.specs.FinMap as fin;
 ghost use Rattle.desk_ledger.specs.Ledger.{Rose, row_at, held_in, with_header, with_row, without_row};
 ghost use Rattle.desk_ledger.specs.InMemory.{called, fails, attaching, keeping};
 
-use crate::{Digest, Header, Held, Keeper, KeeperFault, Row};
+use crate::{Header, Held, Keeper, KeeperFault, Row};
 use desk_base::{Memory, Text};
 use std::alloc::Global;
 use std::collections::BTreeMap;

@@ -7,6 +7,8 @@ mod pieces;
 mod sink;
 mod standard;
 mod status;
+#[cfg(test)]
+mod tests;
 
 pub use lines::{Detail, Line, Summary, write_line, write_summary};
 pub use memory::MemorySink;
