@@ -14,3 +14,4 @@ pub mod Emitted
 pub mod Walked
 pub mod SigPieces
 pub mod SigMapped
+pub mod SigPlaces
