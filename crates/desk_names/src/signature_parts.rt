@@ -1,8 +1,10 @@
 //! The parts of signatures.
 
-ghost use Rattle.std.specs.Prelude.{◌≡◌, ◌<◌, ◌≤◌, [], ◌∷◌, length, drop, take, true, false, is_some, IfSome};
+ghost use Rattle.std.specs.Prelude.{◌≡◌, ◌<◌, ◌≤◌, [], ◌∷◌, length, drop, take, true, false, is_some, IfSome, IfNone, OnSome};
 ghost use Rattle.std.specs.Iterator.{YieldsFirstBy, item_count};
-ghost use Rattle.desk_names.specs.Pieces.{Piece, piece_of};
+ghost use Rattle.desk_base.specs.Descriptors.{as_is};
+ghost use Rattle.desk_names.specs.Laws.{HasSignature, HasNoSignature};
+ghost use Rattle.desk_names.specs.Pieces.{Piece, piece_of, joined};
 ghost use Rattle.desk_names.specs.SignatureScan.{wanted_signature, is_sound_signature};
 ghost use Rattle.desk_names.specs.SignaturePieces.{is_naming, ends_name, named, name_end, sig_cut, sig_pieces};
 
@@ -137,7 +139,10 @@ impl<'a> Iterator for SigParts<'a> {
 /// type arguments nest more than 64 deep. It takes no memory.
 pub fn read_signature(text: &[u8], which: Which) -> Option<SigParts<'_>>
     ensures read { is_some result ≡ is_sound_signature (wanted_signature which) text.now }
+    ensures tree { OnSome result (HasSignature (wanted_signature which) text.now) }
+    ensures none { IfNone result (HasNoSignature (wanted_signature which) text.now) }
     ensures parts { IfSome result (λ parts. parts ≡ sig_pieces (wanted_signature which) text.now) }
+    ensures joined { IfSome result (λ parts. joined as_is parts ≡ text.now) }
 {
     if is_signature(text, which) {
         Some(SigParts {
