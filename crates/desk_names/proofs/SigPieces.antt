@@ -75,7 +75,6 @@ module _ (X : Type 0) (put : ℕ → X → X) (name : Text → X → X) (nil : X
     (others : (s : Text) (ps : List Piece) → J (Piece.other s ∷ ps) ≡ puts X put name s (J ps))
     (classes : (n : Text) (ps : List Piece) → is_signature_name n ≡ true → J (class_piece n ∷ ps) ≡ name n (J ps))
     (none : J [] ≡ nil) where
-
   R : SigState → Text → X
   R st t = J (sig_cut st [] t)
 

@@ -1,7 +1,7 @@
 -- The laws of descriptors and signatures.
 use Rattle.std.specs.Prelude.{◌≡◌, true}
 use Rattle.desk_base.specs.Names.{Text, is_class_name}
-use Rattle.desk_base.specs.Descriptors.{Descriptor, DescriptorKind, IsDescriptor, is_descriptor, print, renamed, text_with, names_of, as_is}
+use Rattle.desk_base.specs.Descriptors.{Descriptor, DescriptorKind, IsDescriptor, is_descriptor, print, renamed, names_of, as_is}
 use Rattle.desk_base.specs.Signatures.{Signature, SignatureKind, IsSignature, is_signature_name, print_signature, map_signature, signature_names}
 use Rattle.desk_names.specs.Pieces.{pieces, joined, names_in}
 use Rattle.desk_names.specs.SignatureScan.{is_sound_signature}

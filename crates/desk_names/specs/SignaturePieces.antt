@@ -29,7 +29,7 @@ unfoldable pub sig_cut : SigState → Text → Text → List Piece
 sig_cut state seen [] = last_piece seen
 sig_cut state seen (b ∷ t) =
     if is_naming state then
-      (if ends_name b then class_piece seen ∷ sig_cut (sig_step (named state) b t) (b ∷ []) t else sig_cut state (seen ++ b ∷ []) t)
+    (if ends_name b then class_piece seen ∷ sig_cut (sig_step (named state) b t) (b ∷ []) t else sig_cut state (seen ++ b ∷ []) t)
     else if is_naming (sig_step state b t) then Piece.other (seen ++ b ∷ []) ∷ sig_cut (sig_step state b t) [] t
     else sig_cut (sig_step state b t) (seen ++ b ∷ []) t
 

@@ -7,7 +7,6 @@ use Rattle.desk_names.specs.declared.signatures.Owner.{Owner}
 use Rattle.desk_names.specs.declared.signatures.Owner.TheVariants as owners
 use Rattle.desk_names.specs.declared.signatures.RefPlace.{RefPlace}
 use Rattle.desk_names.specs.declared.signatures.RefPlace.TheVariants as ref_places
-use Rattle.desk_names.specs.declared.signatures.Spot.{Spot}
 use Rattle.desk_names.specs.declared.signatures.Spot.TheVariants as spots
 use Rattle.desk_names.specs.declared.signatures.RefState.{RefState}
 use Rattle.desk_names.specs.declared.signatures.RefState.TheVariants as ref_states

@@ -10,7 +10,9 @@ ghost use Rattle.desk_names.specs.SignaturePieces.{is_naming, ends_name, named, 
 
 use crate::names::cut_name;
 use crate::parts::Part;
-use crate::signatures::{RefState, SigState, Spot, Which, is_mark, is_signature, sig_start, sig_step};
+use crate::signatures::{
+    RefState, SigState, Spot, Which, is_mark, is_signature, sig_start, sig_step,
+};
 use std::marker::Model;
 
 /// The parts of a signature, in their order. No step takes memory. Contracts see the parts that are left.
@@ -45,7 +47,10 @@ fn named(state: SigState) -> SigState
     ensures { result ≡ named state }
 {
     match state {
-        SigState::In(place, RefState::Class(depth, _)) => SigState::In(place, RefState::Class(depth, Spot::Inner(true))),
+        SigState::In(place, RefState::Class(depth, _)) => SigState::In(
+            place,
+            RefState::Class(depth, Spot::Inner(true)),
+        ),
         _ => state,
     }
 }
