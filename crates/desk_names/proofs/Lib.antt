@@ -15,3 +15,4 @@ pub mod Walked
 pub mod SigPieces
 pub mod SigMapped
 pub mod SigPlaces
+pub mod Skips

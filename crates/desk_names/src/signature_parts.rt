@@ -11,7 +11,8 @@ ghost use Rattle.desk_names.specs.SignaturePieces.{is_naming, ends_name, named, 
 use crate::names::cut_name;
 use crate::parts::Part;
 use crate::signatures::{
-    RefState, SigState, Spot, Which, is_mark, is_signature, sig_start, sig_step,
+    RefState, SigState, Spot, Which, is_mark, is_signature, is_within, mark_from, sig_start,
+    sig_step,
 };
 use std::marker::Model;
 
@@ -83,6 +84,9 @@ fn other_end(text: &[u8], state: SigState) -> (usize, SigState)
         at += 1;
         if is_naming(state) {
             return (at, state);
+        }
+        if is_within(state) {
+            at = mark_from(text, at);
         }
     }
     (at, state)
