@@ -3,7 +3,7 @@ use Rattle.std.proofs.Common.{◌≡◌, ℕ, Bool, true, false, not, ◌&&◌, 
 use Rattle.std.specs.Prelude.{if◌then◌else◌}
 use Rattle.std.proofs.lemmas.Bool.{and_parts, not-true, both_ways}
 use Rattle.desk_base.specs.Names.{Text}
-use Rattle.desk_names.proofs.Bytes.{name_from, class_name_is}
+use Rattle.desk_names.proofs.Bytes.{name_from}
 
 -- two texts in one: what stands first is the same, and what is left
 pub record Same (A : Type 0) (a b : A) (s t : Text) : Type 0 where

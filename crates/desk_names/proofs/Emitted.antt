@@ -1,6 +1,6 @@
 -- A signature printed into any kind of value: each byte and each class name is put in front of what stands behind it. With
 -- bytes and names put before texts this prints; with names alone put before lists it gives the class names.
-use Rattle.std.proofs.Common.{◌≡◌, ℕ, List, [], ◌∷◌, ◌++◌, Option, Some, None, refl, sym, ap, ◌∙◌}
+use Rattle.std.proofs.Common.{◌≡◌, ℕ, List, [], ◌∷◌, ◌++◌, Option, Some, None, refl, ap, ◌∙◌}
 use Rattle.desk_base.specs.Names.{Text}
 use Rattle.desk_base.specs.Signatures.{JavaType, Ref, ClassType, Inner, Args, Arg, Param, Thrown, Signature, java_text, ref_text, class_text, inner_text, args_text, each_text, arg_text, bound_text, bounds_text, each_param, params_text, classes_text, javas_text, result_text, thrown_text, signature_text, java_names, ref_names, class_names, inner_names, args_names, arg_names, bound_names, refs_names, params_names, classes_names, javas_names, result_names, thrown_names, signature_names}
 

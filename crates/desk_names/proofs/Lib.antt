@@ -14,3 +14,5 @@ pub mod Emitted
 pub mod Walked
 pub mod SigPieces
 pub mod SigMapped
+pub mod SigPlaces
+pub mod Skips

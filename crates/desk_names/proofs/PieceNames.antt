@@ -2,7 +2,7 @@
 use Rattle.std.proofs.Common.{◌≡◌, ℕ, ◌-◌, Bool, true, false, ◌==◌, List, [], ◌∷◌, ◌++◌, refl, sym, ap, ◌∙◌, append_assoc, append-nil}
 use Rattle.std.specs.Prelude.{if◌then◌else◌}
 use Rattle.std.specs.List.{list_all}
-use Rattle.std.proofs.lemmas.Bool.{and_parts, eqb-true}
+use Rattle.std.proofs.lemmas.Bool.{and_parts}
 use Rattle.desk_base.specs.Names.{Text, is_reserved, is_class_name, is_part}
 use Rattle.desk_base.specs.Descriptors.{FieldType, Returned, Descriptor, DescriptorKind, IsDescriptor, type_text, types_text, returned_text, text_with, as_is, print, type_names, types_names, returned_names, names_of, is_base, is_type, is_returned, is_formed}
 use Rattle.desk_names.specs.ClassNames.{package_of, simple_of, class_name}

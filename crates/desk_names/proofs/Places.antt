@@ -4,7 +4,6 @@ use Rattle.std.proofs.lemmas.List.{drop_all}
 use Rattle.std.specs.Prelude.{if◌then◌else◌}
 use Rattle.std.proofs.lemmas.Bool.{eqb-true}
 use Rattle.desk_base.specs.Names.{Text}
-use Rattle.desk_names.proofs.Bytes.{class_name_is}
 use Rattle.desk_names.specs.Pieces.{Piece, class_piece, last_piece, cut, place_of}
 
 pub name_ends : (seen t : Text) → place_of 59 t < length t → cut true seen t ≡ class_piece (seen ++ take (place_of 59 t) t) ∷ cut false [] (drop (place_of 59 t) t)

@@ -2,13 +2,13 @@
 use Rattle.std.proofs.Common.{◌≡◌, ℕ, zero, suc, ◌+◌, ◌-◌, ◌≤◌, ◌<◌, Bool, true, false, not, ◌&&◌, ◌||◌, ◌==◌, nat_lt, [], ◌∷◌, ◌++◌, refl, sym, ap, subst, ◌∙◌, arith, add-one, ◌⊎◌, inl, inr}
 use Rattle.std.specs.Prelude.{if◌then◌else◌}
 use Rattle.std.specs.List.{list_all}
-use Rattle.std.proofs.lemmas.Bool.{and_parts, and_from, not-true, both_ways, eqb-true, ltb-true, le-leb}
+use Rattle.std.proofs.lemmas.Bool.{and_parts, and_from, both_ways, eqb-true, ltb-true, le-leb}
 use Rattle.desk_names.specs.declared.signatures.Spot.TheVariants as spots
 use Rattle.desk_names.specs.declared.signatures.RefState.{RefState}
 use Rattle.desk_names.specs.declared.signatures.RefState.TheVariants as ref_states
 use Rattle.desk_base.specs.Names.{Text}
 use Rattle.desk_base.specs.Descriptors.{is_base, as_is}
-use Rattle.desk_base.specs.Signatures.{JavaType, Ref, ClassType, Inner, Args, Arg, java_text, ref_text, inner_text, args_text, each_text, arg_text, is_java, is_ref, is_inner, is_args, is_each, is_arg, is_mark, is_signature_identifier, is_signature_name}
+use Rattle.desk_base.specs.Signatures.{JavaType, Ref, ClassType, Inner, Args, Arg, java_text, ref_text, inner_text, args_text, each_text, arg_text, is_java, is_ref, is_inner, is_args, is_each, is_arg, is_mark, is_signature_identifier}
 use Rattle.desk_names.specs.SignatureScan.{ref_behind, in_class, ref_step}
 use Rattle.desk_names.proofs.Bytes.{name_from, signature_name_is}
 use Rattle.desk_names.proofs.Takes.{other}
@@ -341,4 +341,3 @@ module _ (P : Text → Type 0) where
   ref_back_step (ref_states.Args (suc d) some) b s h = args_any d b s some (b == 42) refl h
   ref_back_step ref_states.Over b s h = absurd h
   ref_back_step ref_states.Wrong b s h = absurd h
-

@@ -1,10 +1,10 @@
 -- Printing a signature with each class name exchanged is printing the exchanged tree, which has the kind and form of the tree.
-use Rattle.std.proofs.Common.{◌≡◌, ℕ, ◌-◌, true, ◌&&◌, List, [], ◌∷◌, ◌++◌, Option, Some, None, refl, sym, ap, ◌∙◌}
+use Rattle.std.proofs.Common.{◌≡◌, ℕ, ◌-◌, true, List, [], ◌∷◌, ◌++◌, Option, Some, None, refl, sym, ap, ◌∙◌}
 use Rattle.std.specs.List.{list_all}
 use Rattle.std.proofs.lemmas.Bool.{and_parts, and_from}
 use Rattle.desk_base.specs.Names.{Text}
 use Rattle.desk_base.specs.Descriptors.{as_is}
-use Rattle.desk_base.specs.Signatures.{JavaType, Ref, ClassType, Inner, Args, Arg, Param, Thrown, Signature, SignatureKind, IsSignature, kind_of, is_signature_name, is_java, is_ref, is_class, is_inner, is_args, is_each, is_arg, is_bound, is_param, is_result, is_thrown, is_signature, java_text, ref_text, class_text, inner_text, args_text, each_text, arg_text, bound_text, bounds_text, each_param, params_text, classes_text, javas_text, result_text, thrown_text, signature_text, print_signature, map_java, map_ref, map_class, map_inner, map_args, map_arg, map_bound, map_refs, map_param, map_params, map_classes, map_javas, map_result, map_thrown, map_signature}
+use Rattle.desk_base.specs.Signatures.{JavaType, Ref, ClassType, Inner, Args, Arg, Param, Thrown, Signature, SignatureKind, IsSignature, kind_of, is_signature_name, is_java, is_ref, is_class, is_inner, is_args, is_each, is_arg, is_bound, is_param, is_result, is_thrown, is_signature, java_text, ref_text, class_text, inner_text, args_text, each_text, arg_text, bound_text, bounds_text, each_param, params_text, classes_text, javas_text, result_text, thrown_text, signature_text, print_signature, map_java, map_ref, map_class, map_inner, map_args, map_arg, map_bound, map_refs, map_params, map_classes, map_javas, map_result, map_thrown, map_signature}
 use Rattle.desk_names.specs.Pieces.{joined}
 use Rattle.desk_names.specs.SignaturePieces.{sig_pieces}
 use Rattle.desk_names.proofs.SigPieces.{spelled_by}

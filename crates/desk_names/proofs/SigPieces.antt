@@ -59,11 +59,22 @@ never_naming : (place : RefPlace) (d b : ℕ) (t : Text) → is_mark b ≡ true 
 unfolding sig_step ref_step
 never_naming place d b t h = ap (λ (m : Bool). is_naming (at_place place (if not m then ref_states.Class d (spots.Inner true) else in_class d true b))) h ∙ class_naming place d _ (b == 59) _ (b == 46) (b == 60) _
 
+-- behind a byte of no class name
+pub cut_plain : (st : SigState) (seen : Text) (b : ℕ) (t : Text) → is_naming st ≡ false → sig_cut st seen (b ∷ t) ≡ (if is_naming (sig_step st b t) then Piece.other (seen ++ b ∷ []) ∷ sig_cut (sig_step st b t) [] t else sig_cut (sig_step st b t) (seen ++ b ∷ []) t)
+unfolding sig_cut
+cut_plain st seen b t h = ap (λ (w : Bool). if w then (if ends_name b then class_piece seen ∷ sig_cut (sig_step (named st) b t) (b ∷ []) t else sig_cut st (seen ++ b ∷ []) t) else if is_naming (sig_step st b t) then Piece.other (seen ++ b ∷ []) ∷ sig_cut (sig_step st b t) [] t else sig_cut (sig_step st b t) (seen ++ b ∷ []) t) h
+
+-- the byte behind a class name
+pub name_stop : (place : RefPlace) (d : ℕ) (i : Bool) (seen : Text) (x : ℕ) (t : Text) → ends_name x ≡ true → sig_cut (sig_states.In place (ref_states.Class d (spots.Package i))) seen (x ∷ t) ≡ class_piece seen ∷ sig_cut (sig_states.In place (ref_states.Class d (spots.Inner true))) [] (x ∷ t)
+unfolding sig_cut
+name_stop place d i seen x t h =
+    ap (λ (c : Bool). if c then class_piece seen ∷ sig_cut (sig_step (sig_states.In place (ref_states.Class d (spots.Inner true))) x t) (x ∷ []) t else sig_cut (sig_states.In place (ref_states.Class d (spots.Package i))) (seen ++ x ∷ []) t) h
+    ∙ ap (λ (ps : List Piece). class_piece seen ∷ ps) (sym (cut_plain (sig_states.In place (ref_states.Class d (spots.Inner true))) [] x t refl ∙ ap (λ (c : Bool). if c then Piece.other (x ∷ []) ∷ sig_cut (sig_step (sig_states.In place (ref_states.Class d (spots.Inner true))) x t) [] t else sig_cut (sig_step (sig_states.In place (ref_states.Class d (spots.Inner true))) x t) (x ∷ []) t) (never_naming place d x t (and_parts _ _ h).0)))
+
 module _ (X : Type 0) (put : ℕ → X → X) (name : Text → X → X) (nil : X) (J : List Piece → X)
     (others : (s : Text) (ps : List Piece) → J (Piece.other s ∷ ps) ≡ puts X put name s (J ps))
     (classes : (n : Text) (ps : List Piece) → is_signature_name n ≡ true → J (class_piece n ∷ ps) ≡ name n (J ps))
     (none : J [] ≡ nil) where
-
   R : SigState → Text → X
   R st t = J (sig_cut st [] t)
 
@@ -80,11 +91,6 @@ module _ (X : Type 0) (put : ℕ → X → X) (name : Text → X → X) (nil : X
   unfolding puts
   last_on [] = refl
   last_on (a ∷ seen) = others (a ∷ seen) []
-
-  -- behind a byte of no class name
-  cut_plain : (st : SigState) (seen : Text) (b : ℕ) (t : Text) → is_naming st ≡ false → sig_cut st seen (b ∷ t) ≡ (if is_naming (sig_step st b t) then Piece.other (seen ++ b ∷ []) ∷ sig_cut (sig_step st b t) [] t else sig_cut (sig_step st b t) (seen ++ b ∷ []) t)
-  unfolding sig_cut
-  cut_plain st seen b t h = ap (λ (w : Bool). if w then (if ends_name b then class_piece seen ∷ sig_cut (sig_step (named st) b t) (b ∷ []) t else sig_cut st (seen ++ b ∷ []) t) else if is_naming (sig_step st b t) then Piece.other (seen ++ b ∷ []) ∷ sig_cut (sig_step st b t) [] t else sig_cut (sig_step st b t) (seen ++ b ∷ []) t) h
 
   seen_by : (st : SigState) (seen : Text) (b : ℕ) (t : Text) (c : Bool) → is_naming st ≡ c → (is_naming st ≡ false → J (sig_cut st (seen ++ b ∷ []) t) ≡ puts X put name (seen ++ b ∷ []) (J (sig_cut st [] t))) → (is_naming st ≡ false → J (sig_cut st (b ∷ []) t) ≡ puts X put name (b ∷ []) (J (sig_cut st [] t))) → J (if c then Piece.other (seen ++ b ∷ []) ∷ sig_cut st [] t else sig_cut st (seen ++ b ∷ []) t) ≡ puts X put name seen (J (if c then Piece.other (b ∷ []) ∷ sig_cut st [] t else sig_cut st (b ∷ []) t))
   seen_by st seen b t true e f g = others (seen ++ b ∷ []) _ ∙ puts_on seen (b ∷ []) _ ∙ ap (puts X put name seen) (sym (others (b ∷ []) _))
@@ -115,16 +121,10 @@ module _ (X : Type 0) (put : ℕ → X → X) (name : Text → X → X) (nil : X
     there : SigState
     there = sig_states.In place (ref_states.Class d (spots.Inner true))
 
-    name_end : (seen : Text) (x : ℕ) (t : Text) → ends_name x ≡ true → sig_cut here seen (x ∷ t) ≡ class_piece seen ∷ sig_cut there [] (x ∷ t)
-    unfolding sig_cut here there
-    name_end seen x t h =
-        ap (λ (c : Bool). if c then class_piece seen ∷ sig_cut (sig_step (sig_states.In place (ref_states.Class d (spots.Inner true))) x t) (x ∷ []) t else sig_cut (sig_states.In place (ref_states.Class d (spots.Package false))) (seen ++ x ∷ []) t) h
-        ∙ ap (λ (ps : List Piece). class_piece seen ∷ ps) (sym (cut_plain (sig_states.In place (ref_states.Class d (spots.Inner true))) [] x t refl ∙ ap (λ (c : Bool). if c then Piece.other (x ∷ []) ∷ sig_cut (sig_step (sig_states.In place (ref_states.Class d (spots.Inner true))) x t) [] t else sig_cut (sig_step (sig_states.In place (ref_states.Class d (spots.Inner true))) x t) (x ∷ []) t) (never_naming place d x t (and_parts _ _ h).0)))
-
     name_on : (i : Bool) (seen n t : Text) → name_from is_mark i n ≡ true → stopped t ≡ true → sig_cut here seen (n ++ t) ≡ class_piece (seen ++ n) ∷ sig_cut there [] t
-    unfolding sig_cut here
+    unfolding sig_cut here there
     name_on i seen [] [] h k = absurd cc
-    name_on i seen [] (x ∷ t) h k = name_end seen x t k ∙ ap (λ (n : Text). class_piece n ∷ sig_cut there [] (x ∷ t)) (sym (append-nil seen))
+    name_on i seen [] (x ∷ t) h k = name_stop place d false seen x t k ∙ ap (λ (n : Text). class_piece n ∷ sig_cut there [] (x ∷ t)) (sym (append-nil seen))
     name_on i seen (b ∷ n) t h k =
         let g = goes_on i b n h in
         ap (λ (c : Bool). if c then class_piece seen ∷ sig_cut (sig_step (sig_states.In place (ref_states.Class d (spots.Inner true))) b (n ++ t)) (b ∷ []) (n ++ t) else sig_cut (sig_states.In place (ref_states.Class d (spots.Package false))) (seen ++ b ∷ []) (n ++ t)) g.stays

@@ -1,5 +1,5 @@
 -- A text that the scan of signatures takes is printed by a signature.
-use Rattle.std.proofs.Common.{◌≡◌, ℕ, ◌-◌, Bool, true, false, not, ◌&&◌, ◌==◌, List, [], ◌∷◌, ◌++◌, Option, Some, None, refl, sym, ap, subst, ◌∙◌, ◌⊎◌, inl, inr}
+use Rattle.std.proofs.Common.{◌≡◌, ℕ, Bool, true, false, not, ◌&&◌, ◌==◌, List, [], ◌∷◌, ◌++◌, Option, Some, None, refl, sym, ap, subst, ◌∙◌, ◌⊎◌, inl, inr}
 use Rattle.std.specs.Prelude.{if◌then◌else◌}
 use Rattle.std.specs.List.{list_all}
 use Rattle.std.proofs.lemmas.Bool.{and_parts, and_from, both_ways, eqb-true}
@@ -14,10 +14,10 @@ use Rattle.desk_names.specs.declared.signatures.SigState.{SigState}
 use Rattle.desk_names.specs.declared.signatures.SigState.TheVariants as sig_states
 use Rattle.desk_base.specs.Names.{Text}
 use Rattle.desk_base.specs.Descriptors.{as_is}
-use Rattle.desk_base.specs.Signatures.{JavaType, Ref, ClassType, Args, Inner, Param, Thrown, Signature, SignatureKind, IsSignature, is_mark, is_signature_identifier, is_java, is_ref, is_class, is_args, is_inner, is_bound, is_param, is_result, is_thrown, is_signature, java_text, ref_text, class_text, args_text, inner_text, bound_text, bounds_text, each_param, params_text, classes_text, javas_text, result_text, thrown_text, signature_text, kind_of}
-use Rattle.desk_names.specs.SignatureScan.{ref_step, after, at_place, has_bound, first_bound, body_step, sig_step, sig_run, may_end, sig_start, is_sound_signature}
-use Rattle.desk_names.proofs.Bytes.{name_from, signature_name_is}
-use Rattle.desk_names.proofs.RefSound.{Behind, RefAt, ClassAt, VariableAt, Fits, is_tail, is_tail_identifier, java_ref, java_print, ref_back_step}
+use Rattle.desk_base.specs.Signatures.{JavaType, Ref, ClassType, Param, Thrown, Signature, SignatureKind, IsSignature, is_mark, is_java, is_ref, is_class, is_bound, is_param, is_result, is_thrown, is_signature, java_text, ref_text, class_text, bound_text, bounds_text, each_param, params_text, classes_text, javas_text, result_text, thrown_text, signature_text, kind_of}
+use Rattle.desk_names.specs.SignatureScan.{ref_step, after, at_place, has_bound, first_bound, body_step, sig_step, sig_run, may_end, is_sound_signature}
+use Rattle.desk_names.proofs.Bytes.{signature_name_is}
+use Rattle.desk_names.proofs.RefSound.{Behind, RefAt, Fits, is_tail, is_tail_identifier, java_ref, java_print, ref_back_step}
 
 -- What a text that completes a state is made of
 
@@ -212,12 +212,12 @@ param_of name bound others = record { name = name; bound = bound; others = other
 opened_back : (o : Owner) (b : ℕ) (s : Text) (c : Bool) → (b == 60) ≡ c → Completes (if c then sig_states.ParamName o false else body_step o b) s → Opened o (b ∷ s)
 unfolding Completes params_text each_param param_of
 opened_back o b s true e h = record {
-    params = param_of h.name h.bound h.others ∷ h.params;
-    more = h.more;
-    formed = and_from _ _ (and_from _ _ (and_from _ _ (is_tail_identifier h.name h.named) h.bounded) h.bounds_formed) h.params_formed;
-    is = ap (λ (x : ℕ). x ∷ s) (eqb-true b 60 e) ∙ ap (λ (t : Text). 60 ∷ t) h.is;
-    after = h.after;
-  }
+  params = param_of h.name h.bound h.others ∷ h.params;
+  more = h.more;
+  formed = and_from _ _ (and_from _ _ (and_from _ _ (is_tail_identifier h.name h.named) h.bounded) h.bounds_formed) h.params_formed;
+  is = ap (λ (x : ℕ). x ∷ s) (eqb-true b 60 e) ∙ ap (λ (t : Text). 60 ∷ t) h.is;
+  after = h.after;
+}
 opened_back o b s false e h = record { params = []; more = b ∷ s; formed = refl; is = refl; after = body_back o b s h }
 
 name_more : (o : Owner) (i : Bool) (b : ℕ) (s : Text) → is_mark b ≡ false → NameRest o true s → NameRest o i (b ∷ s)

@@ -16,10 +16,10 @@ use Rattle.desk_names.specs.declared.signatures.SigState.TheVariants as sig_stat
 use Rattle.desk_base.specs.Names.{Text}
 use Rattle.desk_base.specs.Descriptors.{is_base, as_is}
 use Rattle.desk_base.specs.Signatures.{JavaType, Ref, ClassType, Inner, Args, Arg, Param, Thrown, Signature, kind_of, is_mark, is_signature_identifier, is_signature_name, is_java, is_ref, is_class, is_inner, is_args, is_each, is_arg, is_bound, is_param, is_result, is_thrown, is_signature, java_text, ref_text, class_text, inner_text, args_text, each_text, arg_text, bound_text, bounds_text, each_param, params_text, classes_text, javas_text, result_text, thrown_text, signature_text}
-use Rattle.desk_names.specs.SignatureScan.{ref_behind, in_class, ref_step, after, at_place, has_bound, first_bound, body_step, sig_step, may_end, sig_start}
+use Rattle.desk_names.specs.SignatureScan.{ref_behind, in_class, ref_step, after, at_place, first_bound, body_step, sig_step, may_end, sig_start}
 use Rattle.desk_names.specs.SignaturePieces.{is_naming}
 use Rattle.desk_names.proofs.Takes.{other}
-use Rattle.desk_names.proofs.OneSignature.{stopped, behind_stopped, ends_class, no_bound_end, ref_mark, params_mark, bounds_mark, bound_by_mark}
+use Rattle.desk_names.proofs.OneSignature.{stopped, behind_stopped, ends_class, ref_mark, params_mark, bounds_mark, bound_by_mark}
 use Rattle.desk_names.proofs.Emitted.{puts, emit_java, emit_ref, emit_class, emit_inner, emit_args, emit_each, emit_arg, emit_bound, emit_bounds, emit_each_param, emit_params, emit_classes, emit_javas, emit_result, emit_thrown, emit_signature}
 
 base_step : (d c : ℕ) → is_base c ≡ true → ref_step (ref_states.Ref d true) c ≡ ref_behind d
@@ -78,7 +78,6 @@ module _ (X : Type 0) (put : ℕ → X → X) (name : Text → X → X) (nil : X
     (plain : (st : SigState) (b : ℕ) (t : Text) → is_naming st ≡ false → R st (b ∷ t) ≡ put b (R (sig_step st b t) t))
     (named_by : (place : RefPlace) (d : ℕ) (n t : Text) → is_signature_name n ≡ true → stopped t ≡ true → R (sig_states.In place (ref_states.Class d (spots.Package false))) (n ++ t) ≡ name n (R (sig_states.In place (ref_states.Class d (spots.Inner true))) t))
     (ended : (st : SigState) → may_end st ≡ true → R st [] ≡ nil) where
-
   step_to : (st next : SigState) (b : ℕ) (t : Text) → is_naming st ≡ false → sig_step st b t ≡ next → R st (b ∷ t) ≡ put b (R next t)
   step_to st next b t h e = plain st b t h ∙ ap (λ (s : SigState). put b (R s t)) e
 

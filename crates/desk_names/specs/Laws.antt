@@ -1,16 +1,30 @@
 -- The laws of descriptors and signatures.
 use Rattle.std.specs.Prelude.{◌≡◌, true}
 use Rattle.desk_base.specs.Names.{Text, is_class_name}
-use Rattle.desk_base.specs.Descriptors.{Descriptor, DescriptorKind, IsDescriptor, is_descriptor, print, renamed, text_with, names_of, as_is}
+use Rattle.desk_base.specs.Descriptors.{Descriptor, DescriptorKind, IsDescriptor, is_descriptor, print, renamed, names_of, as_is}
 use Rattle.desk_base.specs.Signatures.{Signature, SignatureKind, IsSignature, is_signature_name, print_signature, map_signature, signature_names}
 use Rattle.desk_names.specs.Pieces.{pieces, joined, names_in}
 use Rattle.desk_names.specs.SignatureScan.{is_sound_signature}
 use Rattle.desk_names.specs.SignaturePieces.{sig_pieces}
 
+-- some tree is a descriptor of a text, and none is
+abbrev pub HasDescriptor : DescriptorKind → Text → Type 0
+HasDescriptor kind text = (d : Descriptor) × IsDescriptor kind text d
+
+abbrev pub HasNoDescriptor : DescriptorKind → Text → Type 0
+HasNoDescriptor kind text = (d : Descriptor) → IsDescriptor kind text d → ⊥
+
+-- some tree is a signature of a text, and none is
+abbrev pub HasSignature : SignatureKind → Text → Type 0
+HasSignature kind text = (s : Signature) × IsSignature kind text s
+
+abbrev pub HasNoSignature : SignatureKind → Text → Type 0
+HasNoSignature kind text = (s : Signature) → IsSignature kind text s → ⊥
+
 -- A text passes the test of a kind exactly where it is the text of a formed tree of that kind, and there is one such tree.
 pub record TreesOfDescriptors : Type 0 where
   pub taken : (kind : DescriptorKind) (text : Text) (d : Descriptor) → IsDescriptor kind text d → is_descriptor kind text ≡ true
-  pub tree : (kind : DescriptorKind) (text : Text) → is_descriptor kind text ≡ true → (d : Descriptor) × IsDescriptor kind text d
+  pub tree : (kind : DescriptorKind) (text : Text) → is_descriptor kind text ≡ true → HasDescriptor kind text
   pub one : (kind : DescriptorKind) (text : Text) (a b : Descriptor) → IsDescriptor kind text a → IsDescriptor kind text b → a ≡ b
 
 -- the class names that f gives for class names are class names
@@ -29,7 +43,7 @@ pub record PartsOfDescriptors : Type 0 where
 -- deep, and there is one such tree.
 pub record TreesOfSignatures : Type 0 where
   pub taken : (kind : SignatureKind) (text : Text) (s : Signature) → IsSignature kind text s → is_sound_signature kind text ≡ true
-  pub tree : (kind : SignatureKind) (text : Text) → is_sound_signature kind text ≡ true → (s : Signature) × IsSignature kind text s
+  pub tree : (kind : SignatureKind) (text : Text) → is_sound_signature kind text ≡ true → HasSignature kind text
   pub one : (kind : SignatureKind) (text : Text) (a b : Signature) → IsSignature kind text a → IsSignature kind text b → a ≡ b
 
 -- the class names that f gives for class names of signatures are such names

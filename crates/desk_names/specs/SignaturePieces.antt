@@ -1,5 +1,5 @@
 -- The parts of a signature's text.
-use Rattle.std.specs.Prelude.{ℕ, Bool, true, false, not, ◌&&◌, ◌==◌, List, [], ◌∷◌, ◌++◌, if◌then◌else◌}
+use Rattle.std.specs.Prelude.{ℕ, suc, Bool, true, false, not, ◌&&◌, ◌==◌, List, [], ◌∷◌, ◌++◌, if◌then◌else◌}
 use Rattle.desk_names.specs.declared.signatures.Spot.TheVariants as spots
 use Rattle.desk_names.specs.declared.signatures.RefState.TheVariants as ref_states
 use Rattle.desk_names.specs.declared.signatures.SigState.{SigState}
@@ -29,10 +29,15 @@ unfoldable pub sig_cut : SigState → Text → Text → List Piece
 sig_cut state seen [] = last_piece seen
 sig_cut state seen (b ∷ t) =
     if is_naming state then
-      (if ends_name b then class_piece seen ∷ sig_cut (sig_step (named state) b t) (b ∷ []) t else sig_cut state (seen ++ b ∷ []) t)
+    (if ends_name b then class_piece seen ∷ sig_cut (sig_step (named state) b t) (b ∷ []) t else sig_cut state (seen ++ b ∷ []) t)
     else if is_naming (sig_step state b t) then Piece.other (seen ++ b ∷ []) ∷ sig_cut (sig_step state b t) [] t
     else sig_cut (sig_step state b t) (seen ++ b ∷ []) t
 
 -- the parts of a signature of a kind
 abbrev pub sig_pieces : SignatureKind → Text → List Piece
 sig_pieces kind text = sig_cut (sig_start kind) [] text
+
+-- the first place of a byte that ends a class name, or the text's length
+unfoldable pub name_end : Text → ℕ
+name_end [] = 0
+name_end (b ∷ t) = if ends_name b then 0 else suc (name_end t)

@@ -1,13 +1,12 @@
 -- Telling whether a text is a signature (JVMS 4.7.9.1), byte by byte. A law of the readers says that this is so exactly where
 -- some tree is one of that text.
-use Rattle.std.specs.Prelude.{ℕ, ◌+◌, ◌-◌, Bool, true, false, not, ◌&&◌, ◌||◌, ◌==◌, nat_lt, [], ◌∷◌, if◌then◌else◌}
+use Rattle.std.specs.Prelude.{ℕ, suc, ◌+◌, ◌-◌, Bool, true, false, not, ◌&&◌, ◌||◌, ◌==◌, nat_lt, [], ◌∷◌, if◌then◌else◌}
 use Rattle.desk_names.specs.declared.signatures.Which.{Which}
 use Rattle.desk_names.specs.declared.signatures.Which.TheVariants as whiches
 use Rattle.desk_names.specs.declared.signatures.Owner.{Owner}
 use Rattle.desk_names.specs.declared.signatures.Owner.TheVariants as owners
 use Rattle.desk_names.specs.declared.signatures.RefPlace.{RefPlace}
 use Rattle.desk_names.specs.declared.signatures.RefPlace.TheVariants as ref_places
-use Rattle.desk_names.specs.declared.signatures.Spot.{Spot}
 use Rattle.desk_names.specs.declared.signatures.Spot.TheVariants as spots
 use Rattle.desk_names.specs.declared.signatures.RefState.{RefState}
 use Rattle.desk_names.specs.declared.signatures.RefState.TheVariants as ref_states
@@ -147,3 +146,16 @@ sig_start SignatureKind.field = sig_states.In ref_places.Alone (ref_states.Ref 0
 -- whether a text is a signature of a kind
 unfoldable pub is_sound_signature : SignatureKind → Text → Bool
 is_sound_signature kind text = may_end (sig_run (sig_start kind) text)
+
+-- within a name, of which a byte has been read: a byte that is no mark changes nothing
+abbrev pub is_within : SigState → Bool
+is_within (sig_states.In place (ref_states.Class depth (spots.Package inside))) = inside
+is_within (sig_states.In place (ref_states.Class depth (spots.Inner inside))) = inside
+is_within (sig_states.In place (ref_states.Variable depth inside)) = inside
+is_within (sig_states.ParamName owner inside) = inside
+is_within _ = false
+
+-- the first place of a mark in a text, or the text's length
+unfoldable pub mark_place : Text → ℕ
+mark_place [] = 0
+mark_place (b ∷ t) = if is_mark b then 0 else suc (mark_place t)

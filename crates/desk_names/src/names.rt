@@ -27,7 +27,11 @@ fn is_letter(byte: u8) -> bool
 fn is_identifier_byte(byte: u8) -> bool
     ensures { result ≡ is_identifier_byte byte }
 {
-    is_letter(byte) || is_digit(byte) || byte == b'_' || byte == b'$' || (0x80 <= byte && byte <= 0xEF)
+    is_letter(byte)
+        || is_digit(byte)
+        || byte == b'_'
+        || byte == b'$'
+        || (0x80 <= byte && byte <= 0xEF)
 }
 
 /// A byte that no part of a class name holds: `.` `;` `[` or `/` (JVMS 4.2.2).

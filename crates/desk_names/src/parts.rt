@@ -1,10 +1,11 @@
 //! The parts of descriptors.
 
-ghost use Rattle.std.specs.Prelude.{◌≡◌, ◌<◌, ◌≤◌, [], ◌∷◌, length, true, false, is_some, IfSome};
+ghost use Rattle.std.specs.Prelude.{◌≡◌, ◌<◌, ◌≤◌, [], ◌∷◌, length, true, false, is_some, IfSome, IfNone, OnSome};
 ghost use Rattle.std.specs.Iterator.{YieldsFirstBy, item_count};
-ghost use Rattle.desk_base.specs.Descriptors.{is_descriptor};
+ghost use Rattle.desk_base.specs.Descriptors.{as_is, is_descriptor};
 ghost use Rattle.desk_names.specs.States.{wanted_kind};
-ghost use Rattle.desk_names.specs.Pieces.{place_of, cut, piece_of, pieces};
+ghost use Rattle.desk_names.specs.Laws.{HasDescriptor, HasNoDescriptor};
+ghost use Rattle.desk_names.specs.Pieces.{place_of, cut, piece_of, pieces, joined};
 
 use crate::descriptors::{Want, is_descriptor};
 use crate::names::{ClassName, cut_name};
@@ -107,7 +108,10 @@ impl<'a> Iterator for DescParts<'a> {
 /// memory.
 pub fn read_descriptor(text: &[u8], want: Want) -> Option<DescParts<'_>>
     ensures read { is_some result ≡ is_descriptor (wanted_kind want) text.now }
+    ensures tree { OnSome result (HasDescriptor (wanted_kind want) text.now) }
+    ensures none { IfNone result (HasNoDescriptor (wanted_kind want) text.now) }
     ensures parts { IfSome result (λ parts. parts ≡ pieces text.now) }
+    ensures joined { IfSome result (λ parts. joined as_is parts ≡ text.now) }
 {
     if is_descriptor(text, want) {
         Some(DescParts {

@@ -1,8 +1,8 @@
 //! Reading a signature byte by byte (JVMS 4.7.9.1).
 
-ghost use Rattle.std.specs.Prelude.{◌≡◌};
+ghost use Rattle.std.specs.Prelude.{◌≡◌, ◌+◌, ◌≤◌, length, drop};
 ghost use Rattle.desk_base.specs.Signatures.{is_mark};
-ghost use Rattle.desk_names.specs.SignatureScan.{wanted_signature, ref_behind, in_class, ref_step, after, at_place, has_bound, first_bound, body_step, sig_step, sig_start, is_sound_signature};
+ghost use Rattle.desk_names.specs.SignatureScan.{wanted_signature, ref_behind, in_class, ref_step, after, at_place, has_bound, first_bound, body_step, sig_step, sig_start, is_sound_signature, is_within, mark_place};
 
 use crate::descriptors::is_base;
 
@@ -362,6 +362,36 @@ pub fn sig_start(which: Which) -> SigState
     }
 }
 
+/// Whether a state stands within a name, of which a byte has been read.
+pub fn is_within(state: SigState) -> bool
+    ensures { result ≡ is_within state }
+{
+    match state {
+        SigState::In(_, RefState::Class(_, Spot::Package(inside))) => inside,
+        SigState::In(_, RefState::Class(_, Spot::Inner(inside))) => inside,
+        SigState::In(_, RefState::Variable(_, inside)) => inside,
+        SigState::ParamName(_, inside) => inside,
+        _ => false,
+    }
+}
+
+/// The first place of a mark from a place on, or the length.
+#[tactic(auto, using(crate::proofs::Skips::mark_more, crate::proofs::Skips::mark_here, crate::proofs::Skips::mark_none))]
+pub fn mark_from(text: &[u8], from: usize) -> usize
+    requires { from ≤ length text.now }
+    ensures value { result ≡ from + mark_place (drop from text.now) }
+    ensures bound { result ≤ length text.now }
+{
+    let mut at = from;
+    while at < text.len() {
+        if is_mark(text[at]) {
+            return at;
+        }
+        at += 1;
+    }
+    at
+}
+
 /// Whether a text is a signature of a kind. It takes no memory.
 #[tactic(auto, unfolding(crate::specs::SignatureScan::sig_run, crate::specs::SignatureScan::is_sound_signature))]
 pub fn is_signature(text: &[u8], which: Which) -> bool
@@ -372,6 +402,9 @@ pub fn is_signature(text: &[u8], which: Which) -> bool
     while at < text.len() {
         state = sig_step(state, text[at], &text[at + 1..]);
         at += 1;
+        if is_within(state) {
+            at = mark_from(text, at);
+        }
     }
     match state {
         SigState::Supers | SigState::Throws | SigState::Over => true,

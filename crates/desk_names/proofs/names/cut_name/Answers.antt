@@ -1,4 +1,4 @@
-use Rattle.std.proofs.Common.{ℕ, sym, ap, ◌∙◌, arith, rules, subst, drop, take}
+use Rattle.std.proofs.Common.{ℕ, sym, ap, ◌∙◌, arith, drop, take}
 use Rattle.desk_base.specs.Names.{is_whole, slash}
 use Rattle.desk_names.proofs.LastPart.{package_whole, simple_whole, package_cut, simple_cut}
 use Rattle.desk_names.proofs.names.cut_name.Goals as goal

@@ -1,0 +1,99 @@
+//! Reads descriptors and signatures, one a line behind the letter of its kind and a blank, as `bench/texts.py` writes them,
+//! and does one thing with each of them, so many times: `sum` its bytes, or `read` its parts. It prints what came out.
+#![tactic(auto)]
+
+use desk_names::{Part, Want, Which, read_descriptor, read_signature};
+use std::env;
+
+/// What came out of one pass.
+#[derive(Clone, Copy, Debug)]
+struct Counts {
+    read: u64,
+    bytes: u64,
+}
+
+fn sum_of(text: &[u8]) -> u64 {
+    let mut sum: u64 = 0;
+    for byte in text {
+        sum = sum.wrapping_add(*byte as u64);
+    }
+    sum
+}
+
+fn weight(part: Part<'_>) -> u64 {
+    match part {
+        Part::Other(text) => text.len() as u64,
+        Part::Class(name) => (name.simple.len() as u64).wrapping_add(name.package.len() as u64),
+    }
+}
+
+fn descriptor_weight(text: &[u8], want: Want) -> Option<u64> {
+    let mut sum: u64 = 0;
+    for part in read_descriptor(text, want)? {
+        sum = sum.wrapping_add(weight(part));
+    }
+    Some(sum)
+}
+
+fn signature_weight(text: &[u8], which: Which) -> Option<u64> {
+    let mut sum: u64 = 0;
+    for part in read_signature(text, which)? {
+        sum = sum.wrapping_add(weight(part));
+    }
+    Some(sum)
+}
+
+fn read_line(kind: u8, text: &[u8]) -> Option<u64> {
+    match kind {
+        b'f' => descriptor_weight(text, Want::Field),
+        b'm' => descriptor_weight(text, Want::Method),
+        b'C' => signature_weight(text, Which::Class),
+        b'M' => signature_weight(text, Which::Method),
+        b'F' => signature_weight(text, Which::Field),
+        _ => None,
+    }
+}
+
+fn pass(lines: &[Vec<u8>], summing: bool) -> Counts {
+    let mut counts = Counts { read: 0, bytes: 0 };
+    for line in lines {
+        if line.len() < 3 {
+            continue;
+        }
+        let text = &line[2..];
+        let found = if summing {
+            Some(sum_of(text))
+        } else {
+            read_line(line[0], text)
+        };
+        if let Some(bytes) = found {
+            counts.read = counts.read.wrapping_add(1);
+            counts.bytes = counts.bytes.wrapping_add(bytes);
+        }
+    }
+    counts
+}
+
+fn main(rt: HostRuntime) -> anyhow::Result<()> {
+    let alloc = rt.alloc();
+    let mut words = env::args(&rt)?;
+    let _program = words.next();
+    let summing = match words.next() {
+        Some(word) => word.as_str() == "sum",
+        None => false,
+    };
+    let times: u32 = match words.next() {
+        Some(word) => word.as_str().parse::<u32>().unwrap_or(1),
+        None => 1,
+    };
+    let mut lines: Vec<Vec<u8>> = Vec::new(alloc);
+    for line in rt.lines(alloc) {
+        lines.push(line?.as_bytes().to_vec(alloc)?)?;
+    }
+    let mut counts = Counts { read: 0, bytes: 0 };
+    for _ in 0..times {
+        counts = pass(&lines, summing);
+    }
+    println!(rt; "{} {}", counts.read, counts.bytes)?;
+    Ok(())
+}
