@@ -1,0 +1,4 @@
+pub mod Steps
+pub mod Follows
+pub mod Exact
+pub mod Patched

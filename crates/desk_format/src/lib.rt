@@ -1,0 +1,10 @@
+//! The class file format of JVMS chapter 4 as definitions, and the laws of a class that is renamed.
+#![tactic(auto)]
+
+mod attributes;
+mod laws;
+mod members;
+
+pub use attributes::{Attribute, Place, Slot};
+pub use laws::{printed_bodies, renamed_bodies};
+pub use members::Member;
