@@ -1,5 +1,5 @@
 -- A layout read over a body with exchanged index numbers gives the same tree but for these numbers.
-use Rattle.std.proofs.Common.{◌≡◌, ℕ, zero, suc, ◌+◌, ◌-◌, ◌<◌, ◌≤◌, ◌^◌, List, [], ◌++◌, length, take, Option, None, Ok, refl, sym, ap, subst, ap₂, ◌∙◌, append_assoc, append-nil, arith, length-append, length-take-le, length-drop}
+use Rattle.std.proofs.Common.{◌≡◌, ℕ, zero, suc, ◌+◌, ◌<◌, ◌≤◌, ◌^◌, List, [], ◌++◌, length, take, Option, None, Ok, refl, sym, ap, subst, ap₂, ◌∙◌, append_assoc, append-nil, arith, length-append, length-take-le, length-drop}
 use Rattle.std.specs.Int.{Width, w8, w16, w32, byte_len, from_be_bytes}
 use Rattle.std.proofs.lemmas.Nat.{from_be_bytes-to_be_bytes_2}
 use Rattle.desk_base.specs.declared.kinds.UseKind.{UseKind}

@@ -2,3 +2,5 @@ pub mod Steps
 pub mod Follows
 pub mod Exact
 pub mod Patched
+pub mod SampleFaults
+pub mod TagLemmas

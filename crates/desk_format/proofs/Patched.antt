@@ -2,10 +2,7 @@
 use Rattle.std.proofs.Common.{Bool, true, false, cond, ◌&&◌, ◌==◌, ◌≡◌, ℕ, ◌+◌, ◌-◌, ◌≤◌, List, [], ◌∷◌, ◌++◌, length, Option, Some, None, Ok, refl, sym, ap, subst, ◌∙◌, append_assoc, arith, length-append}
 use Rattle.std.specs.Int.{w16, to_be_bytes}
 use Rattle.std.proofs.lemmas.List.{take_at, drop_at}
-use Rattle.desk_base.specs.declared.kinds.UseKind.{UseKind}
-use Rattle.desk_base.specs.declared.kinds.UseKind.TheVariants as kinds
 use Rattle.desk_base.specs.Entries.{Pool}
-use Rattle.desk_base.specs.Misfits.{misfit}
 use Rattle.desk_format.specs.Trees.{Tree, Use, map_tree, Each, print, uses, uses_of, text_use, text_in_role, Placed}
 use Rattle.desk_base.specs.declared.kinds.Used.{Used}
 use Rattle.desk_base.specs.declared.targets.Target.{Target}
@@ -13,7 +10,7 @@ use Rattle.desk_base.specs.declared.targets.Target.TheVariants as targets
 use Rattle.desk_base.specs.Targets.{target_of, may_be_none}
 use Rattle.desk_format.specs.Layouts.{Layout}
 use Rattle.desk_format.specs.Reading.{Got, read}
-use Rattle.desk_format.specs.Exchange.{Change, index_or, moved, exchanged, exchange, Suits, Fits, patch, put_two}
+use Rattle.desk_format.specs.Exchange.{Change, index_or, moved, exchanged, exchange, Suits, patch, put_two}
 use Rattle.desk_format.specs.Resolved.{value, resolved, Images, renamed_value, renamed}
 use Rattle.desk_format.proofs.Steps.{got_of}
 use Rattle.desk_format.proofs.Follows.{Again, follows, length-print}

@@ -1,9 +1,9 @@
 -- Annotations and element values (JVMS 4.7.16), and type annotations (JVMS 4.7.20).
-use Rattle.std.specs.Prelude.{ℕ, zero, suc, Option, Some, None, nat_lt, List, [], ◌∷◌, if◌then◌else◌}
+use Rattle.std.specs.Prelude.{ℕ, zero, suc, Some, None, nat_lt, List, [], ◌∷◌, if◌then◌else◌}
 use Rattle.std.specs.Int.{w8}
 use Rattle.desk_base.specs.declared.kinds.UseKind.TheVariants as kinds
 use Rattle.desk_base.specs.declared.faults.FaultKind.TheVariants as faults
-use Rattle.desk_format.specs.declared.attributes.Slot.TheVariants.{Number, Index}
+use Rattle.desk_format.specs.declared.attributes.Slot.TheVariants.{Number}
 use Rattle.desk_format.specs.Layouts.{Layout, Check}
 use Rattle.desk_format.specs.Rows.{u1, u2, rows, many, table_layout, Case, at, from, one_of}
 
@@ -67,8 +67,11 @@ abbrev pub path_kind : Check
 path_kind n = if nat_lt 3 n then Some faults.PathKind else None
 
 -- type_path: for each step its kind, and the number of a type argument
+abbrev pub path_step : Layout
+path_step = rows (Layout.number w8 path_kind ∷ u1 ∷ [])
+
 abbrev pub type_path : Layout
-type_path = Layout.table w8 (rows (Layout.number w8 path_kind ∷ u1 ∷ []))
+type_path = Layout.table w8 path_step
 
 -- type_annotation
 abbrev pub type_annotation : Layout

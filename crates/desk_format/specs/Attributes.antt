@@ -12,7 +12,7 @@ use Rattle.desk_format.specs.declared.attributes.Place.{Place}
 use Rattle.desk_format.specs.declared.attributes.Place.TheVariants.{OfClass, OfField, OfMethod, OfCode, OfComponent}
 use Rattle.desk_format.specs.declared.attributes.Slot.TheVariants.{Number, Index}
 use Rattle.desk_format.specs.Layouts.{Layout, Check}
-use Rattle.desk_format.specs.Rows.{u2, rows, many, row_layout, table_layout}
+use Rattle.desk_format.specs.Rows.{rows, many, row_layout, table_layout}
 use Rattle.desk_format.specs.Frames.{frame}
 use Rattle.desk_format.specs.Annotations.{annotation, type_annotation, element_value}
 

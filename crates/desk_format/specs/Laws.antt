@@ -1,7 +1,7 @@
 -- The laws of a body that is read, and of one that is renamed.
 use Rattle.std.specs.Prelude.{◌≡◌, ℕ, ◌+◌, ◌<◌, ◌≤◌, List, ◌++◌, length, get_or, Ok}
 use Rattle.desk_base.specs.Entries.{Pool}
-use Rattle.desk_format.specs.Trees.{Tree, Use, Each, Placed, print, uses}
+use Rattle.desk_format.specs.Trees.{Use, Each, Placed, print, uses}
 use Rattle.desk_format.specs.Layouts.{Layout}
 use Rattle.desk_format.specs.Reading.{Got, read}
 use Rattle.desk_format.specs.Exchange.{Change, moved, exchanged, exchange, Suits, Fits, patch}

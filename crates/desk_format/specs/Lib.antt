@@ -18,3 +18,5 @@ pub mod Split
 pub mod NewPool
 pub mod NewClass
 pub mod Samples
+pub mod Servlet
+pub mod Tags

@@ -10,10 +10,10 @@ use Rattle.desk_format.specs.Exchange.{Change, exchange, patch}
 use Rattle.desk_format.specs.Resolved.{Images, image, resolved, renamed}
 use Rattle.desk_format.specs.Values.{Value}
 use Rattle.desk_format.specs.PoolBytes.{print_pool}
-use Rattle.desk_format.specs.Members.{Named, Twins, first_twins, named_in, members}
+use Rattle.desk_format.specs.Members.{Named, Twins, first_twins, members}
 use Rattle.desk_format.specs.Classes.{Class, class_uses}
 use Rattle.desk_format.specs.Split.{Want, wanted}
-use Rattle.desk_format.specs.NewPool.{Choice, choice, wants, added, new_pool, change_by}
+use Rattle.desk_format.specs.NewPool.{choice, wants, added, new_pool, change_by}
 
 -- ---- the new class
 

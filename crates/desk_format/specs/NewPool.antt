@@ -1,5 +1,5 @@
 -- The new pool: each old index keeps its tag, the texts are split, and each index that names a text is exchanged.
-use Rattle.std.specs.Prelude.{ℕ, List, map, Option, option_map}
+use Rattle.std.specs.Prelude.{ℕ, List, map, option_map}
 use Rattle.desk_base.specs.declared.kinds.Role.{Role}
 use Rattle.desk_base.specs.declared.kinds.Role.TheVariants as roles
 use Rattle.desk_base.specs.declared.kinds.Used.{Used}

@@ -1,7 +1,7 @@
 -- Reading a constant pool (JVMS 4.4): what each index names and the offset behind the pool, or the first fault of three
 -- passes. The first reads the entries; the second sees that each index names an entry of a fitting tag; the third sees that
 -- each text that an index leads to has its form.
-use Rattle.std.specs.Prelude.{ℕ, zero, suc, ◌+◌, ◌-◌, Bool, true, false, not, ◌&&◌, ◌||◌, List, [], ◌∷◌, length, take, drop, get_or, Option, Some, None, Result, Ok, Err, nat_lt, ◌==◌, if◌then◌else◌}
+use Rattle.std.specs.Prelude.{ℕ, zero, suc, ◌+◌, Bool, true, false, not, ◌&&◌, ◌||◌, List, [], ◌∷◌, length, take, drop, Option, Some, None, Result, Ok, Err, nat_lt, ◌==◌, if◌then◌else◌}
 use Rattle.std.specs.Int.{w8, w16, from_be_bytes}
 use Rattle.desk_base.specs.declared.kinds.Tag.{Tag}
 use Rattle.desk_base.specs.declared.kinds.Tag.TheVariants as tags

@@ -1,5 +1,5 @@
 -- Rows of layouts, tables of rows, and choices by a tag.
-use Rattle.std.specs.Prelude.{ℕ, Bool, ◌&&◌, ◌==◌, nat_le, List, [], ◌∷◌, Option, Some, None, if◌then◌else◌}
+use Rattle.std.specs.Prelude.{ℕ, Bool, ◌&&◌, ◌==◌, nat_le, List, [], ◌∷◌, Some, None, if◌then◌else◌}
 use Rattle.std.specs.Int.{w8, w16}
 use Rattle.desk_base.specs.declared.faults.FaultKind.{FaultKind}
 use Rattle.desk_format.specs.declared.attributes.Slot.{Slot}

@@ -4,6 +4,9 @@
 mod attributes;
 mod laws;
 mod members;
+pub mod samples;
+pub mod servlet;
+pub mod tags;
 
 pub use attributes::{Attribute, Place, Slot};
 pub use laws::{printed_bodies, renamed_bodies};
