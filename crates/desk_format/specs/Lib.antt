@@ -20,3 +20,4 @@ pub mod NewClass
 pub mod Samples
 pub mod Servlet
 pub mod Tags
+pub mod Renames

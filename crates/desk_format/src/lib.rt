@@ -4,6 +4,7 @@
 mod attributes;
 mod laws;
 mod members;
+pub mod renames;
 pub mod samples;
 pub mod servlet;
 pub mod tags;
