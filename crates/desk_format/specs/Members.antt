@@ -9,15 +9,19 @@ use Rattle.desk_format.specs.declared.members.Member.{Member}
 use Rattle.desk_format.specs.Trees.{Tree, Use}
 use Rattle.desk_format.specs.Trees.{both, used}
 
-abbrev pub is_method : UseKind → Bool
-is_method kinds.MethodDescriptor = true
-is_method _ = false
+-- A field has a name and a field descriptor, a method a name and a method descriptor. The access flags stand in the two
+-- bytes before the index of the name.
+abbrev pub member_of : Bool → Use → Use → Member
+member_of method name descriptor = record { at = name.at - 2; name = name.index; descriptor = descriptor.index; method = method }
 
--- A field or method: access flags, name and descriptor, then attributes. The access flags stand in the two bytes before
--- the index of the name.
+abbrev pub member_by : UseKind → UseKind → Use → Use → List Member
+member_by kinds.Plain kinds.FieldDescriptor name descriptor = member_of false name descriptor ∷ []
+member_by kinds.Plain kinds.MethodDescriptor name descriptor = member_of true name descriptor ∷ []
+member_by _ _ name descriptor = []
+
+-- access flags, name and descriptor, then attributes
 abbrev pub member_in : Tree Use → List Member
-member_in (both (both flags (both (used name) (both (used descriptor) _))) attributes) =
-    record { at = name.at - 2; name = name.index; descriptor = descriptor.index; method = is_method descriptor.kind } ∷ []
+member_in (both (both flags (both (used name) (both (used descriptor) _))) attributes) = member_by name.kind descriptor.kind name descriptor
 member_in _ = []
 
 -- the members by place: fields before methods

@@ -1,0 +1,12 @@
+pub mod Passes
+pub mod Inverse
+pub mod Again
+pub mod Indices
+pub mod Split
+pub mod Slots
+pub mod Linked
+pub mod Moved
+pub mod Shape
+pub mod Values
+pub mod Bodies
+pub mod Spelled

@@ -1,0 +1,6 @@
+//! The laws of a class that is renamed.
+#![tactic(auto)]
+
+mod laws;
+
+pub use laws::{new_pools, printed_pools};
