@@ -14,7 +14,7 @@ use Rattle.desk_base.specs.declared.targets.Target.{Target}
 use Rattle.desk_base.specs.declared.targets.Target.TheVariants as targets
 use Rattle.desk_base.specs.Names.{Text, is_class_name}
 use Rattle.desk_base.specs.Descriptors.{DescriptorKind, is_descriptor}
-use Rattle.desk_base.specs.Entries.{Entry, utf8, integer, float, long, double, class, string, fieldref, methodref, interface_methodref, name_and_type, method_handle, method_type, dynamic, invoke_dynamic, module_named, package_named, number_of, Pool, text_at, class_name_at, descriptor_at}
+use Rattle.desk_base.specs.Entries.{Entry, class, string, fieldref, methodref, interface_methodref, name_and_type, method_handle, method_type, dynamic, invoke_dynamic, module_named, package_named, number_of, Pool, text_at, class_name_at, descriptor_at}
 
 -- Forms of texts
 

@@ -11,12 +11,11 @@ mod texts;
 mod utf8;
 mod views;
 
-use std::alloc::{AllocError, AllocFailed};
-
 pub use faults::{FaultKind, Malformed, ReadFault};
 pub use kinds::{Role, Tag, UseKind, Used};
 pub use reading::{Cursor, Short};
 pub use shown::{ShownByte, show_byte};
+use std::alloc::{AllocError, AllocFailed};
 pub use targets::{Choice, Form, Target};
 pub use texts::{Text, TextList};
 pub use utf8::check_utf8;
@@ -44,3 +43,6 @@ impl<T: Drop> From<AllocFailed<T>> for Memory {
         Memory
     }
 }
+
+#[cfg(test)]
+mod tests;
