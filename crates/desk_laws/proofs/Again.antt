@@ -17,7 +17,7 @@ use Rattle.desk_format.specs.PoolReading.{Got, got, item, then_read, body, with_
 use Rattle.desk_laws.specs.Sound.{Small, Sound, Shaped, EachLink, Links, WellFormed}
 use Rattle.desk_laws.proofs.Passes.{no_fault, each_map, Passes}
 
-item_is : (n at : ℕ) (bytes behind : List ℕ) → length bytes ≡ n → item n at (bytes ++ behind) ≡ Ok (got bytes (at + n) behind)
+pub item_is : (n at : ℕ) (bytes behind : List ℕ) → length bytes ≡ n → item n at (bytes ++ behind) ≡ Ok (got bytes (at + n) behind)
 item_is n at bytes behind len =
     rw (le-ltb (length (bytes ++ behind)) n (omega (arith, length-append bytes behind)), take_at bytes behind n len, drop_at bytes behind n len) refl
 

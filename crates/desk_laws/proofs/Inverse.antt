@@ -34,7 +34,7 @@ ok_is a b h = cc
 pub ensures_ok : {A : Type 0} (P : A → Type 0) (g : Got A) → Gives P g → Ensures P (Ok g)
 ensures_ok {A = A} P g h = record { runs = λ g' e. subst (λ (x : Got A). Gives P x) (ok_is g g' e) h }
 
-ensures_err : {A : Type 0} (P : A → Type 0) (f : Malformed) → Ensures P (Err f)
+pub ensures_err : {A : Type 0} (P : A → Type 0) (f : Malformed) → Ensures P (Err f)
 ensures_err P f = record { runs = λ g e. absurd cc }
 
 -- bytes of an item
@@ -46,17 +46,17 @@ item_by : (n at : ℕ) (s : List ℕ) → IsBytes s → (short : Bool) → nat_l
 item_by n at s b true p f = ensures_err (Bytes n) f
 item_by n at s b false p f = ensures_ok (Bytes n) _ (record { fact = record { long = length-take-le n s (ltb-false (length s) n p); bytes = IsBytes-take n s b }; left = IsBytes-drop n s b })
 
-item_ensures : (n at : ℕ) (s : List ℕ) → IsBytes s → Ensures (Bytes n) (item n at s)
+pub item_ensures : (n at : ℕ) (s : List ℕ) → IsBytes s → Ensures (Bytes n) (item n at s)
 item_ensures n at s b = item_by n at s b (nat_lt (length s) n) refl _
 
-then_ensures : {A B : Type 0} (P : A → Type 0) (Q : B → Type 0) (r : Result (Got A) Malformed) (next : A → Reader B) → Ensures P r → ((a : A) (at : ℕ) (s : List ℕ) → P a → IsBytes s → Ensures Q (next a at s)) → Ensures Q (then_read r next)
+pub then_ensures : {A B : Type 0} (P : A → Type 0) (Q : B → Type 0) (r : Result (Got A) Malformed) (next : A → Reader B) → Ensures P r → ((a : A) (at : ℕ) (s : List ℕ) → P a → IsBytes s → Ensures Q (next a at s)) → Ensures Q (then_read r next)
 then_ensures P Q (Ok g) next h k = let one : Gives P g = h.runs g refl in k g.value g.at g.left one.fact one.left
 then_ensures P Q (Err f) next h k = ensures_err Q f
 
 two_small : (b : List ℕ) → Bytes 2 b → Small (from_be_bytes w16 b)
 two_small b h = omega (arith, h.bytes 0, h.bytes 1)
 
-index_ensures : (at : ℕ) (s : List ℕ) → IsBytes s → Ensures Small (number_read at s)
+pub index_ensures : (at : ℕ) (s : List ℕ) → IsBytes s → Ensures Small (number_read at s)
 index_ensures at s b = then_ensures (Bytes 2) Small (item 2 at s) _ (item_ensures 2 at s b) (λ bytes at' s' k b'. ensures_ok Small _ (record { fact = two_small bytes k; left = b' }))
 
 -- a text that an entry may be

@@ -10,3 +10,9 @@ pub mod Shape
 pub mod Values
 pub mod Bodies
 pub mod Spelled
+pub mod Stable
+pub mod Second
+pub mod Header
+pub mod Pairs
+pub mod Refused
+pub mod Whole

@@ -25,13 +25,13 @@ pub record Spelled {A : Type 0} (front : List ℕ) (print : A → List ℕ) (at 
 pub record Spells {A : Type 0} (front : List ℕ) (print : A → List ℕ) (at : ℕ) (s : List ℕ) (r : Result (Got A) Malformed) : Type 0 where
   pub runs : (g : Got A) → r ≡ Ok g → Spelled front print at s g
 
-spells_ok : {A : Type 0} (front : List ℕ) (print : A → List ℕ) (at : ℕ) (s : List ℕ) (g : Got A) → Spelled front print at s g → Spells front print at s (Ok g)
+pub spells_ok : {A : Type 0} (front : List ℕ) (print : A → List ℕ) (at : ℕ) (s : List ℕ) (g : Got A) → Spelled front print at s g → Spells front print at s (Ok g)
 spells_ok {A = A} front print at s g h = record { runs = λ g' e. subst (λ (x : Got A). Spelled front print at s x) (ok_is g g' e) h }
 
-spells_err : {A : Type 0} (front : List ℕ) (print : A → List ℕ) (at : ℕ) (s : List ℕ) (f : Malformed) → Spells front print at s (Err f)
+pub spells_err : {A : Type 0} (front : List ℕ) (print : A → List ℕ) (at : ℕ) (s : List ℕ) (f : Malformed) → Spells front print at s (Err f)
 spells_err front print at s f = record { runs = λ g e. absurd cc }
 
-spells_done : {A : Type 0} (front : List ℕ) (print : A → List ℕ) (at : ℕ) (s : List ℕ) (v : A) → IsBytes s → front ≡ print v → Spells front print at s (done v at s)
+pub spells_done : {A : Type 0} (front : List ℕ) (print : A → List ℕ) (at : ℕ) (s : List ℕ) (v : A) → IsBytes s → front ≡ print v → Spells front print at s (done v at s)
 spells_done front print at s v b h = spells_ok front print at s (got v at s) (record { parts = ap (λ (x : List ℕ). x ++ s) h; place = ap (λ (x : List ℕ). at + length x) h; left = b })
 
 -- an item of so many bytes
@@ -57,7 +57,7 @@ item_by front print n at s next b k false p f =
     }
 
 -- an item, and what is read behind it
-spells_item : {B : Type 0} (front : List ℕ) (print : B → List ℕ) (n at : ℕ) (s : List ℕ) (next : List ℕ → Reader B) → IsBytes s
+pub spells_item : {B : Type 0} (front : List ℕ) (print : B → List ℕ) (n at : ℕ) (s : List ℕ) (next : List ℕ → Reader B) → IsBytes s
     → ((b : List ℕ) (at : ℕ) (s : List ℕ) → Item n b → IsBytes s → Spells (front ++ b) print at s (next b at s)) → Spells front print at s (then_read (item n at s) next)
 spells_item front print n at s next b k = item_by front print n at s next b k (nat_lt (length s) n) refl _
 
@@ -66,7 +66,7 @@ then_twice (Ok a) f g = refl
 then_twice (Err e) f g = refl
 
 -- a two-byte number, and what is read behind it
-spells_number : {B : Type 0} (front : List ℕ) (print : B → List ℕ) (at : ℕ) (s : List ℕ) (next : ℕ → Reader B) → IsBytes s
+pub spells_number : {B : Type 0} (front : List ℕ) (print : B → List ℕ) (at : ℕ) (s : List ℕ) (next : ℕ → Reader B) → IsBytes s
     → ((i : ℕ) (at : ℕ) (s : List ℕ) → IsBytes s → Spells (front ++ two i) print at s (next i at s)) → Spells front print at s (then_read (number_read at s) next)
 spells_number front print at s next b k =
     subst (Spells front print at s) (sym (then_twice (item 2 at s) (λ bytes. done (from_be_bytes w16 bytes)) next))

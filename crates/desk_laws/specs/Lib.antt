@@ -1,3 +1,4 @@
 pub mod Sound
 pub mod Pools
 pub mod NewPools
+pub mod Classes

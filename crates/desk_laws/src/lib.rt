@@ -3,4 +3,4 @@
 
 mod laws;
 
-pub use laws::{new_pools, printed_pools};
+pub use laws::{new_pools, printed_classes, printed_pools, renamed_classes, unchanged_classes};
