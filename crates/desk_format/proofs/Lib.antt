@@ -4,3 +4,5 @@ pub mod Exact
 pub mod Patched
 pub mod SampleFaults
 pub mod TagLemmas
+pub mod Walks
+pub mod Nested

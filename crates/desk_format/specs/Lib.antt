@@ -21,3 +21,4 @@ pub mod Samples
 pub mod Servlet
 pub mod Tags
 pub mod Renames
+pub mod Walk
