@@ -1,6 +1,8 @@
 -- The laws of a body that is read, and of one that is renamed.
 use Rattle.std.specs.Prelude.{◌≡◌, ℕ, ◌+◌, ◌<◌, ◌≤◌, List, ◌++◌, length, get_or, Ok}
 use Rattle.desk_base.specs.Entries.{Pool}
+use Rattle.desk_format.specs.declared.attributes.Place.TheVariants.{OfCode, OfComponent}
+use Rattle.desk_format.specs.Attributes.{inner_attributes, attributes_of}
 use Rattle.desk_format.specs.Trees.{Use, Each, Placed, print, uses}
 use Rattle.desk_format.specs.Layouts.{Layout}
 use Rattle.desk_format.specs.Reading.{Got, read}
@@ -34,3 +36,8 @@ pub record IsRenamedBody (im : Images) (old new : Pool) (g : Change) (l : Layout
 abbrev pub RenamedBodies : Type 0
 RenamedBodies = (im : Images) (old new : Pool) (g : Change) (l : Layout) (at : ℕ) (s : List ℕ) (got : Got)
     → IsBytes s → read old l at s ≡ Ok got → g.from ≤ at → Each (Renames im old new g) got.tree → IsRenamedBody im old new g l at s got
+
+-- The attributes in a Code and in a component are read by the same table as all others.
+pub record NestedAttributes : Type 0 where
+  pub in_code : inner_attributes OfCode ≡ attributes_of OfCode
+  pub in_component : inner_attributes OfComponent ≡ attributes_of OfComponent

@@ -10,5 +10,5 @@ pub mod servlet;
 pub mod tags;
 
 pub use attributes::{Attribute, Place, Slot};
-pub use laws::{printed_bodies, renamed_bodies};
+pub use laws::{nested_attributes, printed_bodies, renamed_bodies};
 pub use members::Member;
