@@ -1,9 +1,7 @@
 -- The attributes in a Code or in a component are those of that place in the table.
-use Rattle.std.proofs.Common.{◌≡◌, ℕ, Option, Some, None, List, refl, ap}
-use Rattle.desk_base.specs.Names.{Text}
+use Rattle.std.proofs.Common.{◌≡◌, ℕ, Option, Some, None, refl, ap}
 use Rattle.desk_format.specs.declared.attributes.Attribute.{Attribute}
 use Rattle.desk_format.specs.declared.attributes.Attribute.TheVariants as attributes
-use Rattle.desk_format.specs.declared.attributes.Place.{Place}
 use Rattle.desk_format.specs.declared.attributes.Place.TheVariants.{OfCode, OfComponent}
 use Rattle.desk_format.specs.Layouts.{Layout}
 use Rattle.desk_format.specs.Attributes.{row_of, no_attributes, attribute_named, body_by, inner_attributes, body_at, attributes_of}

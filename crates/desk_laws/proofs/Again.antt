@@ -1,6 +1,6 @@
 -- Printed entries are read again.
-use Rattle.std.proofs.Common.{◌≡◌, ℕ, zero, suc, ◌+◌, ◌-◌, ◌<◌, ◌≤◌, ◌^◌, Bool, true, false, not, cond, List, [], ◌∷◌, ◌++◌, length, take, drop, Option, Some, None, Result, Ok, Err, refl, sym, ap, ap₂, ◌∙◌, append_assoc, append-nil, arith, length-append, nat_lt, nat_eq, ◌||◌}
-use Rattle.std.specs.Int.{w8, w16, to_be_bytes, from_be_bytes}
+use Rattle.std.proofs.Common.{◌≡◌, ℕ, suc, ◌+◌, ◌≤◌, Bool, true, false, not, List, [], ◌∷◌, ◌++◌, length, Some, None, Result, Ok, refl, ap, ◌∙◌, append_assoc, arith, length-append, nat_lt, nat_eq}
+use Rattle.std.specs.Int.{w8, from_be_bytes}
 use Rattle.std.proofs.lemmas.List.{take_at, drop_at}
 use Rattle.std.proofs.lemmas.Bool.{le-ltb}
 use Rattle.std.proofs.lemmas.Bool.Decides.{nat_tests}
@@ -10,11 +10,11 @@ use Rattle.desk_base.specs.declared.kinds.Tag.TheVariants as tags
 use Rattle.desk_base.specs.declared.faults.Malformed.{Malformed}
 use Rattle.desk_base.specs.Utf8.{bad_form}
 use Rattle.desk_base.specs.Entries.{Entry, utf8, integer, float, long, double, class, string, fieldref, methodref, interface_methodref, name_and_type, method_handle, method_type, dynamic, invoke_dynamic, module_named, package_named, is_wide, tag_of, number_of}
-use Rattle.desk_format.specs.PoolBytes.{two, print_body, print_entry, size}
+use Rattle.desk_format.specs.PoolBytes.{two, print_body, print_entry}
 use Rattle.desk_base.specs.Entries.{Pool}
 use Rattle.desk_format.specs.PoolBytes.{print_slots, print_pool}
-use Rattle.desk_format.specs.PoolReading.{Got, got, item, then_read, body, with_bytes, with_index, with_two, text_read, kind_read, done, tag_numbered, has_room, entry_read, read_slots, names_wrong, leads_wrong, first_fault, read_pool}
-use Rattle.desk_laws.specs.Sound.{Small, Sound, Shaped, EachLink, Links, WellFormed}
+use Rattle.desk_format.specs.PoolReading.{Got, got, item, then_read, body, with_bytes, with_index, with_two, text_read, kind_read, done, tag_numbered, has_room, entry_read, read_slots, names_wrong, leads_wrong, read_pool}
+use Rattle.desk_laws.specs.Sound.{Small, Sound, Shaped, Links, WellFormed}
 use Rattle.desk_laws.proofs.Passes.{no_fault, each_map, Passes}
 
 pub item_is : (n at : ℕ) (bytes behind : List ℕ) → length bytes ≡ n → item n at (bytes ++ behind) ≡ Ok (got bytes (at + n) behind)

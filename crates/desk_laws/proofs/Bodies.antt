@@ -1,44 +1,39 @@
 -- A new pool is well-formed, and the uses of the body lead into it.
-use Rattle.std.proofs.Common.{◌≡◌, ℕ, zero, suc, ◌+◌, ◌<◌, ◌≤◌, ◌^◌, Bool, true, false, cond, ◌&&◌, List, [], ◌∷◌, ◌++◌, map, length, get_or, Option, Some, None, option_map, nat_eq, refl, ap, sym, subst, ◌∙◌, arith, inl, inr}
+use Rattle.std.proofs.Common.{◌≡◌, ℕ, zero, suc, ◌+◌, Bool, true, false, cond, ◌&&◌, List, [], ◌∷◌, ◌++◌, length, Option, Some, None, nat_eq, refl, ap, sym, subst, ◌∙◌, arith, inl}
 use Rattle.std.specs.List.{AllByRecursion}
 use Rattle.std.proofs.lemmas.Bool.Decides.{nat_tests}
 use Rattle.desk_base.specs.declared.kinds.Role.{Role}
 use Rattle.desk_base.specs.declared.kinds.Role.TheVariants as roles
-use Rattle.desk_base.specs.declared.kinds.Tag.{Tag}
-use Rattle.desk_base.specs.declared.kinds.Tag.TheVariants as tags
 use Rattle.desk_base.specs.declared.kinds.Used.{Used}
 use Rattle.desk_base.specs.declared.kinds.UseKind.{UseKind}
 use Rattle.desk_base.specs.declared.kinds.UseKind.TheVariants as kinds
-use Rattle.desk_base.specs.declared.faults.FaultKind.{FaultKind}
 use Rattle.desk_base.specs.Utf8.{bad_form}
 use Rattle.desk_base.specs.declared.targets.Form.TheVariants as forms
-use Rattle.desk_base.specs.Targets.{goes_with}
 use Rattle.desk_base.specs.Entries.{Entry, utf8, is_wide, tag_of}
 use Rattle.desk_format.specs.PoolBytes.{size}
 use Rattle.desk_base.specs.Entries.{Pool, entry_at, tag_at, text_at, text_in}
 use Rattle.desk_base.specs.declared.targets.Target.{Target}
 use Rattle.desk_base.specs.declared.targets.Target.TheVariants as targets
-use Rattle.desk_base.specs.declared.targets.Choice.TheVariants as choices
-use Rattle.desk_base.specs.Targets.{form_of, fits, Link, links, target_of, may_be_none}
+use Rattle.desk_base.specs.Targets.{fits, Link, links, target_of, may_be_none}
 use Rattle.desk_base.specs.Misfits.{wrong_entry, wrong_text, or_else, misfit}
 use Rattle.desk_format.specs.PoolBytes.{uses_among, pool_uses}
 use Rattle.desk_laws.proofs.Indices.{uses_as, reindexed, indices, text_uses, uses-indices, each_index, all_indices, by_choice, new_index-is}
 use Rattle.desk_format.specs.Trees.{Tree, Use, Each, uses, uses_of, text_use, text_in_role}
 use Rattle.desk_laws.specs.Sound.{Small, Sound, Shaped, EachLink, Links, WellFormed}
-use Rattle.desk_format.specs.Values.{Value, value_as, value_of_kind}
-use Rattle.desk_format.specs.Values.{none, text_as}
+use Rattle.desk_format.specs.Values.{value_as, value_of_kind}
+use Rattle.desk_format.specs.Values.{text_as}
 use Rattle.desk_laws.proofs.Passes.{Neither, neither, or_else-none, each_map, each_both}
 use Rattle.desk_format.specs.Reading.{name_under}
-use Rattle.desk_format.specs.Exchange.{Fits, Suits, exchanged, new_index}
-use Rattle.desk_format.specs.Resolved.{Images, image, renamed_value}
+use Rattle.desk_format.specs.Exchange.{Fits, new_index}
+use Rattle.desk_format.specs.Resolved.{Images, renamed_value}
 use Rattle.desk_format.specs.Laws.{Renames}
-use Rattle.desk_format.specs.Split.{Want, kept, entry_of}
-use Rattle.desk_format.specs.NewPool.{wish, wants, choice, new_pool, new_texts, added, change_by}
-use Rattle.desk_laws.specs.NewPools.{KeepsForms, Accepted, IsNewPool, IsRenamedPool, NewPools, all_uses}
-use Rattle.desk_laws.proofs.Slots.{in_range, same_tag, length-new, appended_is}
-use Rattle.desk_laws.proofs.Linked.{HasUse, has_left, has_right, IsUsed, LinkUsed, Within, pool_used, Led, led}
-use Rattle.desk_laws.proofs.Moved.{role_of, Goes, Other, Kept, LinkKept, table, any_text, as_text, is_utf8, names_fitting, Fitting, led_text, moved, leads_to}
-use Rattle.desk_laws.proofs.Shape.{Holdable, WantHoldable, missing_holdable, NewSmall, LinkSmall, shaped_new, linked_new}
+use Rattle.desk_format.specs.Split.{Want, kept}
+use Rattle.desk_format.specs.NewPool.{wants, choice, new_pool, added, change_by}
+use Rattle.desk_laws.specs.NewPools.{KeepsForms, Accepted, NewPools, all_uses}
+use Rattle.desk_laws.proofs.Slots.{same_tag, length-new, appended_is}
+use Rattle.desk_laws.proofs.Linked.{HasUse, has_left, has_right, IsUsed, LinkUsed, Within, pool_used, Led}
+use Rattle.desk_laws.proofs.Moved.{Other, Kept, LinkKept, table, any_text, as_text, is_utf8, names_fitting, Fitting, led_text, moved, leads_to}
+use Rattle.desk_laws.proofs.Shape.{WantHoldable, missing_holdable, NewSmall, LinkSmall, shaped_new, linked_new}
 use Rattle.desk_laws.proofs.Values.{values, follows}
 
 -- ---- each use of a text names one

@@ -1,5 +1,5 @@
 -- The indices of a body as a list, and the uses of texts among them.
-use Rattle.std.proofs.Common.{◌≡◌, ℕ, Bool, true, false, cond, ◌&&◌, List, [], ◌∷◌, ◌++◌, Option, Some, None, nat_eq, refl, ap, ap₂, sym, ◌∙◌, append_assoc, append-nil}
+use Rattle.std.proofs.Common.{◌≡◌, ℕ, Bool, true, false, cond, ◌&&◌, List, [], ◌∷◌, ◌++◌, Option, None, nat_eq, refl, ap, ap₂, sym, ◌∙◌, append_assoc, append-nil}
 use Rattle.std.specs.List.{AllByRecursion}
 use Rattle.desk_base.specs.declared.kinds.Used.{Used}
 use Rattle.desk_base.specs.declared.targets.Target.{Target}
@@ -7,7 +7,7 @@ use Rattle.desk_base.specs.declared.targets.Target.TheVariants as targets
 use Rattle.desk_base.specs.Targets.{target_of, may_be_none}
 use Rattle.desk_format.specs.Trees.{Tree, Use, Each, text_in_role, text_use, uses_of, uses}
 use Rattle.desk_format.specs.Exchange.{index_or, new_index}
-use Rattle.desk_format.specs.NewPool.{Choice, change_by}
+use Rattle.desk_format.specs.NewPool.{Choice}
 
 -- an index that must name a text, as a list of uses
 abbrev pub uses_as : Target → ℕ → ℕ → List Used

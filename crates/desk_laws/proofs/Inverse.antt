@@ -1,9 +1,8 @@
 -- What was read is sound.
-use Rattle.std.proofs.Common.{◌≡◌, ℕ, zero, suc, ◌+◌, ◌-◌, ◌<◌, ◌≤◌, ◌^◌, Bool, true, false, cond, ◌&&◌, ◌||◌, List, [], ◌∷◌, ◌++◌, length, take, drop, Option, Some, None, Result, Ok, Err, refl, sym, ap, subst, ◌∙◌, arith, length-take-le, nat_lt, nat_eq, get_or, inl, inr}
+use Rattle.std.proofs.Common.{◌≡◌, ℕ, zero, suc, ◌+◌, ◌≤◌, Bool, true, false, cond, ◌||◌, List, ◌∷◌, length, take, drop, Option, Some, None, Result, Ok, Err, refl, sym, ap, subst, arith, length-take-le, nat_lt, nat_eq}
 use Rattle.std.specs.Int.{w8, w16, from_be_bytes}
-use Rattle.std.proofs.lemmas.Bool.{ltb-false, cases_lt}
+use Rattle.std.proofs.lemmas.Bool.{ltb-false}
 use Rattle.std.proofs.lemmas.Bool.Decides.{nat_tests}
-use Rattle.std.proofs.lemmas.List.{get_or-drop, get_or-take, get_or_past, length-take}
 use Rattle.desk_base.specs.declared.kinds.Tag.{Tag}
 use Rattle.desk_base.specs.declared.kinds.Tag.TheVariants as tags
 use Rattle.desk_base.specs.declared.faults.Malformed.{Malformed}

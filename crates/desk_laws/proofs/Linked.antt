@@ -1,21 +1,19 @@
 -- The uses of a text that a class has, and what the choice leads them to.
-use Rattle.std.proofs.Common.{◌≡◌, ℕ, zero, suc, ◌+◌, ◌<◌, ◌≤◌, ◌⊎◌, List, [], ◌∷◌, ◌++◌, map, length, get_or, Option, Some, None, refl, ap, sym, subst, ◌∙◌, inl, inr, arith}
+use Rattle.std.proofs.Common.{◌≡◌, ℕ, zero, suc, ◌+◌, ◌≤◌, ◌⊎◌, List, [], ◌∷◌, ◌++◌, length, Some, None, refl, ap, subst, ◌∙◌, inl, inr, arith}
 use Rattle.std.specs.List.{AllByRecursion}
 use Rattle.desk_base.specs.declared.kinds.Role.{Role}
 use Rattle.desk_base.specs.declared.kinds.Used.{Used}
 use Rattle.desk_base.specs.Entries.{Entry, utf8}
 use Rattle.desk_format.specs.PoolBytes.{size}
-use Rattle.desk_base.specs.Entries.{Pool, entry_at, text_at, text_in}
+use Rattle.desk_base.specs.Entries.{Pool, entry_at, text_at}
 use Rattle.desk_base.specs.declared.targets.Target.{Target}
 use Rattle.desk_base.specs.declared.targets.Target.TheVariants as targets
-use Rattle.desk_base.specs.declared.targets.Choice.TheVariants as choices
 use Rattle.desk_base.specs.Targets.{Link, links}
 use Rattle.desk_format.specs.PoolBytes.{uses_among, pool_uses}
 use Rattle.desk_laws.proofs.Indices.{uses_as}
-use Rattle.desk_laws.specs.Sound.{Small, EachLink}
+use Rattle.desk_laws.specs.Sound.{EachLink}
 use Rattle.desk_format.specs.Resolved.{Images, image}
-use Rattle.desk_format.specs.Split.{Want}
-use Rattle.desk_format.specs.NewPool.{Choice, wish, wants, new_texts, choice, new_pool, added}
+use Rattle.desk_format.specs.NewPool.{wish, wants, new_texts, choice, new_pool, added}
 use Rattle.desk_laws.proofs.Split.{IsWant, Leads, chosen_leads}
 use Rattle.desk_laws.proofs.Slots.{in_range, text_stays, text_kept, length-texts}
 

@@ -1,5 +1,5 @@
 -- An index that fits the old pool fits the new one, with its text renamed.
-use Rattle.std.proofs.Common.{◌≡◌, ℕ, zero, suc, ◌+◌, ◌<◌, ◌≤◌, Bool, true, false, cond, ◌||◌, List, [], ◌∷◌, ◌++◌, map, length, Option, Some, None, option_map, nat_lt, nat_eq, refl, ap, sym, subst, ◌∙◌, arith}
+use Rattle.std.proofs.Common.{◌≡◌, ℕ, Bool, true, false, cond, ◌||◌, List, Option, Some, None, option_map, nat_lt, nat_eq, refl, ap, sym, ◌∙◌}
 use Rattle.std.specs.List.{AllByRecursion}
 use Rattle.desk_base.specs.declared.kinds.Role.{Role}
 use Rattle.desk_base.specs.declared.kinds.Role.TheVariants as roles
@@ -13,7 +13,7 @@ use Rattle.desk_base.specs.declared.targets.Form.TheVariants as forms
 use Rattle.desk_base.specs.Targets.{has_form, goes_with}
 use Rattle.desk_base.specs.Misfits.{form_fault}
 use Rattle.desk_base.specs.Entries.{Entry, utf8, class, string, fieldref, methodref, interface_methodref, name_and_type, method_handle, method_type, dynamic, invoke_dynamic, module_named, package_named, tag_of}
-use Rattle.desk_base.specs.Entries.{Pool, entry_at, tag_at, text_at, text_in, class_name_in, class_name_at, descriptor_in, descriptor_at}
+use Rattle.desk_base.specs.Entries.{Pool, entry_at, tag_at, text_at, text_in, class_name_in, descriptor_in}
 use Rattle.desk_base.specs.declared.targets.Target.{Target}
 use Rattle.desk_base.specs.declared.targets.Target.TheVariants as targets
 use Rattle.desk_base.specs.declared.targets.Choice.TheVariants as choices
@@ -21,7 +21,7 @@ use Rattle.desk_base.specs.Targets.{form_of, text_led_to, allows, fits, Link, li
 use Rattle.desk_base.specs.Misfits.{wrong_entry, wrong_text}
 use Rattle.desk_laws.specs.Sound.{EachLink, Links}
 use Rattle.desk_format.specs.Resolved.{Images, image}
-use Rattle.desk_format.specs.NewPool.{Choice, wants, choice, new_pool}
+use Rattle.desk_format.specs.NewPool.{choice, new_pool}
 use Rattle.desk_laws.proofs.Indices.{reindexed}
 use Rattle.desk_laws.specs.NewPools.{KeepsForms}
 use Rattle.desk_laws.proofs.Slots.{in_range, entry_is, same_tag}

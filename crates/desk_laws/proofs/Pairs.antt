@@ -1,5 +1,5 @@
 -- Members before and after, and twins among them.
-use Rattle.std.proofs.Common.{◌≡◌, ℕ, ◌-◌, Bool, true, false, cond, ◌&&◌, List, [], ◌∷◌, ◌++◌, Option, Some, None, find, bytes_eq, refl, sym, ap, ap₂, subst, ◌∙◌}
+use Rattle.std.proofs.Common.{◌≡◌, Bool, true, false, cond, List, [], ◌∷◌, ◌++◌, Option, Some, None, find, refl, ap, ap₂, subst, ◌∙◌}
 use Rattle.desk_base.specs.Names.{Text}
 use Rattle.desk_base.specs.declared.kinds.Role.TheVariants as roles
 use Rattle.desk_base.specs.declared.kinds.UseKind.{UseKind}
@@ -8,10 +8,9 @@ use Rattle.desk_base.specs.Entries.{Pool, text_at}
 use Rattle.desk_format.specs.declared.members.Member.{Member}
 use Rattle.desk_format.specs.Trees.{Tree, Use, Each}
 use Rattle.desk_format.specs.Exchange.{Change, exchanged, exchange, new_index}
-use Rattle.desk_format.specs.Values.{Value, value_of_kind}
-use Rattle.desk_format.specs.Resolved.{Images, image, value, renamed_value}
-use Rattle.desk_format.specs.Laws.{Renames}
-use Rattle.desk_format.specs.Members.{Named, Twins, named_in, are_twins, same_kind, twins_or, twins_behind, first_twins, member_of, member_by, member_in, members}
+use Rattle.desk_format.specs.Values.{value_of_kind}
+use Rattle.desk_format.specs.Resolved.{Images, value, renamed_value}
+use Rattle.desk_format.specs.Members.{Named, Twins, named_in, are_twins, twins_or, twins_behind, first_twins, member_of, member_by, member_in, members}
 use Rattle.desk_format.specs.NewClass.{renamed_in}
 use Rattle.desk_laws.specs.Classes.{Settled}
 

@@ -1,9 +1,7 @@
 -- A pass finds no fault exactly where each index passes.
-use Rattle.std.proofs.Common.{◌≡◌, ℕ, ◌+◌, List, [], ◌∷◌, Option, Some, None, refl, ap, ◌∙◌}
+use Rattle.std.proofs.Common.{◌≡◌, ℕ, ◌+◌, List, [], ◌∷◌, Option, Some, None, refl, ap}
 use Rattle.std.specs.List.{AllByRecursion}
 use Rattle.desk_base.specs.declared.faults.FaultKind.{FaultKind}
-use Rattle.desk_base.specs.declared.faults.Malformed.{Malformed}
-use Rattle.desk_base.specs.Entries.{Entry}
 use Rattle.desk_format.specs.PoolBytes.{size}
 use Rattle.desk_base.specs.Entries.{Pool}
 use Rattle.desk_base.specs.Targets.{Link, links}

@@ -1,15 +1,15 @@
 -- Where no refusal stands, no wanted text is too long and the pool has room; and back.
-use Rattle.std.proofs.Common.{◌≡◌, ℕ, zero, suc, ◌+◌, ◌<◌, ◌≤◌, ◌^◌, Bool, true, false, cond, ◌||◌, List, [], ◌∷◌, ◌++◌, length, Option, Some, None, nat_eq, nat_lt, refl, sym, ap, subst, ◌∙◌, arith, inl, inr}
+use Rattle.std.proofs.Common.{◌≡◌, ℕ, zero, suc, ◌+◌, ◌<◌, ◌≤◌, Bool, true, false, cond, ◌||◌, List, [], ◌∷◌, length, Option, Some, None, nat_eq, nat_lt, refl, sym, ap, ◌∙◌, arith, inl, inr}
 use Rattle.std.specs.List.{AllByRecursion}
 use Rattle.std.proofs.lemmas.Bool.{ltb-false, le-ltb}
 use Rattle.std.proofs.lemmas.Bool.Decides.{nat_tests}
 use Rattle.desk_base.specs.Names.{Text}
 use Rattle.desk_base.specs.declared.kinds.Used.{Used}
-use Rattle.desk_base.specs.Entries.{Pool, entry_at, text_at, utf8}
+use Rattle.desk_base.specs.Entries.{Pool, entry_at, utf8}
 use Rattle.desk_format.specs.Resolved.{Images}
 use Rattle.desk_format.specs.Split.{Want, wanted}
 use Rattle.desk_format.specs.NewPool.{wants, wish}
-use Rattle.desk_format.specs.NewClass.{Refusal, is_long, any_long, greatest_length, overlong_from, full_at}
+use Rattle.desk_format.specs.NewClass.{Refusal, is_long, any_long, overlong_from, full_at}
 use Rattle.desk_laws.specs.Sound.{Small}
 use Rattle.desk_laws.proofs.Split.{IsWant}
 use Rattle.desk_laws.proofs.Slots.{in_range}

@@ -1,40 +1,32 @@
 -- A second rewriting changes nothing.
-use Rattle.std.proofs.Common.{◌≡◌, ℕ, zero, suc, ◌+◌, ◌<◌, ◌≤◌, ◌^◌, Bool, true, false, cond, ◌&&◌, List, [], ◌∷◌, ◌++◌, map, length, Option, Some, None, option_map, nat_eq, Ok, refl, ap, ap₂, sym, subst, ◌∙◌, arith, inl, inr}
+use Rattle.std.proofs.Common.{◌≡◌, ℕ, suc, ◌+◌, ◌≤◌, Bool, true, false, cond, ◌&&◌, List, [], ◌∷◌, ◌++◌, length, Some, None, nat_eq, refl, ap, ap₂, sym, subst, ◌∙◌, arith, inl}
 use Rattle.std.specs.List.{AllByRecursion}
 use Rattle.desk_base.specs.declared.kinds.Role.{Role}
-use Rattle.desk_base.specs.declared.kinds.Tag.TheVariants as tags
 use Rattle.desk_base.specs.declared.kinds.Used.{Used}
-use Rattle.desk_base.specs.Entries.{Entry, utf8}
+use Rattle.desk_base.specs.Entries.{utf8}
 use Rattle.desk_format.specs.PoolBytes.{size}
 use Rattle.desk_base.specs.Entries.{Pool, entry_at, tag_at, text_at, text_in}
 use Rattle.desk_base.specs.declared.targets.Target.{Target}
 use Rattle.desk_base.specs.declared.targets.Target.TheVariants as targets
-use Rattle.desk_base.specs.declared.targets.Choice.TheVariants as choices
 use Rattle.desk_base.specs.Targets.{fits, target_of, may_be_none, Link, links}
 use Rattle.desk_format.specs.PoolBytes.{uses_among, pool_uses}
-use Rattle.desk_laws.proofs.Indices.{uses_as, reindexed, indices, text_uses, uses-indices, each_index, all_indices, by_choice, new_index-is}
+use Rattle.desk_laws.proofs.Indices.{uses_as, reindexed, indices, text_uses, each_index, all_indices, by_choice, new_index-is}
 use Rattle.desk_laws.specs.Sound.{Small, Shaped, EachLink, Links, WellFormed}
 use Rattle.desk_base.specs.Utf8.{bad_form}
 use Rattle.desk_format.specs.Values.{Value, none, text_as, value_as, value_of_kind}
-use Rattle.desk_laws.proofs.Passes.{each_map, each_both}
-use Rattle.desk_laws.proofs.Inverse.{Gives, pool_ensures}
-use Rattle.desk_format.specs.Trees.{Tree, Use, map_tree, Each, print, uses, uses_of, text_use, text_in_role, Placed}
-use Rattle.desk_format.specs.Exchange.{Change, moved, Fits, exchanged, exchange, patch, new_index}
+use Rattle.desk_format.specs.Trees.{Tree, Use, map_tree, Each, print, uses_of, text_use, text_in_role, Placed}
+use Rattle.desk_format.specs.Exchange.{Change, moved, Fits, exchanged, exchange, new_index}
 use Rattle.desk_format.specs.Resolved.{Images, image, renamed_value}
-use Rattle.desk_format.specs.Reading.{Got, read}
-use Rattle.desk_format.specs.Laws.{IsBytes, Renames}
-use Rattle.std.proofs.lemmas.List.{map-append}
+use Rattle.desk_format.specs.Laws.{Renames}
 use Rattle.desk_format.proofs.Follows.{length-print}
-use Rattle.desk_format.proofs.Exact.{Taken, exact}
-use Rattle.desk_format.proofs.Patched.{patch_tree, Each-map}
 use Rattle.desk_format.specs.Split.{Want}
-use Rattle.desk_format.specs.NewPool.{Choice, wish, wants, choice, new_pool, added, change_by}
-use Rattle.desk_laws.specs.NewPools.{KeepsForms, Accepted, IsNewPool, IsRenamedPool, all_uses}
+use Rattle.desk_format.specs.NewPool.{wants, choice, new_pool, added, change_by}
+use Rattle.desk_laws.specs.NewPools.{KeepsForms, Accepted, IsRenamedPool, all_uses}
 use Rattle.desk_laws.specs.Classes.{Settled, SelfImage}
-use Rattle.desk_laws.proofs.Linked.{HasUse, has_left, has_right, IsUsed, LinkUsed, Within, pool_used}
+use Rattle.desk_laws.proofs.Linked.{has_right, IsUsed, LinkUsed, Within}
 use Rattle.desk_laws.proofs.Moved.{is_utf8, names_fitting, leads_to}
 use Rattle.desk_laws.proofs.Stable.{Own, Stays, added_none, target_stays, pool_same}
-use Rattle.desk_laws.proofs.Bodies.{NamesText, all_append, sound_at, OldLink, each_new, new_pools, pool_within, body_within, uses_are, all_named}
+use Rattle.desk_laws.proofs.Bodies.{NamesText, all_append, sound_at, each_new, new_pools, pool_within, body_within, uses_are, all_named}
 
 abbrev pub OnText : Images → Pool → Target → ℕ → Type 0
 OnText im pool (targets.Text role form) i = image im role (text_at pool i) ≡ text_at pool i

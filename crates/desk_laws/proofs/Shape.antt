@@ -1,16 +1,13 @@
 -- The new pool is well-formed.
-use Rattle.std.proofs.Common.{◌≡◌, ℕ, zero, suc, ◌+◌, ◌<◌, ◌≤◌, ◌^◌, Bool, true, false, cond, ◌||◌, List, [], ◌∷◌, ◌++◌, map, length, Option, Some, None, option_map, nat_eq, bytes_eq, refl, ap, sym, subst, ◌∙◌, arith}
+use Rattle.std.proofs.Common.{◌≡◌, ℕ, suc, Bool, true, false, cond, List, [], ◌∷◌, ◌++◌, map, length, Some, None, option_map, nat_eq, bytes_eq, refl, sym, subst}
 use Rattle.std.specs.List.{AllByRecursion}
 use Rattle.std.specs.Ordering.{nat_cmp, is_lt}
 use Rattle.std.specs.Cmp.Lexicographic.{slice_cmp}
-use Rattle.desk_base.specs.declared.kinds.Role.{Role}
-use Rattle.desk_base.specs.declared.kinds.Used.{Used}
 use Rattle.desk_base.specs.Utf8.{bad_form}
-use Rattle.desk_base.specs.Entries.{Entry, utf8, integer, float, long, double, class, string, fieldref, methodref, interface_methodref, name_and_type, method_handle, method_type, dynamic, invoke_dynamic, module_named, package_named, tag_of, is_wide}
-use Rattle.desk_base.specs.Entries.{Pool, entry_at, text_at}
+use Rattle.desk_base.specs.Entries.{Entry, utf8, class, string, fieldref, methodref, interface_methodref, name_and_type, method_handle, method_type, dynamic, invoke_dynamic, module_named, package_named, tag_of, is_wide}
+use Rattle.desk_base.specs.Entries.{Pool}
 use Rattle.desk_base.specs.declared.targets.Target.{Target}
 use Rattle.desk_base.specs.declared.targets.Target.TheVariants as targets
-use Rattle.desk_base.specs.declared.targets.Choice.TheVariants as choices
 use Rattle.desk_base.specs.Targets.{Link, link, links, handled}
 use Rattle.desk_laws.specs.Sound.{Small, Sound, Shaped, EachLink}
 use Rattle.desk_format.specs.Split.{Want, wanted, holds, keep, kept_entry, kept, has_text, add, missing, entry_of}

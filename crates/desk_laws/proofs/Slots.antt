@@ -1,13 +1,10 @@
 -- The slots of a new pool, index by index.
-use Rattle.std.proofs.Common.{◌≡◌, ℕ, zero, suc, ◌+◌, ◌-◌, ◌<◌, ◌≤◌, Bool, true, false, cond, List, [], ◌∷◌, ◌++◌, map, length, drop, get_or, Option, Some, None, option_map, refl, ap, sym, subst, ◌∙◌, arith, length-append}
-use Rattle.std.specs.List.{AllByRecursion}
+use Rattle.std.proofs.Common.{◌≡◌, ℕ, zero, suc, ◌+◌, ◌<◌, ◌≤◌, List, [], ◌∷◌, map, length, drop, get_or, Option, Some, None, option_map, refl, ap, ◌∙◌, arith, length-append}
 use Rattle.std.proofs.lemmas.List.{get_or_append_left, drop_at, map-append, length-map}
 use Rattle.desk_base.specs.declared.kinds.Tag.{Tag}
 use Rattle.desk_base.specs.declared.kinds.Used.{Used}
-use Rattle.desk_base.specs.Entries.{Entry, utf8, class, string, name_and_type, method_type, module_named, package_named, tag_of}
-use Rattle.desk_base.specs.Entries.{Pool, entry_at, tag_at, text_in, text_at}
-use Rattle.desk_base.specs.Targets.{Link, links}
-use Rattle.desk_laws.specs.Sound.{EachLink}
+use Rattle.desk_base.specs.Entries.{Entry, utf8, class, tag_of}
+use Rattle.desk_base.specs.Entries.{Pool, entry_at, tag_at, text_in}
 use Rattle.desk_format.specs.Resolved.{Images}
 use Rattle.desk_format.specs.Split.{Want, kept_entry, kept, missing_texts, entry_of, split}
 use Rattle.desk_format.specs.NewPool.{Choice, wants, with_texts, new_texts, choice, new_pool, added}

@@ -1,5 +1,5 @@
 -- What is read of a pool prints to the bytes that were read.
-use Rattle.std.proofs.Common.{◌≡◌, ℕ, zero, suc, ◌+◌, ◌-◌, ◌<◌, ◌≤◌, ◌^◌, Bool, true, false, cond, ◌&&◌, ◌||◌, List, [], ◌∷◌, ◌++◌, length, take, drop, Option, Some, None, Result, Ok, Err, refl, sym, ap, subst, ◌∙◌, append_assoc, append-nil, arith, length-append, length-take-le, nat_lt, nat_eq, get_or, inl, inr}
+use Rattle.std.proofs.Common.{◌≡◌, ℕ, zero, suc, ◌+◌, ◌<◌, Bool, true, false, cond, ◌&&◌, ◌||◌, List, [], ◌∷◌, ◌++◌, length, take, drop, Option, Some, None, Result, Ok, Err, refl, sym, ap, subst, ◌∙◌, append_assoc, append-nil, arith, length-append, length-take-le, nat_lt, nat_eq, inl, inr}
 use Rattle.std.specs.Int.{w8, w16, from_be_bytes}
 use Rattle.std.proofs.lemmas.Bool.{ltb-false, cases_lt, eqb-true}
 use Rattle.std.proofs.lemmas.List.{take-append-drop}
@@ -10,11 +10,11 @@ use Rattle.desk_base.specs.declared.faults.Malformed.{Malformed}
 use Rattle.desk_base.specs.Utf8.{bad_form}
 use Rattle.desk_base.specs.Entries.{Pool, Entry, utf8, integer, float, long, double, class, string, fieldref, methodref, interface_methodref, name_and_type, method_handle, method_type, dynamic, invoke_dynamic, module_named, package_named, is_wide, tag_of, number_of}
 use Rattle.desk_base.specs.Misfits.{or_else}
-use Rattle.desk_format.specs.PoolBytes.{two, print_body, print_entry, print_slots, print_pool}
+use Rattle.desk_format.specs.PoolBytes.{two, print_entry, print_slots, print_pool}
 use Rattle.desk_format.specs.PoolReading.{Got, got, Reader, item, then_read, done, body, with_bytes, with_index, with_two, number_read, well_formed_text, text_read, kind_read, tag_numbered, has_room, more, goes_on, entry_tagged, entry_read, read_slots, unless, checked, counted, read_pool, first_fault, names_wrong, leads_wrong}
 use Rattle.desk_format.specs.Laws.{IsBytes}
 use Rattle.desk_format.proofs.Exact.{IsBytes-drop, IsBytes-take}
-use Rattle.desk_laws.proofs.Inverse.{ok_is, ensures_ok, Slots, Awaits, awaits, slots_ensure}
+use Rattle.desk_laws.proofs.Inverse.{ok_is, Awaits, slots_ensure}
 
 -- What was read since some bytes in front is printed, and bytes are left.
 pub record Spelled {A : Type 0} (front : List ℕ) (print : A → List ℕ) (at : ℕ) (s : List ℕ) (g : Got A) : Type 0 where

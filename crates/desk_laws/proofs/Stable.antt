@@ -1,21 +1,18 @@
 -- A pool whose used texts are their own images stays as it is.
-use Rattle.std.proofs.Common.{◌≡◌, ℕ, zero, suc, ◌+◌, ◌<◌, ◌≤◌, Bool, true, false, cond, ◌||◌, List, [], ◌∷◌, ◌++◌, map, length, get_or, Option, Some, None, option_map, nat_eq, bytes_eq, refl, ap, ap₂, sym, subst, ◌∙◌, append-nil, arith, eqb-true, inl, inr}
+use Rattle.std.proofs.Common.{◌≡◌, ℕ, zero, suc, Bool, true, false, cond, ◌||◌, List, [], ◌∷◌, ◌++◌, map, get_or, Option, Some, None, option_map, nat_eq, refl, ap, ap₂, sym, subst, ◌∙◌, append-nil, arith, eqb-true, inl, inr}
 use Rattle.std.specs.List.{AllByRecursion}
-use Rattle.std.proofs.lemmas.List.{ext_get_or, length-map}
+use Rattle.std.proofs.lemmas.List.{ext_get_or}
 use Rattle.std.proofs.lemmas.Slice.Eq.{bytes_eq-Decides}
 use Rattle.desk_base.specs.declared.kinds.Role.{Role}
-use Rattle.desk_base.specs.declared.kinds.Role.TheVariants as roles
 use Rattle.desk_base.specs.declared.kinds.Used.{Used}
 use Rattle.desk_base.specs.Entries.{Entry, utf8, class, string, name_and_type, method_type, module_named, package_named}
-use Rattle.desk_format.specs.PoolBytes.{size}
 use Rattle.desk_base.specs.Entries.{Pool, entry_at, text_at, text_in}
 use Rattle.desk_base.specs.declared.targets.Target.{Target}
 use Rattle.desk_base.specs.declared.targets.Target.TheVariants as targets
-use Rattle.desk_base.specs.declared.targets.Choice.TheVariants as choices
 use Rattle.desk_base.specs.Targets.{Link, links}
 use Rattle.desk_laws.specs.Sound.{EachLink}
 use Rattle.desk_format.specs.Resolved.{Images, image}
-use Rattle.desk_format.specs.Split.{Want, wanted, holds, keep, kept_entry, kept, is_text, has_text, missing, missing_texts, entry_of, split, chosen}
+use Rattle.desk_format.specs.Split.{Want, wanted, holds, keep, kept_entry, kept, is_text, has_text, missing, entry_of}
 use Rattle.desk_format.specs.NewPool.{Choice, wish, wants, with_texts, new_texts, choice, new_pool, added}
 use Rattle.desk_laws.proofs.Slots.{kept-at, length-kept}
 use Rattle.desk_laws.proofs.Passes.{each_map}

@@ -1,25 +1,23 @@
 -- Each old index but those of texts leads to the renamed value.
-use Rattle.std.proofs.Common.{◌≡◌, ℕ, zero, suc, ◌+◌, ◌<◌, ◌≤◌, Bool, true, false, cond, List, [], ◌∷◌, ◌++◌, map, length, Option, Some, None, option_map, refl, ap, ap₂, sym, subst, ◌∙◌, arith}
+use Rattle.std.proofs.Common.{◌≡◌, ℕ, zero, suc, ◌≤◌, true, false, List, [], ◌∷◌, length, Option, Some, None, option_map, refl, ap, ap₂, sym, ◌∙◌}
 use Rattle.std.specs.List.{AllByRecursion}
-use Rattle.desk_base.specs.declared.kinds.Role.{Role}
 use Rattle.desk_base.specs.declared.kinds.Tag.{Tag}
 use Rattle.desk_base.specs.declared.kinds.Tag.TheVariants as tags
 use Rattle.desk_base.specs.declared.kinds.Used.{Used}
-use Rattle.desk_base.specs.Entries.{Entry, utf8, integer, float, long, double, class, string, fieldref, methodref, interface_methodref, name_and_type, method_handle, method_type, dynamic, invoke_dynamic, module_named, package_named, tag_of}
-use Rattle.desk_base.specs.Entries.{Pool, entry_at, tag_at, text_at, text_in}
+use Rattle.desk_base.specs.Entries.{Entry, utf8, class, string, fieldref, methodref, interface_methodref, name_and_type, method_handle, method_type, dynamic, invoke_dynamic, module_named, package_named, tag_of}
+use Rattle.desk_base.specs.Entries.{Pool, entry_at, tag_at, text_at}
 use Rattle.desk_base.specs.declared.targets.Target.{Target}
 use Rattle.desk_base.specs.declared.targets.Target.TheVariants as targets
-use Rattle.desk_base.specs.declared.targets.Choice.TheVariants as choices
-use Rattle.desk_base.specs.Targets.{fits, allows, Link, link, links, handled}
+use Rattle.desk_base.specs.Targets.{fits, allows, Link, links, handled}
 use Rattle.desk_laws.specs.Sound.{EachLink, Links}
 use Rattle.desk_format.specs.Values.{Value, value_in, value_within}
 use Rattle.desk_format.specs.Values.{class_named, string_of, named_typed, member, handle, method_typed, computed, module_called, package_called}
 use Rattle.desk_format.specs.Resolved.{Images, image, renamed_value}
 use Rattle.desk_format.specs.Split.{Want, kept_entry}
 use Rattle.desk_format.specs.NewPool.{Choice, wants, with_texts, choice, new_pool}
-use Rattle.desk_laws.proofs.Slots.{in_range, entry_is, entry_at-new}
+use Rattle.desk_laws.proofs.Slots.{in_range, entry_at-new}
 use Rattle.desk_laws.proofs.Linked.{IsUsed, LinkUsed, each_at}
-use Rattle.desk_laws.proofs.Moved.{handled_all, Other, Kept, LinkKept, table, names_fitting, is_entry, leads_to}
+use Rattle.desk_laws.proofs.Moved.{handled_all, Other, LinkKept, table, names_fitting, is_entry, leads_to}
 
 -- what a link leads to, before and after: the image of a text, or the renamed value
 abbrev pub Follows : Images → Choice → (ℕ → Value) → (ℕ → List ℕ) → (ℕ → Value) → (ℕ → List ℕ) → Target → ℕ → Type 0

@@ -1,36 +1,34 @@
 -- The laws of whole classes.
-use Rattle.std.proofs.Common.{◌≡◌, ℕ, suc, ◌+◌, ◌<◌, ◌≤◌, ◌^◌, List, [], ◌∷◌, ◌++◌, length, take, drop, Option, Some, None, Ok, refl, sym, ap, ap₂, subst, ◌∙◌, append_assoc, append-nil, arith, length-append}
-use Rattle.std.specs.List.{AllByRecursion}
+use Rattle.std.proofs.Common.{◌≡◌, ℕ, suc, ◌+◌, List, [], ◌++◌, length, take, drop, Option, Some, None, Ok, refl, sym, ap, ap₂, subst, ◌∙◌, append_assoc, append-nil, arith, length-append}
 use Rattle.std.proofs.lemmas.List.{take_at, drop_at, take-append-drop}
 use Rattle.desk_base.specs.declared.kinds.Used.{Used}
 use Rattle.desk_base.specs.Entries.{Pool}
 use Rattle.desk_base.specs.Misfits.{or_else}
-use Rattle.desk_format.specs.declared.members.Member.{Member}
 use Rattle.desk_format.specs.Trees.{Tree, Use, Each, Placed, print, uses}
 use Rattle.desk_format.specs.Reading.{read}
 use Rattle.desk_format.specs.Reading.{Got as ReadTree}
 use Rattle.desk_format.specs.ClassBody.{class_body}
-use Rattle.desk_format.specs.Exchange.{Change, moved, exchange, Fits, patch}
+use Rattle.desk_format.specs.Exchange.{Change, moved, exchange, patch}
 use Rattle.desk_format.specs.Resolved.{Images}
 use Rattle.desk_format.specs.Laws.{IsBytes, Renames, IsRenamedBody}
 use Rattle.desk_format.specs.PoolBytes.{print_pool}
-use Rattle.desk_format.specs.PoolReading.{Got, got, read_pool}
+use Rattle.desk_format.specs.PoolReading.{Got}
 use Rattle.desk_format.specs.Members.{Twins, first_twins, named_in, members}
-use Rattle.desk_format.specs.Classes.{Class, Version, read_class, class_of, print_class, class_uses, twins_in}
-use Rattle.desk_format.specs.NewPool.{Choice, wants, choice, new_pool, added, change_by}
-use Rattle.desk_format.specs.NewClass.{Refusal, refusal, overlong_in, full_in, twins_of, twins_refusal, renamed_in, pool_of, new_class, new_bytes, new_body_at, change_of}
+use Rattle.desk_format.specs.Classes.{Class, Version, read_class, class_of, twins_in}
+use Rattle.desk_format.specs.NewPool.{wants, choice, new_pool, added, change_by}
+use Rattle.desk_format.specs.NewClass.{refusal, overlong_in, full_in, twins_of, twins_refusal, renamed_in, new_class, new_bytes}
 use Rattle.desk_format.proofs.Exact.{IsBytes-drop, Taken, exact}
 use Rattle.desk_format.proofs.Patched.{patch_tree, Each-map, renamed_bodies}
 use Rattle.desk_laws.specs.Sound.{Small, WellFormed}
-use Rattle.desk_laws.specs.NewPools.{KeepsForms, Accepted, IsNewPool, IsRenamedPool, all_uses}
+use Rattle.desk_laws.specs.NewPools.{KeepsForms, Accepted, IsRenamedPool, all_uses}
 use Rattle.desk_laws.specs.Classes.{IsPrintedClass, PrintedClasses, IsRenamedClass, RenamedClasses, Settled, IsUnchangedClass, UnchangedClasses}
 use Rattle.desk_laws.proofs.Passes.{Neither, neither, or_else-none}
 use Rattle.desk_laws.proofs.Inverse.{Gives, pool_ensures}
 use Rattle.desk_laws.proofs.Spelled.{Spelled, pool_spelled}
 use Rattle.desk_laws.proofs.Again.{pool_again}
-use Rattle.desk_laws.proofs.Bodies.{NamesText, new_pools, all_named}
+use Rattle.desk_laws.proofs.Bodies.{new_pools, all_named}
 use Rattle.desk_laws.proofs.Second.{IsUnchanged, second, Placed-exchange}
-use Rattle.desk_laws.proofs.Header.{Header, print_version, ClassParts, class_ok, class_again}
+use Rattle.desk_laws.proofs.Header.{Header, ClassParts, class_ok, class_again}
 use Rattle.desk_laws.proofs.Pairs.{Leads, no_twins, members_alike, new_naming, again_naming}
 use Rattle.desk_laws.proofs.Refused.{all_short, none_overlong, has_room, not_full}
 

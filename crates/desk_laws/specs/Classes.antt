@@ -1,5 +1,5 @@
 -- The laws of a class that is read, renamed, and renamed again.
-use Rattle.std.specs.Prelude.{◌≡◌, ℕ, ◌+◌, List, [], length, Option, None, Ok}
+use Rattle.std.specs.Prelude.{◌≡◌, ℕ, ◌+◌, List, [], length, None, Ok}
 use Rattle.std.specs.List.{AllByRecursion}
 use Rattle.desk_base.specs.Names.{Text}
 use Rattle.desk_base.specs.declared.kinds.Role.{Role}

@@ -1,5 +1,5 @@
 -- The laws of a new constant pool.
-use Rattle.std.specs.Prelude.{◌≡◌, ℕ, suc, ◌+◌, ◌≤◌, Bool, true, List, ◌++◌, length, drop, map, Option, Some, None}
+use Rattle.std.specs.Prelude.{◌≡◌, ℕ, suc, ◌+◌, ◌≤◌, true, List, ◌++◌, length, drop, map, Some, None}
 use Rattle.std.specs.List.{AllByRecursion}
 use Rattle.desk_base.specs.Names.{Text}
 use Rattle.desk_base.specs.Utf8.{bad_form}

@@ -1,11 +1,11 @@
 -- The pools that have printed bytes which are read again.
-use Rattle.std.specs.Prelude.{◌≡◌, ℕ, ◌<◌, ◌≤◌, ◌^◌, Bool, true, false, List, [], ◌∷◌, length, Option, Some, None}
+use Rattle.std.specs.Prelude.{◌≡◌, ℕ, ◌<◌, ◌≤◌, ◌^◌, Bool, true, false, [], ◌∷◌, length, Some, None}
 use Rattle.std.specs.List.{AllByRecursion}
 use Rattle.desk_base.specs.Utf8.{bad_form}
 use Rattle.desk_base.specs.Entries.{Entry, utf8, integer, float, long, double, class, string, fieldref, methodref, interface_methodref, name_and_type, method_handle, method_type, dynamic, invoke_dynamic, module_named, package_named, is_wide, tag_of}
 use Rattle.desk_base.specs.Entries.{Pool}
 use Rattle.desk_base.specs.Targets.{Link, links}
-use Rattle.desk_format.specs.PoolReading.{Check, names_wrong, leads_wrong}
+use Rattle.desk_format.specs.PoolReading.{names_wrong, leads_wrong}
 
 abbrev pub Small : ℕ → Type 0
 Small i = i < 2 ^ 16

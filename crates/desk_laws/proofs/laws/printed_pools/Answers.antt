@@ -1,4 +1,4 @@
-use Rattle.std.proofs.Common.{◌≡◌, ℕ, ◌+◌, [], length, arith}
+use Rattle.std.proofs.Common.{[], arith}
 use Rattle.desk_format.specs.PoolBytes.{print_pool}
 use Rattle.desk_laws.proofs.Again.{pool_again}
 use Rattle.desk_laws.proofs.Inverse.{pool_ensures}
