@@ -27,6 +27,7 @@ expected samples.Major62 = Some (record { kind = faults.Version; at = 6 })
 expected samples.Minor1 = Some (record { kind = faults.Version; at = 4 })
 expected samples.Preview = None
 expected samples.CountZero = Some (record { kind = faults.PoolCount; at = 8 })
+expected samples.UnknownTag = Some (record { kind = faults.Tag; at = 10 })
 expected samples.LongInside = None
 expected samples.LongLast = Some (record { kind = faults.PoolCount; at = 39 })
 expected samples.SecondSlot = Some (record { kind = faults.Index; at = 49 })
@@ -42,6 +43,13 @@ expected samples.Misplaced = None
 expected samples.Nested64 = None
 expected samples.Nested65 = Some (record { kind = faults.Depth; at = 297 })
 expected samples.NoCode = Some (record { kind = faults.CodeLength; at = 98 })
+expected samples.ReservedFrame = Some (record { kind = faults.FrameTag; at = 115 })
+expected samples.UnknownType = Some (record { kind = faults.TypeTag; at = 116 })
+expected samples.UnknownElement = Some (record { kind = faults.ElementTag; at = 105 })
+expected samples.UnknownTarget = Some (record { kind = faults.TargetType; at = 103 })
+expected samples.UnknownPath = Some (record { kind = faults.PathKind; at = 105 })
+expected samples.PastCode = Some (record { kind = faults.AttributeLength; at = 90 })
+expected samples.ShortInCode = Some (record { kind = faults.AttributeLength; at = 109 })
 expected samples.TwoMethods = Some (record { kind = faults.Twins; at = 88 })
 
 pub faults_of : (s : Sample) → class_fault (bytes_of s) ≡ expected s
@@ -55,6 +63,7 @@ faults_of samples.Major62 = refl
 faults_of samples.Minor1 = refl
 faults_of samples.Preview = refl
 faults_of samples.CountZero = refl
+faults_of samples.UnknownTag = refl
 faults_of samples.LongInside = refl
 faults_of samples.LongLast = refl
 faults_of samples.SecondSlot = refl
@@ -70,4 +79,11 @@ faults_of samples.Misplaced = refl
 faults_of samples.Nested64 = refl
 faults_of samples.Nested65 = refl
 faults_of samples.NoCode = refl
+faults_of samples.ReservedFrame = refl
+faults_of samples.UnknownType = refl
+faults_of samples.UnknownElement = refl
+faults_of samples.UnknownTarget = refl
+faults_of samples.UnknownPath = refl
+faults_of samples.PastCode = refl
+faults_of samples.ShortInCode = refl
 faults_of samples.TwoMethods = refl

@@ -62,9 +62,12 @@ abbrev pub with_code : ℕ → ℕ → List ℕ → List ℕ
 with_code size code_length rest =
     with_methods 1 (two 0 ++ (two 5 ++ (two 6 ++ (two 1 ++ (two 5 ++ (to_be_bytes w32 size ++ (two 0 ++ (two 0 ++ (to_be_bytes w32 code_length ++ rest)))))))))
 
--- one frame that begins with these bytes, in a Code of one instruction
+-- a StackMapTable of a length, with one frame that begins with these bytes, in a Code of one instruction
+abbrev pub with_table_of : ℕ → List ℕ → List ℕ
+with_table_of size bytes = with_code (21 + length bytes) 1 (177 ∷ (two 0 ++ (two 1 ++ (two 7 ++ (to_be_bytes w32 size ++ (two 1 ++ bytes))))))
+
 abbrev pub with_frame : List ℕ → List ℕ
-with_frame bytes = with_code (21 + length bytes) 1 (177 ∷ (two 0 ++ (two 1 ++ (two 7 ++ (to_be_bytes w32 (2 + length bytes) ++ (two 1 ++ bytes))))))
+with_frame bytes = with_table_of (2 + length bytes) bytes
 
 -- ---- the samples
 
@@ -78,6 +81,7 @@ bytes_of samples.Major62 = put 6 (two 62) CLASS_A
 bytes_of samples.Minor1 = put 4 (two 1 ++ two 61) CLASS_A
 bytes_of samples.Preview = put 4 (two 65535 ++ two 61) CLASS_A
 bytes_of samples.CountZero = put 8 (two 0) CLASS_A
+bytes_of samples.UnknownTag = put 10 (2 ∷ []) CLASS_A
 bytes_of samples.LongInside = with_entries 7 long_entry (drop 39 CLASS_A)
 bytes_of samples.LongLast = with_entries 6 long_entry (drop 39 CLASS_A)
 bytes_of samples.SecondSlot = with_entries 8 (long_entry ++ 8 ∷ two 6) (drop 39 CLASS_A)
@@ -93,6 +97,13 @@ bytes_of samples.Misplaced = with_attribute (codes "Code") 3 (1 ∷ 2 ∷ 3 ∷ 
 bytes_of samples.Nested64 = with_element (arrays 63)
 bytes_of samples.Nested65 = with_element (arrays 64)
 bytes_of samples.NoCode = with_code 12 0 (two 0 ++ two 0)
+bytes_of samples.ReservedFrame = with_frame (128 ∷ [])
+bytes_of samples.UnknownType = with_frame (64 ∷ 9 ∷ [])
+bytes_of samples.UnknownElement = with_element (88 ∷ 0 ∷ 1 ∷ [])
+bytes_of samples.UnknownTarget = with_type_annotation (2 ∷ 0 ∷ [])
+bytes_of samples.UnknownPath = with_type_annotation (19 ∷ 1 ∷ 4 ∷ 0 ∷ [])
+bytes_of samples.PastCode = with_table_of 100 (0 ∷ [])
+bytes_of samples.ShortInCode = with_table_of 1 (0 ∷ [])
 bytes_of samples.TwoMethods = with_methods 2 (two 0 ++ (two 5 ++ (two 6 ++ (two 0 ++ (two 0 ++ (two 5 ++ (two 6 ++ two 0)))))))
 
 -- the file ends within the item at an offset

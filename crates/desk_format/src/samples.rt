@@ -35,6 +35,8 @@ pub enum Sample {
     Preview,
     /// The pool's count is 0.
     CountZero,
+    /// The first entry has the tag 2.
+    UnknownTag,
     /// Entry 5 is a Long, and the count is 7.
     LongInside,
     /// Entry 5 is a Long, and the count is 6.
@@ -65,6 +67,20 @@ pub enum Sample {
     Nested65,
     /// A Code without code.
     NoCode,
+    /// A frame of the reserved tag 128.
+    ReservedFrame,
+    /// A verification type of the tag 9.
+    UnknownType,
+    /// An element value of the tag `X`.
+    UnknownElement,
+    /// A type annotation of the target type 2.
+    UnknownTarget,
+    /// A type path with a step of the kind 4.
+    UnknownPath,
+    /// A StackMapTable that reaches past its Code.
+    PastCode,
+    /// A StackMapTable that is shorter than its count.
+    ShortInCode,
     /// Two methods of one name and descriptor.
     TwoMethods,
 }
@@ -91,6 +107,7 @@ pub fn fault_of(sample: Sample) -> Option<Malformed>
         Sample::Minor1 => fault(FaultKind::Version, 4),
         Sample::Preview => None,
         Sample::CountZero => fault(FaultKind::PoolCount, 8),
+        Sample::UnknownTag => fault(FaultKind::Tag, 10),
         Sample::LongInside => None,
         Sample::LongLast => fault(FaultKind::PoolCount, 39),
         Sample::SecondSlot => fault(FaultKind::Index, 49),
@@ -106,6 +123,13 @@ pub fn fault_of(sample: Sample) -> Option<Malformed>
         Sample::Nested64 => None,
         Sample::Nested65 => fault(FaultKind::Depth, 297),
         Sample::NoCode => fault(FaultKind::CodeLength, 98),
+        Sample::ReservedFrame => fault(FaultKind::FrameTag, 115),
+        Sample::UnknownType => fault(FaultKind::TypeTag, 116),
+        Sample::UnknownElement => fault(FaultKind::ElementTag, 105),
+        Sample::UnknownTarget => fault(FaultKind::TargetType, 103),
+        Sample::UnknownPath => fault(FaultKind::PathKind, 105),
+        Sample::PastCode => fault(FaultKind::AttributeLength, 90),
+        Sample::ShortInCode => fault(FaultKind::AttributeLength, 109),
         Sample::TwoMethods => fault(FaultKind::Twins, 88),
     }
 }

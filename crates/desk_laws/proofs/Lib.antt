@@ -16,3 +16,5 @@ pub mod Header
 pub mod Pairs
 pub mod Refused
 pub mod Whole
+pub mod Levels
+pub mod Ascending

@@ -94,7 +94,7 @@ is_utf8 (Some (utf8 t)) h = (t, refl)
 is_utf8 (Some _) h = absurd cc
 is_utf8 None h = absurd cc
 
-is_class : (form : Form) (o : Option Entry) → fits (targets.Class form) (option_map tag_of o) ≡ true → (i : ℕ) × (o ≡ Some (class i))
+pub is_class : (form : Form) (o : Option Entry) → fits (targets.Class form) (option_map tag_of o) ≡ true → (i : ℕ) × (o ≡ Some (class i))
 is_class form (Some (class i)) h = (i, refl)
 is_class form (Some _) h = absurd cc
 is_class form None h = absurd cc
@@ -104,7 +104,7 @@ pub record IsTyped (o : Option Entry) : Type 0 where
   pub descriptor : ℕ
   pub is : o ≡ Some (name_and_type name descriptor)
 
-is_typed : (form : Form) (o : Option Entry) → fits (targets.NameAndType form) (option_map tag_of o) ≡ true → IsTyped o
+pub is_typed : (form : Form) (o : Option Entry) → fits (targets.NameAndType form) (option_map tag_of o) ≡ true → IsTyped o
 is_typed form (Some (name_and_type n d)) h = record { name = n; descriptor = d; is = refl }
 is_typed form (Some _) h = absurd cc
 is_typed form None h = absurd cc

@@ -1,5 +1,5 @@
 -- Members before and after, and twins among them.
-use Rattle.std.proofs.Common.{◌≡◌, Bool, true, false, cond, List, [], ◌∷◌, ◌++◌, Option, Some, None, find, refl, ap, ap₂, subst, ◌∙◌}
+use Rattle.std.proofs.Common.{sym, ◌≡◌, Bool, true, false, cond, List, [], ◌∷◌, ◌++◌, Option, Some, None, find, refl, ap, ap₂, subst, ◌∙◌}
 use Rattle.desk_base.specs.Names.{Text}
 use Rattle.desk_base.specs.declared.kinds.Role.TheVariants as roles
 use Rattle.desk_base.specs.declared.kinds.UseKind.{UseKind}
@@ -63,6 +63,12 @@ module _ (named named' : Member → Named) where
   -- where the one members have no twins, the others have none
   pub no_twins : (xs ys : List Member) → Alike named named' xs ys → first_twins named xs ≡ None → first_twins named' ys ≡ None
   no_twins xs ys k e = behind_alike [] [] xs ys tt k e
+
+pub alike_back : (named named' : Member → Named) (xs ys : List Member) → Alike named named' xs ys → Alike named' named ys xs
+alike_back named named' [] [] h = tt
+alike_back named named' [] (y ∷ ys) h = absurd h
+alike_back named named' (x ∷ xs) [] h = absurd h
+alike_back named named' (x ∷ xs) (y ∷ ys) h = (record { method = sym h.0.method; texts = sym h.0.texts }, alike_back named named' xs ys h.1)
 
 -- ---- the members of a tree with its indices exchanged
 

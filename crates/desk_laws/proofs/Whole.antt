@@ -1,5 +1,5 @@
 -- The laws of whole classes.
-use Rattle.std.proofs.Common.{◌≡◌, ℕ, suc, ◌+◌, List, [], ◌++◌, length, take, drop, Option, Some, None, Ok, refl, sym, ap, ap₂, subst, ◌∙◌, append_assoc, append-nil, arith, length-append}
+use Rattle.std.proofs.Common.{◌↔◌, ◌≡◌, ℕ, suc, ◌+◌, List, [], ◌++◌, length, take, drop, Option, Some, None, Ok, refl, sym, ap, ap₂, subst, ◌∙◌, append_assoc, append-nil, arith, length-append}
 use Rattle.std.proofs.lemmas.List.{take_at, drop_at, take-append-drop}
 use Rattle.desk_base.specs.declared.kinds.Used.{Used}
 use Rattle.desk_base.specs.Entries.{Pool}
@@ -21,7 +21,7 @@ use Rattle.desk_format.proofs.Exact.{IsBytes-drop, Taken, exact}
 use Rattle.desk_format.proofs.Patched.{patch_tree, Each-map, renamed_bodies}
 use Rattle.desk_laws.specs.Sound.{Small, WellFormed}
 use Rattle.desk_laws.specs.NewPools.{KeepsForms, Accepted, IsRenamedPool, all_uses}
-use Rattle.desk_laws.specs.Classes.{IsPrintedClass, PrintedClasses, IsRenamedClass, RenamedClasses, Settled, IsUnchangedClass, UnchangedClasses}
+use Rattle.desk_laws.specs.Classes.{IsPrintedClass, PrintedClasses, IsRenamedClass, RenamedClasses, RefusedTwins, Settled, IsUnchangedClass, UnchangedClasses}
 use Rattle.desk_laws.proofs.Passes.{Neither, neither, or_else-none}
 use Rattle.desk_laws.proofs.Inverse.{Gives, pool_ensures}
 use Rattle.desk_laws.proofs.Spelled.{Spelled, pool_spelled}
@@ -29,7 +29,7 @@ use Rattle.desk_laws.proofs.Again.{pool_again}
 use Rattle.desk_laws.proofs.Bodies.{new_pools, all_named}
 use Rattle.desk_laws.proofs.Second.{IsUnchanged, second, Placed-exchange}
 use Rattle.desk_laws.proofs.Header.{Header, ClassParts, class_ok, class_again}
-use Rattle.desk_laws.proofs.Pairs.{Leads, no_twins, members_alike, new_naming, again_naming}
+use Rattle.desk_laws.proofs.Pairs.{Leads, no_twins, alike_back, members_alike, new_naming, again_naming}
 use Rattle.desk_laws.proofs.Refused.{all_short, none_overlong, has_room, not_full}
 
 -- ---- what was read
@@ -132,7 +132,10 @@ refused_none im c h = or_else-none (overlong_in im c) (or_else (full_in im c) (t
 
 -- ---- the new class
 
-module _ (im : Images) (bytes : List ℕ) (k : Known bytes) (keeps : KeepsForms im) (none : NoRefusal im (class_by k)) where
+abbrev pub no_new_twins : Images → Class → Type 0
+no_new_twins im c = first_twins (renamed_in im c.pool) (members c.body) ≡ None
+
+module _ (im : Images) (bytes : List ℕ) (k : Known bytes) (keeps : KeepsForms im) (short : overlong_in im (class_by k) ≡ None) (room : full_in im (class_by k) ≡ None) where
   abbrev Old : Pool
   Old = k.pool.value
 
@@ -150,8 +153,8 @@ module _ (im : Images) (bytes : List ℕ) (k : Known bytes) (keeps : KeepsForms 
 
   accepted : Accepted im k.pool.value (all_uses 10 k.pool.value k.body.tree)
   accepted = record {
-    short = all_short im k.pool.value Uses none.short (all_named 10 k.pool.value k.body.tree k.well_formed.linked k.taken.fits);
-    room = has_room (suc (length k.pool.value)) (length (added im k.pool.value Uses)) none.room;
+    short = all_short im k.pool.value Uses short (all_named 10 k.pool.value k.body.tree k.well_formed.linked k.taken.fits);
+    room = has_room (suc (length k.pool.value)) (length (added im k.pool.value Uses)) room;
   }
 
   renamed_pool : IsRenamedPool im k.pool.value (all_uses 10 k.pool.value k.body.tree) k.body.tree New
@@ -179,16 +182,23 @@ module _ (im : Images) (bytes : List ℕ) (k : Known bytes) (keeps : KeepsForms 
   new_reads : read New class_body To Patched ≡ Ok (record { tree = exchange By k.body.tree; at = moved By k.body.at; left = k.body.left })
   new_reads = let place : To ≡ moved By k.pool.at = omega arith in ap (λ (p : ℕ). read New class_body p Patched) place ∙ renamed_body.reads
 
-  without_twins : twins_in (new_class im (class_by k)) ≡ None
-  without_twins =
+  without_twins : no_new_twins im (class_by k) → twins_in (new_class im (class_by k)) ≡ None
+  without_twins none =
       no_twins (renamed_in im k.pool.value) (named_in New) (members k.body.tree) (members (exchange By k.body.tree))
-      (members_alike im k.pool.value New By (renamed_in im k.pool.value) (named_in New) (new_naming im k.pool.value New) k.body.tree each_leads) none.twins
+      (members_alike im k.pool.value New By (renamed_in im k.pool.value) (named_in New) (new_naming im k.pool.value New) k.body.tree each_leads) none
 
-  known_renamed : IsRenamedClass im bytes (class_by k)
-  known_renamed = record {
+  -- the new class has twins exactly where the refusal says so
+  with_twins : twins_in (new_class im (class_by k)) ≡ None → no_new_twins im (class_by k)
+  with_twins none =
+      no_twins (named_in New) (renamed_in im k.pool.value) (members (exchange By k.body.tree)) (members k.body.tree)
+      (alike_back (renamed_in im k.pool.value) (named_in New) (members k.body.tree) (members (exchange By k.body.tree))
+      (members_alike im k.pool.value New By (renamed_in im k.pool.value) (named_in New) (new_naming im k.pool.value New) k.body.tree each_leads)) none
+
+  known_renamed : no_new_twins im (class_by k) → IsRenamedClass im bytes (class_by k)
+  known_renamed none = record {
     reads = ap read_class (new_bytes-is ∙ append_assoc (take 8 bytes) (print_pool New) Patched)
         ∙ class_again k.version bytes (print_pool New ++ Patched) New To Patched (record { tree = exchange By k.body.tree; at = moved By k.body.at; left = k.body.left }) (new_class im (class_by k))
-        k.header (pool_again 8 New Patched renamed_pool.pool.well_formed few) new_reads k.ends refl without_twins;
+        k.header (pool_again 8 New Patched renamed_pool.pool.well_formed few) new_reads k.ends refl (without_twins none);
     tree = ap (λ (t : _). record { minor = k.version.value.minor; major = k.version.value.major; body = t }) renamed_body.resolves;
     pool = renamed_pool.pool;
   }
@@ -202,12 +212,12 @@ module _ (im : Images) (bytes : List ℕ) (k : Known bytes) (keeps : KeepsForms 
     stable : IsUnchanged im 10 New To Tree'
     stable = second im 10 k.pool.value k.body.tree k.pool.at To keeps settled k.well_formed k.taken.fits k.taken.placed accepted
 
-    no_second_refusal : NoRefusal im (new_class im (class_by k))
-    no_second_refusal = record {
+    no_second_refusal : no_new_twins im (class_by k) → NoRefusal im (new_class im (class_by k))
+    no_second_refusal none = record {
       short = none_overlong (wants im New (all_uses 10 New Tree')) 1 New stable.accepted.short;
       room = not_full (suc (length New)) (length (added im New (all_uses 10 New Tree'))) stable.accepted.room;
       twins = no_twins (renamed_in im k.pool.value) (renamed_in im New) (members k.body.tree) (members Tree')
-          (members_alike im k.pool.value New By (renamed_in im k.pool.value) (renamed_in im New) (again_naming im k.pool.value New settled) k.body.tree each_leads) none.twins;
+          (members_alike im k.pool.value New By (renamed_in im k.pool.value) (renamed_in im New) (again_naming im k.pool.value New settled) k.body.tree each_leads) none;
     }
 
     -- the patched bytes are those of the new tree
@@ -246,9 +256,9 @@ module _ (im : Images) (bytes : List ℕ) (k : Known bytes) (keeps : KeepsForms 
         let place : moved By k.pool.at ≡ To = omega arith in
         subst (λ (n : ℕ). Placed n Tree') place (Placed-exchange By k.pool.at k.body.tree (omega arith) k.taken.placed)
 
-    known_unchanged : IsUnchangedClass im (new_bytes im bytes (class_by k)) (new_class im (class_by k))
-    known_unchanged = record {
-      accepted = refused_none im (new_class im (class_by k)) no_second_refusal;
+    known_unchanged : no_new_twins im (class_by k) → IsUnchangedClass im (new_bytes im bytes (class_by k)) (new_class im (class_by k))
+    known_unchanged none = record {
+      accepted = refused_none im (new_class im (class_by k)) (no_second_refusal none);
       images = stable.images;
       none_added = stable.none_added;
       same = subst (λ (b : List ℕ). new_bytes im b (new_class im (class_by k)) ≡ b) (sym new_bytes-is) (same_again new_placed);
@@ -259,10 +269,21 @@ renamed_classes im bytes c keeps b h none =
     let i : IsKnown bytes c = known_of bytes c b h in
     let k : Known bytes = i.known in
     let n : NoRefusal im (class_by i.known) = none_refused im (class_by i.known) (subst (λ (d : Class). refusal im d ≡ None) (sym i.is) none) in
-    subst (λ (d : Class). IsRenamedClass im bytes d) i.is (known_renamed im bytes i.known keeps n)
+    subst (λ (d : Class). IsRenamedClass im bytes d) i.is (known_renamed im bytes i.known keeps n.short n.room n.twins)
 
 pub unchanged_classes : UnchangedClasses
 unchanged_classes im bytes c keeps settled b h none =
     let i : IsKnown bytes c = known_of bytes c b h in
     let n : NoRefusal im (class_by i.known) = none_refused im (class_by i.known) (subst (λ (d : Class). refusal im d ≡ None) (sym i.is) none) in
-    subst (λ (d : Class). IsUnchangedClass im (new_bytes im bytes d) (new_class im d)) i.is (known_unchanged im bytes i.known keeps n settled)
+    subst (λ (d : Class). IsUnchangedClass im (new_bytes im bytes d) (new_class im d)) i.is (known_unchanged im bytes i.known keeps n.short n.room settled n.twins)
+
+pub refused_twins : RefusedTwins
+refused_twins im bytes c keeps b h short room =
+    let i : IsKnown bytes c = known_of bytes c b h in
+    let k : Known bytes = i.known in
+    let short' : overlong_in im (class_by i.known) ≡ None = subst (λ (d : Class). overlong_in im d ≡ None) (sym i.is) short in
+    let room' : full_in im (class_by i.known) ≡ None = subst (λ (d : Class). full_in im d ≡ None) (sym i.is) room in
+    subst (λ (d : Class). (twins_of im d ≡ None) ↔ (twins_in (new_class im d) ≡ None)) i.is (
+      λ none. without_twins im bytes i.known keeps short' room' (no_pair (first_twins (renamed_in im i.known.pool.value) (members i.known.body.tree)) none),
+      λ none. ap twins_refusal (with_twins im bytes i.known keeps short' room' none),
+    )

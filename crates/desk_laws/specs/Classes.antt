@@ -1,5 +1,5 @@
 -- The laws of a class that is read, renamed, and renamed again.
-use Rattle.std.specs.Prelude.{◌≡◌, ℕ, ◌+◌, List, [], length, None, Ok}
+use Rattle.std.specs.Prelude.{◌↔◌, ◌≡◌, ℕ, ◌+◌, List, [], length, None, Ok}
 use Rattle.std.specs.List.{AllByRecursion}
 use Rattle.desk_base.specs.Names.{Text}
 use Rattle.desk_base.specs.declared.kinds.Role.{Role}
@@ -10,9 +10,9 @@ use Rattle.desk_format.specs.Exchange.{Fits}
 use Rattle.desk_format.specs.Laws.{IsBytes}
 use Rattle.desk_format.specs.PoolBytes.{print_pool}
 use Rattle.desk_format.specs.Resolved.{Images, image}
-use Rattle.desk_format.specs.Classes.{Class, read_class, print_class, class_uses}
+use Rattle.desk_format.specs.Classes.{Class, read_class, print_class, class_uses, twins_in}
 use Rattle.desk_format.specs.NewPool.{added}
-use Rattle.desk_format.specs.NewClass.{pool_of, new_class, new_bytes, resolved_class, renamed_class, refusal}
+use Rattle.desk_format.specs.NewClass.{pool_of, new_class, new_bytes, resolved_class, renamed_class, overlong_in, full_in, twins_of, refusal}
 use Rattle.desk_laws.specs.Sound.{WellFormed}
 use Rattle.desk_laws.specs.NewPools.{KeepsForms, IsNewPool}
 
@@ -42,6 +42,11 @@ pub record IsRenamedClass (im : Images) (bytes : List ℕ) (c : Class) : Type 0 
 -- For each well-formed class for which no refusal stands, under images that keep forms.
 abbrev pub RenamedClasses : Type 0
 RenamedClasses = (im : Images) (bytes : List ℕ) (c : Class) → KeepsForms im → IsBytes bytes → read_class bytes ≡ Ok c → refusal im c ≡ None → IsRenamedClass im bytes c
+
+-- Where no text is too long and the pool has room, twins are refused exactly where the new class has twins.
+abbrev pub RefusedTwins : Type 0
+RefusedTwins = (im : Images) (bytes : List ℕ) (c : Class) → KeepsForms im → IsBytes bytes → read_class bytes ≡ Ok c → overlong_in im c ≡ None → full_in im c ≡ None
+    → (twins_of im c ≡ None) ↔ (twins_in (new_class im c) ≡ None)
 
 -- ---- renaming again
 

@@ -3,4 +3,7 @@
 
 mod laws;
 
-pub use laws::{new_pools, printed_classes, printed_pools, renamed_classes, unchanged_classes};
+pub use laws::{
+    followed_values, missing_texts, new_pools, printed_classes, printed_pools, refused_twins,
+    renamed_classes, unchanged_classes,
+};
