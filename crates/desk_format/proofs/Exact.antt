@@ -9,7 +9,7 @@ use Rattle.desk_base.specs.declared.kinds.UseKind.TheVariants as kinds
 use Rattle.desk_base.specs.declared.faults.FaultKind.{FaultKind}
 use Rattle.desk_base.specs.Entries.{Pool}
 use Rattle.desk_base.specs.Misfits.{misfit}
-use Rattle.desk_format.specs.Trees.{Tree, Use, Each, print, Placed}
+use Rattle.desk_format.specs.Trees.{Tree, Use, Each, print, IsPlaced}
 use Rattle.desk_format.specs.Layouts.{Layout, Check, any}
 use Rattle.desk_format.specs.Reading.{member_at, Got, Reader, item, number_at, raw_at, index_at, nothing_at, and_then, times, value_of, name_of, fenced, attribute_at, read}
 use Rattle.desk_format.specs.Exchange.{Fits}
@@ -33,7 +33,7 @@ empty (x ∷ xs) h = absurd (omega arith)
 pub record Taken (pool : Pool) (place : ℕ) (s : List ℕ) (got : Got) : Type 0 where
   pub parts : s ≡ print got.tree ++ got.left
   pub at : got.at ≡ place + length (print got.tree)
-  pub placed : Placed place got.tree
+  pub placed : IsPlaced place got.tree
   pub fits : Each (Fits pool) got.tree
   pub left : IsBytes got.left
 
@@ -44,7 +44,7 @@ module _ (pool : Pool) where
   -- a leaf that prints to its bytes
   pub record IsLeaf (n : ℕ) (check : List ℕ → Option FaultKind) (leaf : ℕ → List ℕ → Tree Use) : Type 0 where
     pub prints : (at : ℕ) (bytes : List ℕ) → length bytes ≡ n → IsBytes bytes → print (leaf at bytes) ≡ bytes
-    pub placed : (at : ℕ) (bytes : List ℕ) → Placed at (leaf at bytes)
+    pub placed : (at : ℕ) (bytes : List ℕ) → IsPlaced at (leaf at bytes)
     pub fits : (at : ℕ) (bytes : List ℕ) → IsBytes bytes → check bytes ≡ None → Each (Fits pool) (leaf at bytes)
 
   exact_item : (n : ℕ) (check : List ℕ → Option FaultKind) (leaf : ℕ → List ℕ → Tree Use) → IsLeaf n check leaf → Exact pool (item n check leaf)
@@ -72,7 +72,7 @@ module _ (pool : Pool) where
         subst (λ (x : Got). Taken pool at s x) o.is (record {
           parts = one.parts ∙ ap (λ (t : List ℕ). print o.a.tree ++ t) two.parts ∙ sym (append_assoc (print o.a.tree) (print o.b.tree) o.b.left);
           at = omega (arith, two.at, one.at, length-append (print o.a.tree) (print o.b.tree));
-          placed = (one.placed, subst (λ (place : ℕ). Placed place o.b.tree) one.at two.placed);
+          placed = (one.placed, subst (λ (place : ℕ). IsPlaced place o.b.tree) one.at two.placed);
           fits = (one.fits, two.fits);
           left = two.left;
         });

@@ -3,7 +3,7 @@ use Rattle.std.proofs.Common.{Bool, true, false, cond, ◌&&◌, ◌==◌, ◌�
 use Rattle.std.specs.Int.{w16, to_be_bytes}
 use Rattle.std.proofs.lemmas.List.{take_at, drop_at}
 use Rattle.desk_base.specs.Entries.{Pool}
-use Rattle.desk_format.specs.Trees.{Tree, Use, map_tree, Each, print, uses, uses_of, text_use, text_in_role, Placed}
+use Rattle.desk_format.specs.Trees.{Tree, Use, map_tree, Each, print, uses, uses_of, text_use, text_in_role, IsPlaced}
 use Rattle.desk_base.specs.declared.kinds.Used.{Used}
 use Rattle.desk_base.specs.declared.targets.Target.{Target}
 use Rattle.desk_base.specs.declared.targets.Target.TheVariants as targets
@@ -49,7 +49,7 @@ patch_use : (g : Used → ℕ) (base i at : ℕ) (o : Option Used) (pre post : L
 patch_use g base i at None pre post h p = refl
 patch_use g base i at (Some u) pre post h p = put_two_at pre (to_be_bytes w16 i) post (g u) (u.at - base) refl (omega (arith, h, p))
 
-pub patch_tree : (g : Change) (base : ℕ) (t : Tree Use) (pre post : List ℕ) → Placed (base + length pre) t → patch g.index base (uses t) (pre ++ print t ++ post) ≡ pre ++ print (exchange g t) ++ post
+pub patch_tree : (g : Change) (base : ℕ) (t : Tree Use) (pre post : List ℕ) → IsPlaced (base + length pre) t → patch g.index base (uses t) (pre ++ print t ++ post) ≡ pre ++ print (exchange g t) ++ post
 patch_tree g base Tree.nothing pre post p = refl
 patch_tree g base (Tree.number bytes) pre post p = refl
 patch_tree g base (Tree.raw bytes) pre post p = refl
@@ -65,7 +65,7 @@ patch_tree g base (Tree.both a b) pre post p =
     ∙ ap (λ (s : List ℕ). patch g.index base (uses b) (patch g.index base (uses a) s)) in_a
     ∙ ap (patch g.index base (uses b)) (patch_tree g base a pre (print b ++ post) p.0)
     ∙ ap (patch g.index base (uses b)) in_b
-    ∙ patch_tree g base b (pre ++ a') post (subst (λ (n : ℕ). Placed n b) place p.1)
+    ∙ patch_tree g base b (pre ++ a') post (subst (λ (n : ℕ). IsPlaced n b) place p.1)
     ∙ out
 
 -- A body with new index numbers is read into the tree with new index numbers.
@@ -74,7 +74,7 @@ pub patched : (old new : Pool) (g : Change) (l : Layout) (at : ℕ) (s : List �
 patched old new g l at s got bytes e low suits =
     let t : Taken old at s got = (exact old l).runs at s got e bytes in
     let a : Again g (read new l) at s got = (follows old new g l).runs at s got e low suits in
-    let here : Placed (at + 0) got.tree = subst (λ (k : ℕ). Placed k got.tree) (omega arith) t.placed in
+    let here : IsPlaced (at + 0) got.tree = subst (λ (k : ℕ). IsPlaced k got.tree) (omega arith) t.placed in
     let parts : s ≡ [] ++ print got.tree ++ got.left = t.parts in
     ap (λ (b : List ℕ). read new l (moved g at) (patch g.index at (uses got.tree) b)) parts
     ∙ ap (λ (b : List ℕ). read new l (moved g at) b) (patch_tree g at got.tree [] got.left here)

@@ -3,7 +3,7 @@ use Rattle.std.specs.Prelude.{◌≡◌, ℕ, ◌+◌, ◌<◌, ◌≤◌, List,
 use Rattle.desk_base.specs.Entries.{Pool}
 use Rattle.desk_format.specs.declared.attributes.Place.TheVariants.{OfCode, OfComponent}
 use Rattle.desk_format.specs.Attributes.{inner_attributes, attributes_of}
-use Rattle.desk_format.specs.Trees.{Use, Each, Placed, print, uses}
+use Rattle.desk_format.specs.Trees.{Use, Each, IsPlaced, print, uses}
 use Rattle.desk_format.specs.Layouts.{Layout}
 use Rattle.desk_format.specs.Reading.{Got, read}
 use Rattle.desk_format.specs.Exchange.{Change, moved, exchanged, exchange, Suits, Fits, patch}
@@ -16,7 +16,7 @@ IsBytes bytes = (i : ℕ) → get_or bytes i 0 < 256
 pub record IsPrinted (pool : Pool) (at : ℕ) (s : List ℕ) (got : Got) : Type 0 where
   pub bytes : s ≡ print got.tree ++ got.left
   pub behind : got.at ≡ at + length (print got.tree)
-  pub places : Placed at got.tree
+  pub places : IsPlaced at got.tree
   pub fits : Each (Fits pool) got.tree
 
 abbrev pub PrintedBodies : Type 0

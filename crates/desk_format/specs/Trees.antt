@@ -51,13 +51,13 @@ print (both a b) = print a ++ print b
 print (member a) = print a
 
 -- Each index stands at its place, where the tree begins at an offset.
-abbrev pub Placed : ℕ → Tree Use → Type 0
-Placed at nothing = Unit {0}
-Placed at (number bytes) = Unit {0}
-Placed at (raw bytes) = Unit {0}
-Placed at (used u) = u.at ≡ at
-Placed at (both a b) = Placed at a × Placed (at + length (print a)) b
-Placed at (member a) = Placed at a
+abbrev pub IsPlaced : ℕ → Tree Use → Type 0
+IsPlaced at nothing = Unit {0}
+IsPlaced at (number bytes) = Unit {0}
+IsPlaced at (raw bytes) = Unit {0}
+IsPlaced at (used u) = u.at ≡ at
+IsPlaced at (both a b) = IsPlaced at a × IsPlaced (at + length (print a)) b
+IsPlaced at (member a) = IsPlaced at a
 
 -- ---- uses
 

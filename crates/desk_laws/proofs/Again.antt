@@ -14,17 +14,17 @@ use Rattle.desk_format.specs.PoolBytes.{two, print_body, print_entry}
 use Rattle.desk_base.specs.Entries.{Pool}
 use Rattle.desk_format.specs.PoolBytes.{print_slots, print_pool}
 use Rattle.desk_format.specs.PoolReading.{Got, got, item, then_read, body, with_bytes, with_index, with_two, text_read, kind_read, done, tag_numbered, has_room, entry_read, read_slots, names_wrong, leads_wrong, read_pool}
-use Rattle.desk_laws.specs.Sound.{Small, Sound, Shaped, Links, WellFormed}
+use Rattle.desk_laws.specs.Sound.{IsTwoBytes, IsSound, IsShaped, Links, IsWellFormed}
 use Rattle.desk_laws.proofs.Passes.{no_fault, each_map, Passes}
 
 pub item_is : (n at : ℕ) (bytes behind : List ℕ) → length bytes ≡ n → item n at (bytes ++ behind) ≡ Ok (got bytes (at + n) behind)
 item_is n at bytes behind len =
     rw (le-ltb (length (bytes ++ behind)) n (omega (arith, length-append bytes behind)), take_at bytes behind n len, drop_at bytes behind n len) refl
 
-index_is : (make : ℕ → Entry) (at i : ℕ) (behind : List ℕ) → Small i → with_index make at (two i ++ behind) ≡ Ok (got (make i) (at + 2) behind)
+index_is : (make : ℕ → Entry) (at i : ℕ) (behind : List ℕ) → IsTwoBytes i → with_index make at (two i ++ behind) ≡ Ok (got (make i) (at + 2) behind)
 index_is make at i behind small = rw (item_is 2 at (two i) behind refl, from_be_bytes-to_be_bytes_2 i small) refl
 
-two_are : (make : ℕ → ℕ → Entry) (at i j : ℕ) (behind : List ℕ) → Small i → Small j → with_two make at ((two i ++ two j) ++ behind) ≡ Ok (got (make i j) (at + 4) behind)
+two_are : (make : ℕ → ℕ → Entry) (at i j : ℕ) (behind : List ℕ) → IsTwoBytes i → IsTwoBytes j → with_two make at ((two i ++ two j) ++ behind) ≡ Ok (got (make i j) (at + 4) behind)
 two_are make at i j behind a b =
     rw (item_is 2 at (two i) (two j ++ behind) refl, from_be_bytes-to_be_bytes_2 i a, index_is (make i) (at + 2) j behind b)
     (ap (λ (p : ℕ). Ok (got (make i j) p behind)) (omega arith))
@@ -38,7 +38,7 @@ text_body at s = then_read (text_read at s) (λ t. done (utf8 t))
 abbrev handle_body : ℕ → List ℕ → Result (Got Entry) Malformed
 handle_body at s = then_read (kind_read at s) (λ kind. with_index (method_handle kind))
 
-text_is : (at : ℕ) (t behind : List ℕ) → Small (length t) → bad_form t ≡ None → text_body at ((two (length t) ++ t) ++ behind) ≡ Ok (got (utf8 t) (at + length (two (length t) ++ t)) behind)
+text_is : (at : ℕ) (t behind : List ℕ) → IsTwoBytes (length t) → bad_form t ≡ None → text_body at ((two (length t) ++ t) ++ behind) ≡ Ok (got (utf8 t) (at + length (two (length t) ++ t)) behind)
 text_is at t behind small good =
     rw (item_is 2 at (two (length t)) (t ++ behind) refl, from_be_bytes-to_be_bytes_2 (length t) small, item_is (length t) (at + 2) t behind refl, good)
     (ap (λ (p : ℕ). Ok (got (utf8 t) p behind)) (omega (arith, length-append (two (length t)) t)))
@@ -46,14 +46,14 @@ text_is at t behind small good =
 byte_is : (k : ℕ) → from_be_bytes w8 (k ∷ []) ≡ k
 byte_is k = omega arith
 
-handle_is : (at k i : ℕ) (behind : List ℕ) → 1 ≤ k → k ≤ 9 → Small i → handle_body at ((k ∷ two i) ++ behind) ≡ Ok (got (method_handle k i) (at + 3) behind)
+handle_is : (at k i : ℕ) (behind : List ℕ) → 1 ≤ k → k ≤ 9 → IsTwoBytes i → handle_body at ((k ∷ two i) ++ behind) ≡ Ok (got (method_handle k i) (at + 3) behind)
 handle_is at k i behind low high small =
     let zero_not : nat_eq k 0 ≡ false = grind (arith, nat_tests) in
     let nine_not : nat_lt 9 k ≡ false = le-ltb 9 k high in
     rw (item_is 1 at (k ∷ []) (two i ++ behind) refl, byte_is k, zero_not, nine_not, index_is (method_handle k) (at + 1) i behind small)
     (ap (λ (p : ℕ). Ok (got (method_handle k i) p behind)) (omega arith))
 
-body_again : (e : Entry) (at : ℕ) (behind : List ℕ) → Sound e → body (tag_of e) at (print_body e ++ behind) ≡ Ok (got e (at + length (print_body e)) behind)
+body_again : (e : Entry) (at : ℕ) (behind : List ℕ) → IsSound e → body (tag_of e) at (print_body e ++ behind) ≡ Ok (got e (at + length (print_body e)) behind)
 unfolding body
 body_again (utf8 t) at behind h = text_is at t behind h.0 h.1
 body_again (integer b) at behind h = bytes_are 4 integer at b behind h
@@ -78,21 +78,21 @@ unfolding tag_numbered
 tag_again tags.Utf8 = refl
 tag_again _ = refl
 
-room_by : (wide : Bool) → Shaped wide [] → not wide ≡ true
+room_by : (wide : Bool) → IsShaped wide [] → not wide ≡ true
 room_by false h = refl
 room_by true h = absurd h
 
-room : (tag : Tag) (slots : Pool) → Shaped (is_wide tag) slots → has_room tag (length slots) ≡ true
+room : (tag : Tag) (slots : Pool) → IsShaped (is_wide tag) slots → has_room tag (length slots) ≡ true
 room tag [] h = room_by (is_wide tag) h
 room tag (slot ∷ slots) h = let later : nat_eq (suc (length slots)) 0 ≡ false = grind (arith, nat_tests) in rw later refl
 
-entry_again : (e : Entry) (n at : ℕ) (behind : List ℕ) → Sound e → has_room (tag_of e) n ≡ true → entry_read n at (print_entry e ++ behind) ≡ Ok (got e (at + length (print_entry e)) behind)
+entry_again : (e : Entry) (n at : ℕ) (behind : List ℕ) → IsSound e → has_room (tag_of e) n ≡ true → entry_read n at (print_entry e ++ behind) ≡ Ok (got e (at + length (print_entry e)) behind)
 unfolding entry_read
 entry_again e n at behind h r =
     rw (item_is 1 at (number_of (tag_of e) ∷ []) (print_body e ++ behind) refl, byte_is (number_of (tag_of e)), tag_again (tag_of e), r, body_again e (at + 1) behind h)
     (ap (λ (p : ℕ). Ok (got e p behind)) (omega arith))
 
-slots_again : (second : Bool) (slots : Pool) (at : ℕ) (behind : List ℕ) → Shaped second slots → read_slots (length slots) second at (print_slots slots ++ behind) ≡ Ok (got slots (at + length (print_slots slots)) behind)
+slots_again : (second : Bool) (slots : Pool) (at : ℕ) (behind : List ℕ) → IsShaped second slots → read_slots (length slots) second at (print_slots slots ++ behind) ≡ Ok (got slots (at + length (print_slots slots)) behind)
 unfolding read_slots
 slots_again false [] at behind h = ap (λ (p : ℕ). Ok (got [] p behind)) (omega arith)
 slots_again true [] at behind h = absurd h
@@ -105,7 +105,7 @@ slots_again false (Some e ∷ slots) at behind h =
     ∙ rw (entry_again e (length slots) at rest h.0 (room (tag_of e) slots h.1), slots_again (is_wide (tag_of e)) slots (at + length (print_entry e)) behind h.1)
     (ap (λ (p : ℕ). Ok (got (Some e ∷ slots) p behind)) (omega (arith, length-append (print_entry e) (print_slots slots))))
 
-pub pool_again : (at : ℕ) (pool : Pool) (behind : List ℕ) → WellFormed pool → Small (suc (length pool)) → read_pool at (print_pool pool ++ behind) ≡ Ok (got pool (at + length (print_pool pool)) behind)
+pub pool_again : (at : ℕ) (pool : Pool) (behind : List ℕ) → IsWellFormed pool → IsTwoBytes (suc (length pool)) → read_pool at (print_pool pool ++ behind) ≡ Ok (got pool (at + length (print_pool pool)) behind)
 unfolding read_pool
 pool_again at pool behind w small =
     rw (

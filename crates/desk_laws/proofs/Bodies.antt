@@ -19,7 +19,7 @@ use Rattle.desk_base.specs.Misfits.{wrong_entry, wrong_text, or_else, misfit}
 use Rattle.desk_format.specs.PoolBytes.{uses_among, pool_uses}
 use Rattle.desk_laws.proofs.Indices.{uses_as, reindexed, indices, text_uses, uses-indices, each_index, all_indices, by_choice, new_index-is}
 use Rattle.desk_format.specs.Trees.{Tree, Use, Each, uses, uses_of, text_use, text_in_role}
-use Rattle.desk_laws.specs.Sound.{Small, Sound, Shaped, EachLink, Links, WellFormed}
+use Rattle.desk_laws.specs.Sound.{IsTwoBytes, IsSound, IsShaped, EachLink, Links, IsWellFormed}
 use Rattle.desk_format.specs.Values.{value_as, value_of_kind}
 use Rattle.desk_format.specs.Values.{text_as}
 use Rattle.desk_laws.proofs.Passes.{Neither, neither, or_else-none, each_map, each_both}
@@ -29,7 +29,7 @@ use Rattle.desk_format.specs.Resolved.{Images, renamed_value}
 use Rattle.desk_format.specs.Laws.{Renames}
 use Rattle.desk_format.specs.Split.{Want, kept}
 use Rattle.desk_format.specs.NewPool.{wants, choice, new_pool, added, change_by}
-use Rattle.desk_laws.specs.NewPools.{KeepsForms, Accepted, NewPools, all_uses}
+use Rattle.desk_laws.specs.NewPools.{KeepsForms, IsAccepted, NewPools, all_uses}
 use Rattle.desk_laws.proofs.Slots.{same_tag, length-new, appended_is}
 use Rattle.desk_laws.proofs.Linked.{HasUse, has_left, has_right, IsUsed, LinkUsed, Within, pool_used, Led}
 use Rattle.desk_laws.proofs.Moved.{Other, Kept, LinkKept, table, any_text, as_text, is_utf8, names_fitting, Fitting, led_text, moved, leads_to}
@@ -84,23 +84,23 @@ named_in_body old (u ∷ us) h = all_append (NamesText old) (uses_of (text_use u
 
 -- ---- sound entries
 
-pub sound_at : (second : Bool) (pool : Pool) (i : ℕ) (e : Entry) → Shaped second pool → entry_at pool i ≡ Some e → Sound e
+pub sound_at : (second : Bool) (pool : Pool) (i : ℕ) (e : Entry) → IsShaped second pool → entry_at pool i ≡ Some e → IsSound e
 sound_at second pool zero e s is = absurd cc
 sound_at second [] (suc j) e s is = absurd cc
 sound_at false (None ∷ slots) (suc j) e s is = absurd s
 sound_at true (Some f ∷ slots) (suc j) e s is = absurd s
 sound_at true (None ∷ slots) (suc zero) e s is = absurd cc
 sound_at true (None ∷ slots) (suc (suc j)) e s is = sound_at false slots (suc j) e s is
-sound_at false (Some f ∷ slots) (suc zero) e s is = let same : f ≡ e = cc in subst Sound same s.0
+sound_at false (Some f ∷ slots) (suc zero) e s is = let same : f ≡ e = cc in subst IsSound same s.0
 sound_at false (Some f ∷ slots) (suc (suc j)) e s is = sound_at (is_wide (tag_of f)) slots (suc j) e s.1 is
 
-good_text : (old : Pool) (i : ℕ) → Shaped false old → fits any_text (tag_at old i) ≡ true → bad_form (text_at old i) ≡ None
+good_text : (old : Pool) (i : ℕ) → IsShaped false old → fits any_text (tag_at old i) ≡ true → bad_form (text_at old i) ≡ None
 good_text old i s h =
     let p = is_utf8 (entry_at old i) h in
-    let sound : Small (length p.0) × (bad_form p.0 ≡ None) = sound_at false old i (utf8 p.0) s p.1 in
+    let sound : IsTwoBytes (length p.0) × (bad_form p.0 ≡ None) = sound_at false old i (utf8 p.0) s p.1 in
     ap (λ (o : Option Entry). bad_form (text_in o)) p.1 ∙ sound.1
 
-wants_holdable : (im : Images) (old : Pool) (us : List Used) → KeepsForms im → Shaped false old → AllByRecursion (NamesText old) us → AllByRecursion (λ (w : Want). Small (length w.text)) (wants im old us) → AllByRecursion WantHoldable (wants im old us)
+wants_holdable : (im : Images) (old : Pool) (us : List Used) → KeepsForms im → IsShaped false old → AllByRecursion (NamesText old) us → AllByRecursion (λ (w : Want). IsTwoBytes (length w.text)) (wants im old us) → AllByRecursion WantHoldable (wants im old us)
 wants_holdable im old [] k s h small = tt
 wants_holdable im old (u ∷ us) k s h small =
     (record { small = small.0; good = k.utf8 u.role (text_at old u.index) (good_text old u.index s h.0) }, wants_holdable im old us k s h.1 small.1)
@@ -119,14 +119,14 @@ pub record Half (old : Pool) (us : List Used) (l : Link) : Type 0 where
   pub fits : Links old l
   pub used : LinkUsed us l
 
-module _ (im : Images) (old : Pool) (us : List Used) (k : KeepsForms im) (w : WellFormed old) (used : EachLink (LinkUsed us) old) (named : AllByRecursion (NamesText old) us) (accepted : Accepted im old us) where
+module _ (im : Images) (old : Pool) (us : List Used) (k : KeepsForms im) (w : IsWellFormed old) (used : EachLink (LinkUsed us) old) (named : AllByRecursion (NamesText old) us) (accepted : IsAccepted im old us) where
   old_links : EachLink (OldLink old us) old
   old_links =
       each_both (Half old us) LinkKept (OldLink old us) old (λ l a b. record { fits = a.fits; used = a.used; kept = b })
       (each_both (Links old) (LinkUsed us) (Half old us) old (λ l a b. record { fits = a; used = b }) w.linked used) (each_of_table old)
 
-  choice_small : (role : Role) (i : ℕ) → Led im old us role i → Small (choice im old us role i)
-  choice_small role i l = let room : Small (suc (length old) + length (added im old us)) = accepted.room in omega (arith, l.within)
+  choice_small : (role : Role) (i : ℕ) → Led im old us role i → IsTwoBytes (choice im old us role i)
+  choice_small role i l = let room : IsTwoBytes (suc (length old) + length (added im old us)) = accepted.room in omega (arith, l.within)
 
   target_small : (t : Target) (i : ℕ) → fits t (tag_at old i) ≡ true → IsUsed us t i → NewSmall (choice im old us) t i
   target_small (targets.Text role form) i h u = choice_small role i (led_text im old us w.linked used role form i h u)
@@ -146,9 +146,9 @@ module _ (im : Images) (old : Pool) (us : List Used) (k : KeepsForms im) (w : We
       let f : Fitting (new_pool im old us) l.target (reindexed (choice im old us) l.target l.index) = moved im old us w.linked used k l.target l.index (record { names = o.fits.names; leads = o.fits.leads }) o.used o.kept.goes in
       record { names = f.names; leads = f.leads }
 
-  pub well_formed_new : WellFormed (new_pool im old us)
+  pub well_formed_new : IsWellFormed (new_pool im old us)
   well_formed_new =
-      let room : Small (suc (length old) + length (added im old us)) = accepted.room in
+      let room : IsTwoBytes (suc (length old) + length (added im old us)) = accepted.room in
       record {
         shaped = shaped_new (choice im old us) (wants im old us) holdable 1 false old (added im old us) w.shaped
             (each_map (OldLink old us) (LinkSmall (choice im old us)) old (λ l o. target_small l.target l.index (names_fitting old l.target l.index o.fits.names) o.used) old_links)
@@ -165,7 +165,7 @@ module _ (im : Images) (old : Pool) (us : List Used) (k : KeepsForms im) (w : We
   old_value (targets.NameAndType form) i h u o = follows im old us w.linked used 3 (values im old us w.linked used 3) (targets.NameAndType form) i h u o
   old_value (targets.Entry entries) i h u o = follows im old us w.linked used 3 (values im old us w.linked used 3) (targets.Entry entries) i h u o
 
-  stays_small : (t : Target) (i : ℕ) → Small i → NewSmall (choice im old us) t i → Small (reindexed (choice im old us) t i)
+  stays_small : (t : Target) (i : ℕ) → IsTwoBytes i → NewSmall (choice im old us) t i → IsTwoBytes (reindexed (choice im old us) t i)
   stays_small (targets.Text role form) i h s = s
   stays_small (targets.Class form) i h s = h
   stays_small (targets.NameAndType form) i h s = h
@@ -198,7 +198,7 @@ none_suits : (old new : Pool) (kind : UseKind) (i i' : ℕ) → (may_be_none kin
 none_suits old new kinds.AttrName i i' p h = absurd cc
 none_suits old new _ i i' p h = refl
 
-module _ (im : Images) (old : Pool) (us : List Used) (k : KeepsForms im) (w : WellFormed old) (used : EachLink (LinkUsed us) old) (named : AllByRecursion (NamesText old) us) (accepted : Accepted im old us) where
+module _ (im : Images) (old : Pool) (us : List Used) (k : KeepsForms im) (w : IsWellFormed old) (used : EachLink (LinkUsed us) old) (named : AllByRecursion (NamesText old) us) (accepted : IsAccepted im old us) where
   abbrev New : Pool
   New = new_pool im old us
 
@@ -211,12 +211,12 @@ module _ (im : Images) (old : Pool) (us : List Used) (k : KeepsForms im) (w : We
 
   -- what a use of a body owes
   pub record Leading (kind : UseKind) (i i' : ℕ) : Type 0 where
-    pub small : Small i'
+    pub small : IsTwoBytes i'
     pub fits : misfit New kind i' ≡ None
     pub name : name_under New kind i' ≡ name_under old kind i
     pub value : value_of_kind New kind i' ≡ renamed_value im (value_of_kind old kind i)
 
-  leading : (kind : UseKind) (i : ℕ) (x : Bool) → (may_be_none kind && nat_eq i 0) ≡ x → Small i → (x ≡ false → Fitting old (target_of kind) i) → (x ≡ false → IsUsed us (target_of kind) i) → Leading kind i (index_by kind i x)
+  leading : (kind : UseKind) (i : ℕ) (x : Bool) → (may_be_none kind && nat_eq i 0) ≡ x → IsTwoBytes i → (x ≡ false → Fitting old (target_of kind) i) → (x ≡ false → IsUsed us (target_of kind) i) → Leading kind i (index_by kind i x)
   unfolding misfit
   leading kind i true p small f u = record { small = small; fits = rw p refl; name = none_suits old New kind i i p refl; value = rw p refl }
   leading kind i false p small f u =

@@ -14,7 +14,7 @@ use Rattle.desk_format.specs.Classes.{Class, Version, magic, first_major, last_m
 use Rattle.desk_format.specs.Laws.{IsBytes}
 use Rattle.std.proofs.lemmas.List.{take_at, drop_at}
 use Rattle.std.proofs.lemmas.Nat.{from_be_bytes-to_be_bytes_2}
-use Rattle.desk_laws.specs.Sound.{Small}
+use Rattle.desk_laws.specs.Sound.{IsTwoBytes}
 use Rattle.desk_laws.proofs.Inverse.{ok_is, Ensures, Gives, Bytes, ensures_ok, ensures_err, then_ensures, item_ensures, index_ensures}
 use Rattle.desk_laws.proofs.Spelled.{Spelled, Spells, spells_err, spells_done, spells_item, spells_number}
 use Rattle.desk_laws.proofs.Again.{item_is}
@@ -36,8 +36,8 @@ print_version v = (magic ++ two v.minor) ++ two v.major
 
 -- numbers of a version that is accepted
 pub record IsVersion (v : Version) : Type 0 where
-  pub minor : Small v.minor
-  pub major : Small v.major
+  pub minor : IsTwoBytes v.minor
+  pub major : IsTwoBytes v.major
   pub passes : (at : ℕ) (s : List ℕ) → checked_version v.minor v.major at s ≡ Ok (got v at s)
 
 abbrev too_old_or_new : ℕ → Bool
@@ -49,7 +49,7 @@ odd_minor minor major = nat_le 56 major && not (nat_eq minor 0 || nat_eq minor 6
 abbrev of_numbers : ℕ → ℕ → Version
 of_numbers minor major = record { minor = minor; major = major }
 
-version_ensured : (x y : Bool) (minor major at : ℕ) (s : List ℕ) (e f : Malformed) → too_old_or_new major ≡ x → odd_minor minor major ≡ y → Small minor → Small major → IsBytes s
+version_ensured : (x y : Bool) (minor major at : ℕ) (s : List ℕ) (e f : Malformed) → too_old_or_new major ≡ x → odd_minor minor major ≡ y → IsTwoBytes minor → IsTwoBytes major → IsBytes s
     → Ensures IsVersion (cond x (Err e) (cond y (Err f) (Ok (got (of_numbers minor major) at s))))
 version_ensured true y minor major at s e f p q a b c = ensures_err IsVersion e
 version_ensured false true minor major at s e f p q a b c = ensures_err IsVersion f
@@ -65,8 +65,8 @@ version_spelled false false minor major at s e f front b h = spells_done front p
 magic_ensured : (x : Bool) (at : ℕ) (s : List ℕ) (e : Malformed) → IsBytes s → Ensures IsVersion (cond x (version_read at s) (Err e))
 magic_ensured false at s e b = ensures_err IsVersion e
 magic_ensured true at s e b =
-    then_ensures Small IsVersion (number_read at s) _ (index_ensures at s b)
-    (λ minor at' s' small b'. then_ensures Small IsVersion (number_read at' s') _ (index_ensures at' s' b')
+    then_ensures IsTwoBytes IsVersion (number_read at s) _ (index_ensures at s b)
+    (λ minor at' s' small b'. then_ensures IsTwoBytes IsVersion (number_read at' s') _ (index_ensures at' s' b')
     (λ major at'' s'' small' b''. version_ensured (too_old_or_new major) (odd_minor minor major) minor major at'' s'' _ _ refl refl small small' b''))
 
 magic_spelled : (x : Bool) (m : List ℕ) (at : ℕ) (s : List ℕ) (e : Malformed) → bytes_eq m magic ≡ x → IsBytes s → Spells m print_version at s (cond x (version_read at s) (Err e))

@@ -11,7 +11,7 @@ use Rattle.desk_base.specs.Entries.{Entry, utf8, integer, float, long, double, c
 use Rattle.desk_base.specs.Entries.{Pool}
 use Rattle.desk_base.specs.Misfits.{or_else}
 use Rattle.desk_format.specs.PoolReading.{Got, got, Reader, item, then_read, done, body, with_bytes, with_index, with_two, number_read, well_formed_text, text_read, kind_read, tag_numbered, has_room, more, goes_on, entry_tagged, entry_read, read_slots, names_wrong, leads_wrong, first_fault, unless, checked, counted, read_pool}
-use Rattle.desk_laws.specs.Sound.{Small, Sound, Shaped, Links, WellFormed}
+use Rattle.desk_laws.specs.Sound.{IsTwoBytes, IsSound, IsShaped, Links, IsWellFormed}
 use Rattle.desk_format.specs.Laws.{IsBytes}
 use Rattle.desk_format.proofs.Exact.{IsBytes-drop, IsBytes-take}
 use Rattle.desk_laws.proofs.Passes.{neither, all_pass, each_both, Passes}
@@ -52,26 +52,26 @@ pub then_ensures : {A B : Type 0} (P : A → Type 0) (Q : B → Type 0) (r : Res
 then_ensures P Q (Ok g) next h k = let one : Gives P g = h.runs g refl in k g.value g.at g.left one.fact one.left
 then_ensures P Q (Err f) next h k = ensures_err Q f
 
-two_small : (b : List ℕ) → Bytes 2 b → Small (from_be_bytes w16 b)
+two_small : (b : List ℕ) → Bytes 2 b → IsTwoBytes (from_be_bytes w16 b)
 two_small b h = omega (arith, h.bytes 0, h.bytes 1)
 
-pub index_ensures : (at : ℕ) (s : List ℕ) → IsBytes s → Ensures Small (number_read at s)
-index_ensures at s b = then_ensures (Bytes 2) Small (item 2 at s) _ (item_ensures 2 at s b) (λ bytes at' s' k b'. ensures_ok Small _ (record { fact = two_small bytes k; left = b' }))
+pub index_ensures : (at : ℕ) (s : List ℕ) → IsBytes s → Ensures IsTwoBytes (number_read at s)
+index_ensures at s b = then_ensures (Bytes 2) IsTwoBytes (item 2 at s) _ (item_ensures 2 at s b) (λ bytes at' s' k b'. ensures_ok IsTwoBytes _ (record { fact = two_small bytes k; left = b' }))
 
 -- a text that an entry may be
 pub record Text (t : List ℕ) : Type 0 where
-  pub small : Small (length t)
+  pub small : IsTwoBytes (length t)
   pub good : bad_form t ≡ None
 
-text_good : (o : Option ℕ) (t : List ℕ) → bad_form t ≡ o → Small (length t) → (start at : ℕ) (s : List ℕ) → IsBytes s → Ensures Text (well_formed_text o t start at s)
+text_good : (o : Option ℕ) (t : List ℕ) → bad_form t ≡ o → IsTwoBytes (length t) → (start at : ℕ) (s : List ℕ) → IsBytes s → Ensures Text (well_formed_text o t start at s)
 text_good None t p small start at s b = ensures_ok Text _ (record { fact = record { small = small; good = p }; left = b })
 text_good (Some offset) t p small start at s b = ensures_err Text _
 
 text_ensures : (at : ℕ) (s : List ℕ) → IsBytes s → Ensures Text (text_read at s)
 text_ensures at s b =
-    then_ensures Small Text (number_read at s) _ (index_ensures at s b)
+    then_ensures IsTwoBytes Text (number_read at s) _ (index_ensures at s b)
     (λ n at' s' k b'. then_ensures (Bytes n) Text (item n at' s') _ (item_ensures n at' s' b')
-    (λ t at'' s'' j b''. let fits : Small (length t) = subst Small (sym j.long) k in text_good (bad_form t) t refl fits at' at'' s'' b''))
+    (λ t at'' s'' j b''. let fits : IsTwoBytes (length t) = subst IsTwoBytes (sym j.long) k in text_good (bad_form t) t refl fits at' at'' s'' b''))
 
 pub record Kind (k : ℕ) : Type 0 where
   pub low : 1 ≤ k
@@ -90,22 +90,22 @@ kind_ensures at s b = then_ensures (Bytes 1) Kind (item 1 at s) _ (item_ensures 
 -- an entry of a tag that is sound
 pub record Tagged (tag : Tag) (e : Entry) : Type 0 where
   pub tag_is : tag_of e ≡ tag
-  pub sound : Sound e
+  pub sound : IsSound e
 
 module _ (tag : Tag) where
   bytes_tagged : (n : ℕ) (make : List ℕ → Entry) (at : ℕ) (s : List ℕ) → IsBytes s → ((b : List ℕ) → length b ≡ n → Tagged tag (make b)) → Ensures (Tagged tag) (with_bytes n make at s)
   bytes_tagged n make at s b h = then_ensures (Bytes n) (Tagged tag) (item n at s) _ (item_ensures n at s b) (λ bytes at' s' k b'. ensures_ok (Tagged tag) _ (record { fact = h bytes k.long; left = b' }))
 
-  index_tagged : (make : ℕ → Entry) (at : ℕ) (s : List ℕ) → IsBytes s → ((i : ℕ) → Small i → Tagged tag (make i)) → Ensures (Tagged tag) (with_index make at s)
-  index_tagged make at s b h = then_ensures Small (Tagged tag) (number_read at s) _ (index_ensures at s b) (λ i at' s' k b'. ensures_ok (Tagged tag) _ (record { fact = h i k; left = b' }))
+  index_tagged : (make : ℕ → Entry) (at : ℕ) (s : List ℕ) → IsBytes s → ((i : ℕ) → IsTwoBytes i → Tagged tag (make i)) → Ensures (Tagged tag) (with_index make at s)
+  index_tagged make at s b h = then_ensures IsTwoBytes (Tagged tag) (number_read at s) _ (index_ensures at s b) (λ i at' s' k b'. ensures_ok (Tagged tag) _ (record { fact = h i k; left = b' }))
 
-  two_tagged : (make : ℕ → ℕ → Entry) (at : ℕ) (s : List ℕ) → IsBytes s → ((i j : ℕ) → Small i → Small j → Tagged tag (make i j)) → Ensures (Tagged tag) (with_two make at s)
-  two_tagged make at s b h = then_ensures Small (Tagged tag) (number_read at s) _ (index_ensures at s b) (λ i at' s' k b'. index_tagged (make i) at' s' b' (λ j small. h i j k small))
+  two_tagged : (make : ℕ → ℕ → Entry) (at : ℕ) (s : List ℕ) → IsBytes s → ((i j : ℕ) → IsTwoBytes i → IsTwoBytes j → Tagged tag (make i j)) → Ensures (Tagged tag) (with_two make at s)
+  two_tagged make at s b h = then_ensures IsTwoBytes (Tagged tag) (number_read at s) _ (index_ensures at s b) (λ i at' s' k b'. index_tagged (make i) at' s' b' (λ j small. h i j k small))
 
   text_tagged : (at : ℕ) (s : List ℕ) → IsBytes s → ((u : List ℕ) → Text u → Tagged tag (utf8 u)) → Ensures (Tagged tag) (then_read (text_read at s) (λ t. done (utf8 t)))
   text_tagged at s b h = then_ensures Text (Tagged tag) (text_read at s) _ (text_ensures at s b) (λ t at' s' k b'. ensures_ok (Tagged tag) _ (record { fact = h t k; left = b' }))
 
-  handle_tagged : (at : ℕ) (s : List ℕ) → IsBytes s → ((k i : ℕ) → Kind k → Small i → Tagged tag (method_handle k i)) → Ensures (Tagged tag) (then_read (kind_read at s) (λ kind. with_index (method_handle kind)))
+  handle_tagged : (at : ℕ) (s : List ℕ) → IsBytes s → ((k i : ℕ) → Kind k → IsTwoBytes i → Tagged tag (method_handle k i)) → Ensures (Tagged tag) (then_read (kind_read at s) (λ kind. with_index (method_handle kind)))
   handle_tagged at s b h = then_ensures Kind (Tagged tag) (kind_read at s) _ (kind_ensures at s b) (λ kind at' s' k b'. index_tagged (method_handle kind) at' s' b' (λ i small. h kind i k small))
 
 body_ensures : (tag : Tag) (at : ℕ) (s : List ℕ) → IsBytes s → Ensures (Tagged tag) (body tag at s)
@@ -131,7 +131,7 @@ body_ensures tags.Package at s b = index_tagged tags.Package package_named at s 
 -- so many slots
 pub record Slots (n : ℕ) (second : Bool) (pool : Pool) : Type 0 where
   pub many : length pool ≡ n
-  pub shaped : Shaped second pool
+  pub shaped : IsShaped second pool
 
 -- a second slot is to come only where one is left
 abbrev pub Awaits : ℕ → Bool → Type 0
@@ -144,37 +144,37 @@ awaits tags.Long zero h = absurd cc
 awaits tags.Double zero h = absurd cc
 awaits _ zero h = tt
 
-more_ensures : (slot : Option Entry) (n : ℕ) (second before : Bool) (r : Result (Got Pool) Malformed) → Ensures (Slots n second) r → ((pool : Pool) → Shaped second pool → Shaped before (slot ∷ pool)) → Ensures (Slots (suc n) before) (more slot r)
+more_ensures : (slot : Option Entry) (n : ℕ) (second before : Bool) (r : Result (Got Pool) Malformed) → Ensures (Slots n second) r → ((pool : Pool) → IsShaped second pool → IsShaped before (slot ∷ pool)) → Ensures (Slots (suc n) before) (more slot r)
 more_ensures slot n second before (Ok g) h k =
     let one : Gives (Slots n second) g = h.runs g refl in
     ensures_ok (Slots (suc n) before) _ (record { fact = record { many = ap suc one.fact.many; shaped = k g.value one.fact.shaped }; left = one.left })
 more_ensures slot n second before (Err f) h k = ensures_err (Slots (suc n) before) f
 
 -- an entry, with its second slot to come where it is wide
-pub record Placed (n : ℕ) (e : Entry) : Type 0 where
-  pub sound : Sound e
+pub record IsPlaced (n : ℕ) (e : Entry) : Type 0 where
+  pub sound : IsSound e
   pub awaits : Awaits n (is_wide (tag_of e))
 
-on_ensures : (n : ℕ) (r : Result (Got Entry) Malformed) (rest : Entry → Reader Pool) → Ensures (Placed n) r → ((e : Entry) → Awaits n (is_wide (tag_of e)) → (at : ℕ) (s : List ℕ) → IsBytes s → Ensures (Slots n (is_wide (tag_of e))) (rest e at s)) → Ensures (Slots (suc n) false) (goes_on r rest)
+on_ensures : (n : ℕ) (r : Result (Got Entry) Malformed) (rest : Entry → Reader Pool) → Ensures (IsPlaced n) r → ((e : Entry) → Awaits n (is_wide (tag_of e)) → (at : ℕ) (s : List ℕ) → IsBytes s → Ensures (Slots n (is_wide (tag_of e))) (rest e at s)) → Ensures (Slots (suc n) false) (goes_on r rest)
 on_ensures n (Ok e) rest h k =
-    let one : Gives (Placed n) e = h.runs e refl in
+    let one : Gives (IsPlaced n) e = h.runs e refl in
     more_ensures (Some e.value) n (is_wide (tag_of e.value)) false (rest e.value e.at e.left) (k e.value one.fact.awaits e.at e.left one.left) (λ pool shaped. (one.fact.sound, shaped))
 on_ensures n (Err f) rest h k = ensures_err (Slots (suc n) false) f
 
 weaker : {A : Type 0} (P Q : A → Type 0) (r : Result (Got A) Malformed) → ((a : A) → P a → Q a) → Ensures P r → Ensures Q r
 weaker P Q r f h = record { runs = λ g e. let one : Gives P g = h.runs g e in record { fact = f g.value one.fact; left = one.left } }
 
-room_by : (x : Bool) (tag : Tag) (n : ℕ) (f : Malformed) (at : ℕ) (s : List ℕ) → IsBytes s → has_room tag n ≡ x → Ensures (Placed n) (cond x (body tag at s) (Err f))
-room_by true tag n f at s b p = weaker (Tagged tag) (Placed n) (body tag at s) (λ e t. record { sound = t.sound; awaits = subst (λ (u : Tag). Awaits n (is_wide u)) (sym t.tag_is) (awaits tag n p) }) (body_ensures tag at s b)
-room_by false tag n f at s b p = ensures_err (Placed n) f
+room_by : (x : Bool) (tag : Tag) (n : ℕ) (f : Malformed) (at : ℕ) (s : List ℕ) → IsBytes s → has_room tag n ≡ x → Ensures (IsPlaced n) (cond x (body tag at s) (Err f))
+room_by true tag n f at s b p = weaker (Tagged tag) (IsPlaced n) (body tag at s) (λ e t. record { sound = t.sound; awaits = subst (λ (u : Tag). Awaits n (is_wide u)) (sym t.tag_is) (awaits tag n p) }) (body_ensures tag at s b)
+room_by false tag n f at s b p = ensures_err (IsPlaced n) f
 
-tagged_ensures : (o : Option Tag) (n place at : ℕ) (s : List ℕ) → IsBytes s → Ensures (Placed n) (entry_tagged o n place at s)
-tagged_ensures None n place at s b = ensures_err (Placed n) _
+tagged_ensures : (o : Option Tag) (n place at : ℕ) (s : List ℕ) → IsBytes s → Ensures (IsPlaced n) (entry_tagged o n place at s)
+tagged_ensures None n place at s b = ensures_err (IsPlaced n) _
 tagged_ensures (Some tag) n place at s b = room_by (has_room tag n) tag n _ at s b refl
 
-entry_ensures : (n at : ℕ) (s : List ℕ) → IsBytes s → Ensures (Placed n) (entry_read n at s)
+entry_ensures : (n at : ℕ) (s : List ℕ) → IsBytes s → Ensures (IsPlaced n) (entry_read n at s)
 unfolding entry_read
-entry_ensures n at s b = then_ensures (Bytes 1) (Placed n) (item 1 at s) _ (item_ensures 1 at s b) (λ tag at' s' k b'. tagged_ensures (tag_numbered (from_be_bytes w8 tag)) n at at' s' b')
+entry_ensures n at s b = then_ensures (Bytes 1) (IsPlaced n) (item 1 at s) _ (item_ensures 1 at s b) (λ tag at' s' k b'. tagged_ensures (tag_numbered (from_be_bytes w8 tag)) n at at' s' b')
 
 pub slots_ensure : (n : ℕ) (second : Bool) → Awaits n second → (at : ℕ) (s : List ℕ) → IsBytes s → Ensures (Slots n second) (read_slots n second at s)
 unfolding read_slots
@@ -189,10 +189,10 @@ slots_ensure (suc n) false a at s b = on_ensures n (entry_read n at s) _ (entry_
 
 -- ---- the pool
 
-check_by : (at : ℕ) (all : Got Pool) (o : Option Malformed) → or_else (first_fault (names_wrong all.value) at all.value) (first_fault (leads_wrong all.value) at all.value) ≡ o → Small (length all.value) → Gives (Slots (length all.value) false) all → Ensures WellFormed (unless o all)
+check_by : (at : ℕ) (all : Got Pool) (o : Option Malformed) → or_else (first_fault (names_wrong all.value) at all.value) (first_fault (leads_wrong all.value) at all.value) ≡ o → IsTwoBytes (length all.value) → Gives (Slots (length all.value) false) all → Ensures IsWellFormed (unless o all)
 check_by at all None p small h =
     let n = neither (first_fault (names_wrong all.value) at all.value) (first_fault (leads_wrong all.value) at all.value) p in
-    ensures_ok WellFormed all (record {
+    ensures_ok IsWellFormed all (record {
       fact = record {
         shaped = h.fact.shaped;
         small = small;
@@ -200,23 +200,23 @@ check_by at all None p small h =
       };
       left = h.left;
     })
-check_by at all (Some f) p small h = ensures_err WellFormed f
+check_by at all (Some f) p small h = ensures_err IsWellFormed f
 
-checked_ensures : (at n : ℕ) (r : Result (Got Pool) Malformed) → Small n → Ensures (Slots n false) r → Ensures WellFormed (checked at r)
+checked_ensures : (at n : ℕ) (r : Result (Got Pool) Malformed) → IsTwoBytes n → Ensures (Slots n false) r → Ensures IsWellFormed (checked at r)
 checked_ensures at n (Ok all) small h =
     let one : Gives (Slots n false) all = h.runs all refl in
-    let few : Small (length all.value) = subst Small (sym one.fact.many) small in
+    let few : IsTwoBytes (length all.value) = subst IsTwoBytes (sym one.fact.many) small in
     check_by at all _ refl few (record { fact = record { many = refl; shaped = one.fact.shaped }; left = one.left })
-checked_ensures at n (Err f) small h = ensures_err WellFormed f
+checked_ensures at n (Err f) small h = ensures_err IsWellFormed f
 
-counted_ensures : (count place at : ℕ) (s : List ℕ) → Small count → IsBytes s → Ensures WellFormed (counted count place at s)
-counted_ensures zero place at s small b = ensures_err WellFormed _
-counted_ensures (suc n) place at s small b = let fewer : Small n = omega arith in checked_ensures at n (read_slots n false at s) fewer (slots_ensure n false (calm n) at s b)
+counted_ensures : (count place at : ℕ) (s : List ℕ) → IsTwoBytes count → IsBytes s → Ensures IsWellFormed (counted count place at s)
+counted_ensures zero place at s small b = ensures_err IsWellFormed _
+counted_ensures (suc n) place at s small b = let fewer : IsTwoBytes n = omega arith in checked_ensures at n (read_slots n false at s) fewer (slots_ensure n false (calm n) at s b)
   where
     calm : (n : ℕ) → Awaits n false
     calm zero = tt
     calm (suc n) = tt
 
-pub pool_ensures : (at : ℕ) (s : List ℕ) → IsBytes s → Ensures WellFormed (read_pool at s)
+pub pool_ensures : (at : ℕ) (s : List ℕ) → IsBytes s → Ensures IsWellFormed (read_pool at s)
 unfolding read_pool
-pool_ensures at s b = then_ensures Small WellFormed (number_read at s) _ (index_ensures at s b) (λ count at' s' k b'. counted_ensures count at at' s' k b')
+pool_ensures at s b = then_ensures IsTwoBytes IsWellFormed (number_read at s) _ (index_ensures at s b) (λ count at' s' k b'. counted_ensures count at at' s' k b')

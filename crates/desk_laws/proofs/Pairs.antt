@@ -12,7 +12,7 @@ use Rattle.desk_format.specs.Values.{value_of_kind}
 use Rattle.desk_format.specs.Resolved.{Images, value, renamed_value}
 use Rattle.desk_format.specs.Members.{Named, Twins, named_in, are_twins, twins_or, twins_behind, first_twins, member_of, member_by, member_in, members}
 use Rattle.desk_format.specs.NewClass.{renamed_in}
-use Rattle.desk_laws.specs.Classes.{Settled}
+use Rattle.desk_laws.specs.Classes.{IsSettled}
 
 -- two members of the same kind, name and descriptor
 pub record Same (named named' : Member → Named) (a b : Member) : Type 0 where
@@ -131,5 +131,5 @@ pub new_naming : (im : Images) (old new : Pool) → Naming im old new (renamed_i
 new_naming im old new = record { same = λ a b p q. ap₂ named_by p q }
 
 -- and so are their images
-pub again_naming : (im : Images) (old new : Pool) → Settled im → Naming im old new (renamed_in im old) (renamed_in im new)
+pub again_naming : (im : Images) (old new : Pool) → IsSettled im → Naming im old new (renamed_in im old) (renamed_in im new)
 again_naming im old new s = record { same = λ a b p q. ap₂ named_by p (ap im.desc q ∙ s.again roles.Descriptor (text_at old a.descriptor)) }

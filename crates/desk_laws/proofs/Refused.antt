@@ -10,7 +10,7 @@ use Rattle.desk_format.specs.Resolved.{Images}
 use Rattle.desk_format.specs.Split.{Want, wanted}
 use Rattle.desk_format.specs.NewPool.{wants, wish}
 use Rattle.desk_format.specs.NewClass.{Refusal, is_long, any_long, overlong_from, full_at}
-use Rattle.desk_laws.specs.Sound.{Small}
+use Rattle.desk_laws.specs.Sound.{IsTwoBytes}
 use Rattle.desk_laws.proofs.Split.{IsWant}
 use Rattle.desk_laws.proofs.Slots.{in_range}
 use Rattle.desk_laws.proofs.Moved.{is_utf8}
@@ -20,10 +20,10 @@ or_false : (a b : Bool) → (a || b) ≡ false → (a ≡ false) × (b ≡ false
 or_false true b h = absurd cc
 or_false false b h = (refl, h)
 
-short_is : (t : Text) → is_long t ≡ false → Small (length t)
+short_is : (t : Text) → is_long t ≡ false → IsTwoBytes (length t)
 short_is t h = let le : length t ≤ 65535 = ltb-false 65535 (length t) h in omega arith
 
-is_short : (t : Text) → Small (length t) → is_long t ≡ false
+is_short : (t : Text) → IsTwoBytes (length t) → is_long t ≡ false
 is_short t h = le-ltb 65535 (length t) (omega arith)
 
 -- ---- no text is too long
@@ -68,7 +68,7 @@ index_short ws pool (suc j) t h e =
 
 -- the wants of uses that are among all
 short_among : (im : Images) (old : Pool) (all : List Want) (us : List Used) → overlong_from all 1 old ≡ None → AllByRecursion (NamesText old) us → ((w : Want) → IsWant (wants im old us) w → IsWant all w)
-    → AllByRecursion (λ (w : Want). Small (length w.text)) (wants im old us)
+    → AllByRecursion (λ (w : Want). IsTwoBytes (length w.text)) (wants im old us)
 short_among im old all [] h n among = tt
 short_among im old all (u ∷ us) h n among =
     let p = is_utf8 (entry_at old u.index) n.0 in
@@ -76,12 +76,12 @@ short_among im old all (u ∷ us) h n among =
     let short : is_long (wish im old u.role u.index).text ≡ false = want_short all (wish im old u.role u.index) (among (wish im old u.role u.index) (inl refl)) (index_short all old u.index p.0 h p.1) in
     (short_is (wish im old u.role u.index).text short, short_among im old all us h n.1 (λ v is. among v (inr is)))
 
-pub all_short : (im : Images) (old : Pool) (us : List Used) → overlong_from (wants im old us) 1 old ≡ None → AllByRecursion (NamesText old) us → AllByRecursion (λ (w : Want). Small (length w.text)) (wants im old us)
+pub all_short : (im : Images) (old : Pool) (us : List Used) → overlong_from (wants im old us) 1 old ≡ None → AllByRecursion (NamesText old) us → AllByRecursion (λ (w : Want). IsTwoBytes (length w.text)) (wants im old us)
 all_short im old us h n = short_among im old (wants im old us) us h n (λ w is. is)
 
 -- ---- and back
 
-wanted_short : (i : ℕ) (ws : List Want) → AllByRecursion (λ (w : Want). Small (length w.text)) ws → any_long (wanted i ws) ≡ false
+wanted_short : (i : ℕ) (ws : List Want) → AllByRecursion (λ (w : Want). IsTwoBytes (length w.text)) ws → any_long (wanted i ws) ≡ false
 wanted_short i [] h = refl
 wanted_short i (w ∷ ws) h = kept_short (nat_eq w.index i) w.text (wanted i ws) (is_short w.text h.0) (wanted_short i ws h.1)
   where
@@ -89,7 +89,7 @@ wanted_short i (w ∷ ws) h = kept_short (nat_eq w.index i) w.text (wanted i ws)
     kept_short true t ts p q = rw (p, q) refl
     kept_short false t ts p q = q
 
-pub none_overlong : (ws : List Want) (k : ℕ) (pool : Pool) → AllByRecursion (λ (w : Want). Small (length w.text)) ws → overlong_from ws k pool ≡ None
+pub none_overlong : (ws : List Want) (k : ℕ) (pool : Pool) → AllByRecursion (λ (w : Want). IsTwoBytes (length w.text)) ws → overlong_from ws k pool ≡ None
 none_overlong ws k [] h = refl
 none_overlong ws k (slot ∷ slots) h = rw (wanted_short k ws h) (none_overlong ws (suc k) slots h)
 
@@ -99,8 +99,8 @@ full_by : (x : Bool) (r : Refusal) → cond x (Some r) None ≡ None → x ≡ f
 full_by true r h = absurd cc
 full_by false r h = refl
 
-pub has_room : (count needed : ℕ) → full_at count needed ≡ None → Small (count + needed)
+pub has_room : (count needed : ℕ) → full_at count needed ≡ None → IsTwoBytes (count + needed)
 has_room count needed h = let le : count + needed ≤ 65535 = ltb-false 65535 (count + needed) (full_by (nat_lt 65535 (count + needed)) _ h) in omega arith
 
-pub not_full : (count needed : ℕ) → Small (count + needed) → full_at count needed ≡ None
+pub not_full : (count needed : ℕ) → IsTwoBytes (count + needed) → full_at count needed ≡ None
 not_full count needed h = rw (le-ltb 65535 (count + needed) (omega arith)) refl

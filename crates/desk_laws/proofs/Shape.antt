@@ -9,7 +9,7 @@ use Rattle.desk_base.specs.Entries.{Pool}
 use Rattle.desk_base.specs.declared.targets.Target.{Target}
 use Rattle.desk_base.specs.declared.targets.Target.TheVariants as targets
 use Rattle.desk_base.specs.Targets.{Link, link, links, handled}
-use Rattle.desk_laws.specs.Sound.{Small, Sound, Shaped, EachLink}
+use Rattle.desk_laws.specs.Sound.{IsTwoBytes, IsSound, IsShaped, EachLink}
 use Rattle.desk_format.specs.Split.{Want, wanted, holds, keep, kept_entry, kept, has_text, add, missing, entry_of}
 use Rattle.desk_format.specs.NewPool.{Choice, with_texts}
 use Rattle.desk_laws.proofs.Indices.{reindexed}
@@ -17,7 +17,7 @@ use Rattle.desk_laws.proofs.Moved.{handled_all}
 
 -- a text that an entry may hold
 pub record Holdable (t : List ℕ) : Type 0 where
-  pub small : Small (length t)
+  pub small : IsTwoBytes (length t)
   pub good : bad_form t ≡ None
 
 abbrev pub WantHoldable : Want → Type 0
@@ -49,14 +49,14 @@ missing_holdable pool (w ∷ ws) h =
 
 -- the new index of a text is small
 abbrev pub NewSmall : Choice → Target → ℕ → Type 0
-NewSmall g (targets.Text role form) i = Small (g role i)
+NewSmall g (targets.Text role form) i = IsTwoBytes (g role i)
 NewSmall g _ i = Unit {0}
 
 abbrev pub LinkSmall : Choice → Link → Type 0
 LinkSmall g l = NewSmall g l.target l.index
 
 module _ (g : Choice) (ws : List Want) (wants : AllByRecursion WantHoldable ws) where
-  sound_new : (k : ℕ) (e : Entry) → Sound e → AllByRecursion (LinkSmall g) (links e) → Sound (with_texts g (kept_entry ws k e))
+  sound_new : (k : ℕ) (e : Entry) → IsSound e → AllByRecursion (LinkSmall g) (links e) → IsSound (with_texts g (kept_entry ws k e))
   sound_new k (utf8 t) s h = let o : Holdable (keep t (wanted k ws)) = keep_holdable t (wanted k ws) (record { small = s.0; good = s.1 }) (all_wanted k ws wants) in (o.small, o.good)
   sound_new k (class i) s h = h.0
   sound_new k (string i) s h = h.0
@@ -71,18 +71,18 @@ module _ (g : Choice) (ws : List Want) (wants : AllByRecursion WantHoldable ws) 
   same_wide k (class i) = refl
   same_wide k _ = refl
 
-  shaped_texts : (ts : List (List ℕ)) → AllByRecursion Holdable ts → Shaped false (map (option_map (with_texts g)) (map entry_of ts))
+  shaped_texts : (ts : List (List ℕ)) → AllByRecursion Holdable ts → IsShaped false (map (option_map (with_texts g)) (map entry_of ts))
   shaped_texts [] h = tt
   shaped_texts (t ∷ ts) h = ((h.0.small, h.0.good), shaped_texts ts h.1)
 
-  pub shaped_new : (k : ℕ) (second : Bool) (slots : Pool) (ts : List (List ℕ)) → Shaped second slots → EachLink (LinkSmall g) slots → AllByRecursion Holdable ts → Shaped second (map (option_map (with_texts g)) (kept ws k slots ++ map entry_of ts))
+  pub shaped_new : (k : ℕ) (second : Bool) (slots : Pool) (ts : List (List ℕ)) → IsShaped second slots → EachLink (LinkSmall g) slots → AllByRecursion Holdable ts → IsShaped second (map (option_map (with_texts g)) (kept ws k slots ++ map entry_of ts))
   shaped_new k false [] ts s h o = shaped_texts ts o
   shaped_new k true [] ts s h o = absurd s
   shaped_new k true (None ∷ slots) ts s h o = shaped_new (suc k) false slots ts s h o
   shaped_new k true (Some e ∷ slots) ts s h o = absurd s
   shaped_new k false (None ∷ slots) ts s h o = absurd s
   shaped_new k false (Some e ∷ slots) ts s h o =
-      (sound_new k e s.0 h.0, subst (λ (x : Bool). Shaped x (map (option_map (with_texts g)) (kept ws (suc k) slots ++ map entry_of ts))) (sym (same_wide k e)) (shaped_new (suc k) (is_wide (tag_of e)) slots ts s.1 h.1 o))
+      (sound_new k e s.0 h.0, subst (λ (x : Bool). IsShaped x (map (option_map (with_texts g)) (kept ws (suc k) slots ++ map entry_of ts))) (sym (same_wide k e)) (shaped_new (suc k) (is_wide (tag_of e)) slots ts s.1 h.1 o))
 
   -- ---- links
 

@@ -4,7 +4,7 @@ use Rattle.std.proofs.lemmas.List.{take_at, drop_at, take-append-drop}
 use Rattle.desk_base.specs.declared.kinds.Used.{Used}
 use Rattle.desk_base.specs.Entries.{Pool}
 use Rattle.desk_base.specs.Misfits.{or_else}
-use Rattle.desk_format.specs.Trees.{Tree, Use, Each, Placed, print, uses}
+use Rattle.desk_format.specs.Trees.{Tree, Use, Each, IsPlaced, print, uses}
 use Rattle.desk_format.specs.Reading.{read}
 use Rattle.desk_format.specs.Reading.{Got as ReadTree}
 use Rattle.desk_format.specs.ClassBody.{class_body}
@@ -19,15 +19,15 @@ use Rattle.desk_format.specs.NewPool.{wants, choice, new_pool, added, change_by}
 use Rattle.desk_format.specs.NewClass.{refusal, overlong_in, full_in, twins_of, twins_refusal, renamed_in, new_class, new_bytes}
 use Rattle.desk_format.proofs.Exact.{IsBytes-drop, Taken, exact}
 use Rattle.desk_format.proofs.Patched.{patch_tree, Each-map, renamed_bodies}
-use Rattle.desk_laws.specs.Sound.{Small, WellFormed}
-use Rattle.desk_laws.specs.NewPools.{KeepsForms, Accepted, IsRenamedPool, all_uses}
-use Rattle.desk_laws.specs.Classes.{IsPrintedClass, PrintedClasses, IsRenamedClass, RenamedClasses, RefusedTwins, Settled, IsUnchangedClass, UnchangedClasses}
+use Rattle.desk_laws.specs.Sound.{IsTwoBytes, IsWellFormed}
+use Rattle.desk_laws.specs.NewPools.{KeepsForms, IsAccepted, IsRenamedPool, all_uses}
+use Rattle.desk_laws.specs.Classes.{IsPrintedClass, PrintedClasses, IsRenamedClass, RenamedClasses, RefusedTwins, IsSettled, IsUnchangedClass, UnchangedClasses}
 use Rattle.desk_laws.proofs.Passes.{Neither, neither, or_else-none}
 use Rattle.desk_laws.proofs.Inverse.{Gives, pool_ensures}
 use Rattle.desk_laws.proofs.Spelled.{Spelled, pool_spelled}
 use Rattle.desk_laws.proofs.Again.{pool_again}
 use Rattle.desk_laws.proofs.Bodies.{new_pools, all_named}
-use Rattle.desk_laws.proofs.Second.{IsUnchanged, second, Placed-exchange}
+use Rattle.desk_laws.proofs.Second.{IsUnchanged, second, IsPlaced-exchange}
 use Rattle.desk_laws.proofs.Header.{Header, ClassParts, class_ok, class_again}
 use Rattle.desk_laws.proofs.Pairs.{Leads, no_twins, alike_back, members_alike, new_naming, again_naming}
 use Rattle.desk_laws.proofs.Refused.{all_short, none_overlong, has_room, not_full}
@@ -40,7 +40,7 @@ pub record Known (bytes : List ℕ) : Type 0 where
   pub header : Header bytes version
   pub pool : Got Pool
   pub body : ReadTree
-  pub well_formed : WellFormed pool.value
+  pub well_formed : IsWellFormed pool.value
   pub parts : drop 8 bytes ≡ print_pool pool.value ++ pool.left
   pub place : pool.at ≡ 8 + length (print_pool pool.value)
   pub left : IsBytes pool.left
@@ -61,7 +61,7 @@ known_of bytes c b h =
     let p : ClassParts bytes c = class_ok bytes c b h in
     let behind : IsBytes (drop 8 bytes) = IsBytes-drop 8 bytes b in
     let o : Spelled [] print_pool 8 (drop 8 bytes) p.pool = (pool_spelled 8 (drop 8 bytes) behind).runs p.pool p.pool_ok in
-    let g : Gives WellFormed p.pool = (pool_ensures 8 (drop 8 bytes) behind).runs p.pool p.pool_ok in
+    let g : Gives IsWellFormed p.pool = (pool_ensures 8 (drop 8 bytes) behind).runs p.pool p.pool_ok in
     record {
       known = record {
         version = p.version;
@@ -151,7 +151,7 @@ module _ (im : Images) (bytes : List ℕ) (k : Known bytes) (keeps : KeepsForms 
   abbrev By : Change
   By = change_by (choice im k.pool.value (all_uses 10 k.pool.value k.body.tree)) k.pool.at To
 
-  accepted : Accepted im k.pool.value (all_uses 10 k.pool.value k.body.tree)
+  accepted : IsAccepted im k.pool.value (all_uses 10 k.pool.value k.body.tree)
   accepted = record {
     short = all_short im k.pool.value Uses short (all_named 10 k.pool.value k.body.tree k.well_formed.linked k.taken.fits);
     room = has_room (suc (length k.pool.value)) (length (added im k.pool.value Uses)) room;
@@ -166,8 +166,8 @@ module _ (im : Images) (bytes : List ℕ) (k : Known bytes) (keeps : KeepsForms 
   each_leads : Each (Leads im k.pool.value New By) k.body.tree
   each_leads = Each-map (Renames im k.pool.value New By) (Leads im k.pool.value New By) k.body.tree (λ u r. record { leads = r.leads }) each_renames
 
-  few : Small (suc (length New))
-  few = let room : Small (suc (length k.pool.value) + length (added im k.pool.value Uses)) = accepted.room in omega (arith, renamed_pool.pool.count)
+  few : IsTwoBytes (suc (length New))
+  few = let room : IsTwoBytes (suc (length k.pool.value) + length (added im k.pool.value Uses)) = accepted.room in omega (arith, renamed_pool.pool.count)
 
   renamed_body : IsRenamedBody im k.pool.value New By class_body k.pool.at k.pool.left k.body
   renamed_body = renamed_bodies im k.pool.value New By class_body k.pool.at k.pool.left k.body k.left k.reads (omega arith) each_renames
@@ -205,7 +205,7 @@ module _ (im : Images) (bytes : List ℕ) (k : Known bytes) (keeps : KeepsForms 
 
   -- ---- a second time
 
-  module _ (settled : Settled im) where
+  module _ (settled : IsSettled im) where
     abbrev Tree' : Tree Use
     Tree' = exchange By k.body.tree
 
@@ -223,15 +223,15 @@ module _ (im : Images) (bytes : List ℕ) (k : Known bytes) (keeps : KeepsForms 
     -- the patched bytes are those of the new tree
     patched-is : Patched ≡ print Tree' ++ k.body.left
     patched-is =
-        let here : Placed (k.pool.at + 0) k.body.tree = subst (λ (n : ℕ). Placed n k.body.tree) (omega arith) k.taken.placed in
+        let here : IsPlaced (k.pool.at + 0) k.body.tree = subst (λ (n : ℕ). IsPlaced n k.body.tree) (omega arith) k.taken.placed in
         ap (patch By.index k.pool.at (uses k.body.tree)) k.taken.parts ∙ patch_tree By k.pool.at k.body.tree [] k.body.left here
 
     abbrev Again : Change
     Again = change_by (choice im New (all_uses 10 New Tree')) To To
 
-    patched_again : Placed To Tree' → patch Again.index To (uses Tree') Patched ≡ Patched
+    patched_again : IsPlaced To Tree' → patch Again.index To (uses Tree') Patched ≡ Patched
     patched_again placed =
-        let here : Placed (To + 0) Tree' = subst (λ (n : ℕ). Placed n Tree') (omega arith) placed in
+        let here : IsPlaced (To + 0) Tree' = subst (λ (n : ℕ). IsPlaced n Tree') (omega arith) placed in
         ap (patch Again.index To (uses Tree')) patched-is
         ∙ patch_tree Again To Tree' [] k.body.left here
         ∙ ap (λ (t : Tree Use). print t ++ k.body.left) stable.same_tree
@@ -246,15 +246,15 @@ module _ (im : Images) (bytes : List ℕ) (k : Known bytes) (keeps : KeepsForms 
     behind_again : drop To Bytes' ≡ Patched
     behind_again = drop_at (take 8 bytes ++ print_pool New) Patched To (omega (arith, length-append (take 8 bytes) (print_pool New), front_long bytes k))
 
-    same_again : Placed To Tree' → new_bytes im Bytes' (new_class im (class_by k)) ≡ Bytes'
+    same_again : IsPlaced To Tree' → new_bytes im Bytes' (new_class im (class_by k)) ≡ Bytes'
     same_again placed =
         ap₂ (λ (x y : List ℕ). (x ++ print_pool (new_pool im New (all_uses 10 New Tree'))) ++ patch Again.index To (uses Tree') y) front_again behind_again
         ∙ ap₂ (λ (p : Pool) (y : List ℕ). (take 8 bytes ++ print_pool p) ++ y) stable.same_pool (patched_again placed)
 
-    new_placed : Placed To Tree'
+    new_placed : IsPlaced To Tree'
     new_placed =
         let place : moved By k.pool.at ≡ To = omega arith in
-        subst (λ (n : ℕ). Placed n Tree') place (Placed-exchange By k.pool.at k.body.tree (omega arith) k.taken.placed)
+        subst (λ (n : ℕ). IsPlaced n Tree') place (IsPlaced-exchange By k.pool.at k.body.tree (omega arith) k.taken.placed)
 
     known_unchanged : no_new_twins im (class_by k) → IsUnchangedClass im (new_bytes im bytes (class_by k)) (new_class im (class_by k))
     known_unchanged none = record {

@@ -17,7 +17,7 @@ use Rattle.desk_format.specs.Laws.{Renames}
 use Rattle.desk_format.specs.PoolBytes.{pool_uses}
 use Rattle.desk_format.specs.Split.{Want, entry_of}
 use Rattle.desk_format.specs.NewPool.{wants, new_pool, added, choice, change_by}
-use Rattle.desk_laws.specs.Sound.{Small, WellFormed}
+use Rattle.desk_laws.specs.Sound.{IsTwoBytes, IsWellFormed}
 
 -- The image of a text has the form that the text has, where the form goes with its role, and stays modified UTF-8.
 pub record KeepsForms (im : Images) : Type 0 where
@@ -25,14 +25,14 @@ pub record KeepsForms (im : Images) : Type 0 where
   pub utf8 : (role : Role) (t : Text) → bad_form t ≡ None → bad_form (image im role t) ≡ None
 
 -- No wanted text is above 65,535 bytes, and neither is the new count.
-pub record Accepted (im : Images) (old : Pool) (us : List Used) : Type 0 where
-  pub short : AllByRecursion (λ (w : Want). Small (length w.text)) (wants im old us)
-  pub room : Small (suc (length old) + length (added im old us))
+pub record IsAccepted (im : Images) (old : Pool) (us : List Used) : Type 0 where
+  pub short : AllByRecursion (λ (w : Want). IsTwoBytes (length w.text)) (wants im old us)
+  pub room : IsTwoBytes (suc (length old) + length (added im old us))
 
 -- The new pool is well-formed; its count is the old one and that of the missing texts, which stand behind it in byte order;
 -- each old index keeps its tag; and each that is no Utf8 leads to the renamed value.
 pub record IsNewPool (im : Images) (old : Pool) (us : List Used) (new : Pool) : Type 0 where
-  pub well_formed : WellFormed new
+  pub well_formed : IsWellFormed new
   pub count : length new ≡ length old + length (added im old us)
   pub appended : drop (length old) new ≡ map entry_of (added im old us)
   pub same_tags : (i : ℕ) → i ≤ length old → tag_at new i ≡ tag_at old i
@@ -51,5 +51,5 @@ all_uses at pool body = pool_uses at pool ++ uses body
 
 -- For each well-formed pool, whose first entry stands at an offset, and each body whose indices fit it.
 abbrev pub NewPools : Type 0
-NewPools = (im : Images) (at : ℕ) (old : Pool) (body : Tree Use) → KeepsForms im → WellFormed old → Each (Fits old) body → Accepted im old (all_uses at old body)
+NewPools = (im : Images) (at : ℕ) (old : Pool) (body : Tree Use) → KeepsForms im → IsWellFormed old → Each (Fits old) body → IsAccepted im old (all_uses at old body)
     → IsRenamedPool im old (all_uses at old body) body (new_pool im old (all_uses at old body))

@@ -7,37 +7,37 @@ use Rattle.desk_base.specs.Entries.{Pool}
 use Rattle.desk_base.specs.Targets.{Link, links}
 use Rattle.desk_format.specs.PoolReading.{names_wrong, leads_wrong}
 
-abbrev pub Small : ℕ → Type 0
-Small i = i < 2 ^ 16
+abbrev pub IsTwoBytes : ℕ → Type 0
+IsTwoBytes i = i < 2 ^ 16
 
 -- The numbers of an entry fit their widths, and a text its length and its form.
-abbrev pub Sound : Entry → Type 0
-Sound (utf8 t) = Small (length t) × (bad_form t ≡ None)
-Sound (integer b) = length b ≡ 4
-Sound (float b) = length b ≡ 4
-Sound (long b) = length b ≡ 8
-Sound (double b) = length b ≡ 8
-Sound (class i) = Small i
-Sound (string i) = Small i
-Sound (fieldref c n) = Small c × Small n
-Sound (methodref c n) = Small c × Small n
-Sound (interface_methodref c n) = Small c × Small n
-Sound (name_and_type n d) = Small n × Small d
-Sound (method_handle k i) = (1 ≤ k) × (k ≤ 9) × Small i
-Sound (method_type d) = Small d
-Sound (dynamic n i) = Small n × Small i
-Sound (invoke_dynamic n i) = Small n × Small i
-Sound (module_named i) = Small i
-Sound (package_named i) = Small i
+abbrev pub IsSound : Entry → Type 0
+IsSound (utf8 t) = IsTwoBytes (length t) × (bad_form t ≡ None)
+IsSound (integer b) = length b ≡ 4
+IsSound (float b) = length b ≡ 4
+IsSound (long b) = length b ≡ 8
+IsSound (double b) = length b ≡ 8
+IsSound (class i) = IsTwoBytes i
+IsSound (string i) = IsTwoBytes i
+IsSound (fieldref c n) = IsTwoBytes c × IsTwoBytes n
+IsSound (methodref c n) = IsTwoBytes c × IsTwoBytes n
+IsSound (interface_methodref c n) = IsTwoBytes c × IsTwoBytes n
+IsSound (name_and_type n d) = IsTwoBytes n × IsTwoBytes d
+IsSound (method_handle k i) = (1 ≤ k) × (k ≤ 9) × IsTwoBytes i
+IsSound (method_type d) = IsTwoBytes d
+IsSound (dynamic n i) = IsTwoBytes n × IsTwoBytes i
+IsSound (invoke_dynamic n i) = IsTwoBytes n × IsTwoBytes i
+IsSound (module_named i) = IsTwoBytes i
+IsSound (package_named i) = IsTwoBytes i
 
 -- Behind each Long or Double stands its second slot, and such slots stand nowhere else.
-abbrev pub Shaped : Bool → Pool → Type 0
-Shaped false [] = Unit {0}
-Shaped true [] = ⊥
-Shaped true (None ∷ slots) = Shaped false slots
-Shaped true (Some e ∷ slots) = ⊥
-Shaped false (None ∷ slots) = ⊥
-Shaped false (Some e ∷ slots) = Sound e × Shaped (is_wide (tag_of e)) slots
+abbrev pub IsShaped : Bool → Pool → Type 0
+IsShaped false [] = Unit {0}
+IsShaped true [] = ⊥
+IsShaped true (None ∷ slots) = IsShaped false slots
+IsShaped true (Some e ∷ slots) = ⊥
+IsShaped false (None ∷ slots) = ⊥
+IsShaped false (Some e ∷ slots) = IsSound e × IsShaped (is_wide (tag_of e)) slots
 
 -- a fact of each index of each entry
 abbrev pub EachLink : (Link → Type 0) → Pool → Type 0
@@ -50,7 +50,7 @@ pub record Links (pool : Pool) (l : Link) : Type 0 where
   pub names : names_wrong pool l ≡ None
   pub leads : leads_wrong pool l ≡ None
 
-pub record WellFormed (pool : Pool) : Type 0 where
-  pub shaped : Shaped false pool
-  pub small : Small (length pool)
+pub record IsWellFormed (pool : Pool) : Type 0 where
+  pub shaped : IsShaped false pool
+  pub small : IsTwoBytes (length pool)
   pub linked : EachLink (Links pool) pool
