@@ -6,3 +6,4 @@ pub mod SampleFaults
 pub mod TagLemmas
 pub mod Walks
 pub mod Nested
+pub mod Named

@@ -9,7 +9,7 @@ use Rattle.desk_format.specs.Annotations.{element, element_value, target, path_s
 use Rattle.desk_format.specs.PoolReading.{tag_numbered}
 use Rattle.desk_format.specs.Tags.{may_begin, is_numbered}
 
-abbrev same : Bool → Bool → Bool
+abbrev pub same : Bool → Bool → Bool
 same true b = b
 same false true = false
 same false false = true
@@ -19,7 +19,7 @@ same_is true b h = sym h
 same_is false true h = absurd cc
 same_is false false h = refl
 
-abbrev all_below : (ℕ → Bool) → ℕ → Bool
+abbrev pub all_below : (ℕ → Bool) → ℕ → Bool
 all_below p zero = true
 all_below p (suc n) = p n && all_below p n
 
@@ -27,7 +27,7 @@ both_true : (a b : Bool) → (a && b) ≡ true → (a ≡ true) × (b ≡ true)
 both_true true b h = (refl, h)
 both_true false b h = absurd cc
 
-at_each : (p : ℕ → Bool) (n : ℕ) → all_below p n ≡ true → (t : ℕ) → t < n → p t ≡ true
+pub at_each : (p : ℕ → Bool) (n : ℕ) → all_below p n ≡ true → (t : ℕ) → t < n → p t ≡ true
 at_each p zero h t lt = absurd (omega arith)
 at_each p (suc n) h t lt =
     let parts = both_true (p n) (all_below p n) h in
@@ -37,7 +37,7 @@ at_each p (suc n) h t lt =
     ]
 
 -- two tests agree on each byte
-each_byte : (f g : ℕ → Bool) → all_below (λ t. same (f t) (g t)) 256 ≡ true → (t : ℕ) → t < 256 → f t ≡ g t
+pub each_byte : (f g : ℕ → Bool) → all_below (λ t. same (f t) (g t)) 256 ≡ true → (t : ℕ) → t < 256 → f t ≡ g t
 each_byte f g h t lt = same_is (f t) (g t) (at_each (λ n. same (f n) (g n)) 256 h t lt)
 
 abbrev pub from_to : ℕ → ℕ → ℕ → Bool

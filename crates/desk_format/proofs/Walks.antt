@@ -313,6 +313,20 @@ times_begin reader n w = let z : n - 0 ≡ n = omega arith in ap (λ (m : ℕ). 
 pub times_stopped : (e : ReadFault) (us : List Used) (reader : Reader) (n i : ℕ) (w : Walk) (total : Result Walk Failed) → i < n → walk (times (n - i) reader) w ≡ total → Stops e (walk reader w) us → Stops e total us
 times_stopped e us reader n i w total h so_far k = stops e _ _ us k (λ f p. times_stops reader n i w total f h so_far p)
 
+-- ---- a tag and what it selects, for the tactics
+
+pub tagged_walked : {T : Type 0} (result : Result T ReadFault) (spot : Spot) (us : List Used) (pool : Pool) (check : Check) (branch : ℕ → Layout) (w : Walk) (tag : ℕ) → 1 ≤ length w.left → tag ≡ from_be_bytes w8 (take 1 w.left)
+    → check tag ≡ None → Walks result (walk (read pool (branch tag)) (record { uses = w.uses; at = w.at + 1; left = drop 1 w.left })) spot us → Walks result (walk (read pool (Layout.tagged check branch)) w) spot us
+tagged_walked result spot us pool check branch w tag room is ok h = rw (tagged_walks pool check branch w tag room is ok) h
+
+pub tagged_faulted : (pool : Pool) (check : Check) (branch : ℕ → Layout) (w : Walk) (tag : ℕ) (kind : FaultKind) → 1 ≤ length w.left → tag ≡ from_be_bytes w8 (take 1 w.left) → check tag ≡ Some kind
+    → Stops (read_faults.Malformed (record { kind = kind; at = w.at })) (walk (read pool (Layout.tagged check branch)) w) w.uses
+tagged_faulted pool check branch w tag kind room is bad = tagged_faults pool check branch w tag kind room is bad
+
+pub tagged_truncated : (pool : Pool) (check : Check) (branch : ℕ → Layout) (w : Walk) → length w.left < 1
+    → Stops (read_faults.Malformed (record { kind = faults.Truncated; at = w.at })) (walk (read pool (Layout.tagged check branch)) w) w.uses
+tagged_truncated pool check branch w short = tagged_short pool check branch w short
+
 -- ---- a field or method
 
 marked-walked : (us : List Used) (r : Result Got Failed) → walked us (marked r) ≡ walked us r
