@@ -22,3 +22,4 @@ pub mod Servlet
 pub mod Tags
 pub mod Renames
 pub mod Walk
+pub mod Compiled

@@ -2,6 +2,7 @@
 #![tactic(auto)]
 
 mod attributes;
+pub mod compiled;
 mod laws;
 mod members;
 pub mod renames;
