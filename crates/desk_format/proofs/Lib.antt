@@ -1,0 +1,9 @@
+pub mod Steps
+pub mod Follows
+pub mod Exact
+pub mod Patched
+pub mod SampleFaults
+pub mod TagLemmas
+pub mod Walks
+pub mod Nested
+pub mod Named

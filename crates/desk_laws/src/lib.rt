@@ -1,0 +1,9 @@
+//! The laws of a class that is renamed.
+#![tactic(auto)]
+
+mod laws;
+
+pub use laws::{
+    followed_values, missing_texts, new_pools, printed_classes, printed_pools, refused_twins,
+    renamed_classes, unchanged_classes,
+};
