@@ -1,6 +1,9 @@
 -- Rows of the texts, computed.
-use Rattle.std.proofs.Common.{◌≡◌, [], ◌∷◌, ◌++◌, refl}
+use Rattle.std.proofs.Common.{ℕ, ◌≡◌, [], ◌∷◌, ◌++◌, refl}
 use Rattle.std.specs.Prelude.{codes, replicate}
+use Rattle.std.specs.Fmt.{digits}
+use Rattle.hex.specs.Hex.{encode_with}
+use Rattle.desk_base.specs.Names.{Text}
 use Rattle.desk_base.specs.Shown.{shown}
 use Rattle.desk_rules.specs.declared.RuleFault.TheVariants.{PlainLine}
 use Rattle.desk_ledger.specs.declared.keeper.Header.{Header}
@@ -23,6 +26,7 @@ shown_others = refl
 
 written_service : line_text (Written (codes "META-INF/services/javax.servlet.Filter") (codes "META-INF/services/jakarta.servlet.Filter") (Service 1))
     ≡ codes "written META-INF/services/javax.servlet.Filter META-INF/services/jakarta.servlet.Filter service changed=1\n"
+unfolding digits
 written_service = refl
 
 written_copy : line_text (Written (codes "readme.txt") (codes "readme.txt") Copy) ≡ codes "written readme.txt readme.txt copy\n"
@@ -33,6 +37,7 @@ kept_line = refl
 
 total_line : summary_text (record { files = 5001; written = 5000; kept = 1; refused = 0; renamed = 25000; added = 18446744073709551615 })
     ≡ codes "total files=5001 written=5000 kept=1 refused=0 renamed=25000 added=18446744073709551615\n"
+unfolding digits
 total_line = refl
 
 fault_0 : fault_text Done ≡ []
@@ -42,9 +47,11 @@ fault_10 : fault_text Memory ≡ codes "migrate: 10 out of memory\n"
 fault_10 = refl
 
 fault_11 : fault_text (FolderFault 2) ≡ codes "migrate: 11 folder fault done=2\n"
+unfolding digits
 fault_11 = refl
 
 fault_12 : fault_text (LedgerFault 0) ≡ codes "migrate: 12 ledger fault done=0\n"
+unfolding digits
 fault_12 = refl
 
 fault_13 : fault_text OutputFault ≡ codes "migrate: 13 output fault\n"
@@ -62,9 +69,10 @@ fault_22 = refl
 fault_30 : fault_text (NotBuilt (codes "A.class")) ≡ codes "migrate: 30 not built A.class\n"
 fault_30 = refl
 
-abbrev run_of : (from to : _) → _ → Header
+abbrev run_of : Text → Text → ℕ → Header
 run_of from to byte = record { from = from; to = to; rules = record { 0 = replicate 32 byte } }
 
 fault_27 : fault_text (OtherRun (run_of (codes "in") (codes "out") 10) (run_of (codes "in") (codes "out") 0xAB))
     ≡ codes "migrate: 27 other run kept in out 0a0a0a0a0a0a0a0a0a0a0a0a0a0a0a0a0a0a0a0a0a0a0a0a0a0a0a0a0a0a0a0a wanted in out abababababababababababababababababababababababababababababababab\n"
+unfolding encode_with
 fault_27 = refl
