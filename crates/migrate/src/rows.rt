@@ -1,11 +1,12 @@
 //! Whole runs over folders, ledger and output in memory.
 
-ghost use Rattle.std.specs.Prelude.{◌≡◌, IfOk};
+ghost use Rattle.std.specs.Prelude.{◌≡◌, IfOk, IsTrue};
+ghost use Rattle.desk_base.specs.Paths.{is_full_path};
 
 use desk_base::{Memory, Text};
 use desk_folders::{GenFile, MemoryFolders};
 use desk_ledger::MemoryKeeper;
-use desk_report::{MemorySink, Status};
+use desk_report::MemorySink;
 use desk_run::desk;
 use std::alloc::Global;
 use std::str;
@@ -13,7 +14,15 @@ use std::test::Fail;
 
 /// The words of a run from `in` to `out`, by the rules in `r` and the ledger `l`.
 const WORDS: [&[u8]; 9] = [
-    b"run", b"--rules", b"r", b"--from", b"in", b"--to", b"out", b"--ledger", b"l",
+    b"run",
+    b"--rules",
+    b"r",
+    b"--from",
+    b"in",
+    b"--to",
+    b"out",
+    b"--ledger",
+    b"l",
 ];
 
 /// The rule of most runs.
@@ -37,19 +46,20 @@ fn file(alloc: Global, path: &[u8], content: &[u8]) -> Result<GenFile, Memory>
 }
 
 /// How a run ended, and what it wrote.
+#[derive(Drop)]
 struct Ended {
     code: u8,
     text: Text,
 }
 
-impl Drop for Ended {
-    fn drop(self) {
-        let Ended { .. } = self;
-    }
-}
-
 /// Runs the desk with these words over folders and a ledger that go on.
-fn run(alloc: Global, words: &[&[u8]], folders: &mut MemoryFolders, keeper: &mut MemoryKeeper, room: u32) -> Result<Ended, Fail> {
+fn run(
+    alloc: Global,
+    words: &[&[u8]],
+    folders: &mut MemoryFolders,
+    keeper: &mut MemoryKeeper,
+    room: u32,
+) -> Result<Ended, Fail> {
     let mut out = MemorySink::with_room(alloc, room)?;
     let words = words_of(alloc, words)?;
     let status = desk(alloc, &words, folders, keeper, &mut out);
@@ -59,21 +69,200 @@ fn run(alloc: Global, words: &[&[u8]], folders: &mut MemoryFolders, keeper: &mut
     })
 }
 
+/// What a run wrote, as text.
+fn text_of(ended: &Ended) -> &str {
+    str::from_utf8(ended.text.as_bytes()).unwrap_or("no text")
+}
+
 #[test]
 fn a_service_file_and_a_copy_are_migrated(rt: HostRuntime) -> Result<(), Fail> {
     let alloc = rt.alloc();
-    let files = vec![
-        in alloc;
+    let files = vec![in alloc;
         file(alloc, b"r/renames.properties", RULE)?,
-        file(alloc, b"in/META-INF/services/javax.servlet.Filter", b"javax.servlet.F\n")?,
-        file(alloc, b"in/readme.txt", b"hi")?
+        file(
+            alloc,
+            b"in/META-INF/services/javax.servlet.Filter",
+            b"javax.servlet.F\n"
+        )?,
+        file(alloc, b"in/readme.txt", b"hi")?,
     ]?;
     let mut folders = MemoryFolders::new(alloc, files, Vec::new(alloc))?;
     let mut keeper = MemoryKeeper::new(alloc, Vec::new(alloc))?;
     let ended = run(alloc, &WORDS, &mut folders, &mut keeper, 10000)?;
-    assert_eq!(rt; str::from_utf8(ended.text.as_bytes()).unwrap_or(""), "written META-INF/services/javax.servlet.Filter META-INF/services/jakarta.servlet.Filter service changed=1\nwritten readme.txt readme.txt copy\ntotal files=2 written=2 kept=0 refused=0 renamed=0 added=0\n");
+    assert_eq!(rt;
+        text_of(&ended),
+        "written META-INF/services/javax.servlet.Filter META-INF/services/jakarta.servlet.Filter service changed=1\nwritten readme.txt readme.txt copy\ntotal files=2 written=2 kept=0 refused=0 renamed=0 added=0\n"
+    );
     assert_eq!(rt; ended.code, 0);
-    assert_eq!(rt; folders.content(b"out/META-INF/services/jakarta.servlet.Filter"), Some(b"jakarta.servlet.F\n".as_slice()));
+    assert_eq!(rt;
+        folders.content(b"out/META-INF/services/jakarta.servlet.Filter"),
+        Some(b"jakarta.servlet.F\n".as_slice())
+    );
     assert_eq!(rt; folders.content(b"out/readme.txt"), Some(b"hi".as_slice()));
+    Ok(())
+}
+
+/// How a run of the usual words ends over one file of the source.
+fn run_of_one(alloc: Global, rule: &[u8], path: &[u8], content: &[u8]) -> Result<Ended, Fail>
+    requires { IsTrue (is_full_path path.now) }
+{
+    let files = vec![in alloc;
+        file(alloc, b"r/renames.properties", rule)?,
+        file(alloc, path, content)?,
+    ]?;
+    let mut folders = MemoryFolders::new(alloc, files, Vec::new(alloc))?;
+    let mut keeper = MemoryKeeper::new(alloc, Vec::new(alloc))?;
+    run(alloc, &WORDS, &mut folders, &mut keeper, 10000)
+}
+
+#[test]
+fn a_class_is_not_built(rt: HostRuntime) -> Result<(), Fail> {
+    let ended = run_of_one(rt.alloc(), RULE, b"in/A.class", b"")?;
+    assert_eq!(rt; text_of(&ended), "migrate: 30 not built A.class\n");
+    assert_eq!(rt; ended.code, 30);
+    let deep = run_of_one(rt.alloc(), RULE, b"in/a/b.txt", b"")?;
+    assert_eq!(rt; text_of(&deep), "migrate: 30 not built a/b.txt\n");
+    let bad = run_of_one(rt.alloc(), RULE, b"in/META-INF/services/x", b"web.Init x")?;
+    assert_eq!(rt;
+        text_of(&bad),
+        "migrate: 30 not built META-INF/services/x\n"
+    );
+    Ok(())
+}
+
+#[test]
+fn other_rules_are_no_plain_line(rt: HostRuntime) -> Result<(), Fail> {
+    for rule in [
+        b"a=b\nb=c".as_slice(),
+        b"a.b",
+        b"",
+        b"a=1b",
+        b"a=b\r\n",
+        b"\xff\xfe=b",
+    ] {
+        let ended = run_of_one(rt.alloc(), rule, b"in/a", b"")?;
+        assert_eq!(rt; text_of(&ended), "migrate: 22 plain line\n");
+        assert_eq!(rt; ended.code, 22);
+    }
+    Ok(())
+}
+
+#[test]
+fn other_words_mean_no_task(rt: HostRuntime) -> Result<(), Fail> {
+    let alloc = rt.alloc();
+    let mut folders = MemoryFolders::new(alloc, Vec::new(alloc), Vec::new(alloc))?;
+    let mut keeper = MemoryKeeper::new(alloc, Vec::new(alloc))?;
+    let none = run(alloc, &[], &mut folders, &mut keeper, 10000)?;
+    assert_eq!(rt;
+        text_of(&none),
+        "migrate: 20 usage: migrate run --rules R --from A --to B --ledger L\n"
+    );
+    assert_eq!(rt; none.code, 20);
+    let few = run(
+        alloc,
+        &[b"run", b"--from", b"a"],
+        &mut folders,
+        &mut keeper,
+        10000,
+    )?;
+    assert_eq!(rt; few.code, 20);
+    let mut nested = WORDS;
+    nested[6] = b"in/x";
+    let ended = run(alloc, &nested, &mut folders, &mut keeper, 10000)?;
+    assert_eq!(rt; text_of(&ended), "migrate: 21 nested roots in in/x\n");
+    assert_eq!(rt; ended.code, 21);
+    let mut upward = WORDS;
+    upward[6] = b"in/../x";
+    let ended = run(alloc, &upward, &mut folders, &mut keeper, 10000)?;
+    assert_eq!(rt; ended.code, 20);
+    Ok(())
+}
+
+#[test]
+fn two_files_of_one_target_are_not_built(rt: HostRuntime) -> Result<(), Fail> {
+    let alloc = rt.alloc();
+    let files = vec![in alloc;
+        file(alloc, b"r/renames.properties", RULE)?,
+        file(alloc, b"in/META-INF/services/javax.servlet.F", b"")?,
+        file(alloc, b"in/META-INF/services/jakarta.servlet.F", b"")?,
+    ]?;
+    let mut folders = MemoryFolders::new(alloc, files, Vec::new(alloc))?;
+    let mut keeper = MemoryKeeper::new(alloc, Vec::new(alloc))?;
+    let ended = run(alloc, &WORDS, &mut folders, &mut keeper, 10000)?;
+    assert_eq!(rt;
+        text_of(&ended),
+        "migrate: 30 not built META-INF/services/jakarta.servlet.F\n"
+    );
+    Ok(())
+}
+
+/// Folders with three files of one byte each, of which these calls fail.
+fn three_files(alloc: Global, failing: Vec<u64>) -> Result<MemoryFolders, Fail> {
+    let files = vec![in alloc;
+        file(alloc, b"r/renames.properties", RULE)?,
+        file(alloc, b"r2/renames.properties", b"a=b")?,
+        file(alloc, b"in/a", b"1")?,
+        file(alloc, b"in/b", b"2")?,
+        file(alloc, b"in/c", b"3")?,
+    ]?;
+    Ok(MemoryFolders::new(alloc, files, failing)?)
+}
+
+#[test]
+fn a_stopped_run_goes_on_where_it_stood(rt: HostRuntime) -> Result<(), Fail> {
+    let alloc = rt.alloc();
+    // The third append is call 15 of the folders; calls 28 of the folders and 14 of the keeper would
+    // fail too, and are never made.
+    let mut folders = three_files(alloc, vec![in alloc; 15u64, 28]?)?;
+    let mut keeper = MemoryKeeper::new(alloc, vec![in alloc; 14u64]?)?;
+    let stopped = run(alloc, &WORDS, &mut folders, &mut keeper, 10000)?;
+    assert_eq!(rt; text_of(&stopped), "migrate: 11 folder fault done=2\n");
+    assert_eq!(rt; stopped.code, 11);
+    assert_eq!(rt; folders.content(b"out/a"), Some(b"1".as_slice()));
+    assert_eq!(rt; folders.content(b"out/b"), Some(b"2".as_slice()));
+    assert_eq!(rt; folders.content(b"out/c"), Some(b"".as_slice()));
+    let resumed = run(alloc, &WORDS, &mut folders, &mut keeper, 10000)?;
+    assert_eq!(rt;
+        text_of(&resumed),
+        "kept a a\nkept b b\nwritten c c copy\ntotal files=3 written=1 kept=2 refused=0 renamed=0 added=0\n"
+    );
+    assert_eq!(rt; resumed.code, 0);
+    assert_eq!(rt; folders.content(b"out/c"), Some(b"3".as_slice()));
+    Ok(())
+}
+
+#[test]
+fn a_ledger_of_another_run_is_left_alone(rt: HostRuntime) -> Result<(), Fail> {
+    let alloc = rt.alloc();
+    let mut folders = three_files(alloc, Vec::new(alloc))?;
+    let mut keeper = MemoryKeeper::new(alloc, Vec::new(alloc))?;
+    let first = run(alloc, &WORDS, &mut folders, &mut keeper, 10000)?;
+    assert_eq!(rt; first.code, 0);
+    let mut others = WORDS;
+    others[2] = b"r2";
+    let other = run(alloc, &others, &mut folders, &mut keeper, 10000)?;
+    assert_eq!(rt; other.code, 27);
+    let again = run(alloc, &WORDS, &mut folders, &mut keeper, 10000)?;
+    assert_eq!(rt;
+        text_of(&again),
+        "kept a a\nkept b b\nkept c c\ntotal files=3 written=0 kept=3 refused=0 renamed=0 added=0\n"
+    );
+    Ok(())
+}
+
+#[test]
+fn faults_of_ledger_and_output_are_told_apart(rt: HostRuntime) -> Result<(), Fail> {
+    let alloc = rt.alloc();
+    let mut folders = three_files(alloc, Vec::new(alloc))?;
+    let mut failing = MemoryKeeper::new(alloc, vec![in alloc; 0u64]?)?;
+    let ended = run(alloc, &WORDS, &mut folders, &mut failing, 10000)?;
+    assert_eq!(rt; text_of(&ended), "migrate: 12 ledger fault done=0\n");
+    assert_eq!(rt; ended.code, 12);
+    assert_eq!(rt; folders.content(b"out/a"), None);
+    let mut keeper = MemoryKeeper::new(alloc, Vec::new(alloc))?;
+    let ended = run(alloc, &WORDS, &mut folders, &mut keeper, 0)?;
+    assert_eq!(rt; ended.code, 13);
+    assert_eq!(rt; folders.content(b"out/a"), Some(b"1".as_slice()));
+    assert_eq!(rt; folders.content(b"out/c"), Some(b"3".as_slice()));
     Ok(())
 }
