@@ -1,0 +1,13 @@
+#!/usr/bin/env bash
+# Builds the program where it isn't built yet, and migrates the example application to build/first.
+set -eu
+cd "$(dirname "$0")/../.."
+program=crates/migrate/out/migrate
+if [ ! -x "$program" ]; then
+  echo "building $program (each crate is proved first; this takes some minutes)" >&2
+  (cd crates/migrate && rt run >/dev/null) || true
+fi
+rm -rf build/first
+"$program" run --rules examples/first/rules --from examples/first/app --to build/first --ledger build/first.ledger
+echo "migrated to build/first:" >&2
+(cd build/first && find . -type f | sort) >&2
