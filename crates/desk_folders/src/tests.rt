@@ -13,23 +13,31 @@ use std::{env, fs, process, str};
 /// Whether a list holds exactly these texts.
 fn holds(list: &TextList, texts: &[&[u8]]) -> bool {
     list.len() == texts.len()
-        && texts
-            .iter()
-            .enumerate()
-            .all(|(place, text)| match list.get(place) {
-                Some(path) => path.as_bytes() == *text,
-                None => false,
-            })
+        && texts.iter().enumerate().all(|(place, text)| match list.get(place) {
+            Some(path) => path.as_bytes() == *text,
+            None => false,
+        })
 }
 
 /// Folders with four files, two of one path.
 fn four_files(alloc: Global) -> Result<MemoryFolders, Fail> {
-    let files = vec![
-        in alloc;
-        GenFile { path: Text::from_bytes(alloc, b"in/a")?, content: Text::from_bytes(alloc, b"1")? },
-        GenFile { path: Text::from_bytes(alloc, b"in/b/c")?, content: Text::from_bytes(alloc, b"2")? },
-        GenFile { path: Text::from_bytes(alloc, b"in/a")?, content: Text::from_bytes(alloc, b"345")? },
-        GenFile { path: Text::from_bytes(alloc, b"/in/z")?, content: Text::from_bytes(alloc, b"6")? }
+    let files = vec![in alloc;
+        GenFile {
+            path: Text::from_bytes(alloc, b"in/a")?,
+            content: Text::from_bytes(alloc, b"1")?
+        },
+        GenFile {
+            path: Text::from_bytes(alloc, b"in/b/c")?,
+            content: Text::from_bytes(alloc, b"2")?
+        },
+        GenFile {
+            path: Text::from_bytes(alloc, b"in/a")?,
+            content: Text::from_bytes(alloc, b"345")?
+        },
+        GenFile {
+            path: Text::from_bytes(alloc, b"/in/z")?,
+            content: Text::from_bytes(alloc, b"6")?
+        },
     ]?;
     Ok(MemoryFolders::new(alloc, files, Vec::new(alloc))?)
 }
@@ -50,7 +58,12 @@ fn lists_paths_below_roots(rt: HostRuntime) -> Result<(), Fail> {
 }
 
 /// A part of a file as it stands at a path; none where the path isn't there.
-fn part(folders: &mut MemoryFolders, alloc: Global, path: &[u8], at: u64) -> Result<Option<Text>, Fail> {
+fn part(
+    folders: &mut MemoryFolders,
+    alloc: Global,
+    path: &[u8],
+    at: u64,
+) -> Result<Option<Text>, Fail> {
     let path = Text::from_bytes(alloc, path)?;
     if folders.content(path.as_bytes()).is_none() {
         return Ok(None);
@@ -59,7 +72,12 @@ fn part(folders: &mut MemoryFolders, alloc: Global, path: &[u8], at: u64) -> Res
 }
 
 /// Adds bytes where a path is there, and answers what came of it.
-fn add(folders: &mut MemoryFolders, alloc: Global, path: &[u8], bytes: &[u8]) -> Result<Option<FolderFault>, Fail> {
+fn add(
+    folders: &mut MemoryFolders,
+    alloc: Global,
+    path: &[u8],
+    bytes: &[u8],
+) -> Result<Option<FolderFault>, Fail> {
     let path = Text::from_bytes(alloc, path)?;
     if folders.content(path.as_bytes()).is_none() {
         return Ok(None);
@@ -101,7 +119,10 @@ fn named_calls_fail(rt: HostRuntime) -> Result<(), Fail> {
     assert_eq!(rt; folders.content(b"out/x"), Some(b"".as_slice()));
     let listed = folders.list(&Text::from_bytes(alloc, b"out")?, 5)?;
     assert_eq!(rt; listed.len(), 1);
-    assert_eq!(rt; folders.list(&Text::from_bytes(alloc, b"out")?, 5).err(), Some(FolderFault::Failed));
+    assert_eq!(rt;
+        folders.list(&Text::from_bytes(alloc, b"out")?, 5).err(),
+        Some(FolderFault::Failed)
+    );
     Ok(())
 }
 
@@ -166,10 +187,22 @@ fn writes_and_reads_a_disk(rt: HostRuntime) -> Result<(), Fail> {
     assert_eq!(rt; emptied.as_bytes(), b"".as_slice());
     let missing = own_path(&rt, "/missing")?;
     let below_file = own_path(&rt, "/b.txt/c")?;
-    assert_eq!(rt; list(&mut folders, &missing, 9).err(), Some(FolderFault::Failed));
-    assert_eq!(rt; folders.read_part(&missing, 0, 9).err(), Some(FolderFault::Failed));
-    assert_eq!(rt; create(&mut folders, &below_file).err(), Some(FolderFault::Failed));
-    assert_eq!(rt; folders.append(&missing, b"x").err(), Some(FolderFault::Failed));
+    assert_eq!(rt;
+        list(&mut folders, &missing, 9).err(),
+        Some(FolderFault::Failed)
+    );
+    assert_eq!(rt;
+        folders.read_part(&missing, 0, 9).err(),
+        Some(FolderFault::Failed)
+    );
+    assert_eq!(rt;
+        create(&mut folders, &below_file).err(),
+        Some(FolderFault::Failed)
+    );
+    assert_eq!(rt;
+        folders.append(&missing, b"x").err(),
+        Some(FolderFault::Failed)
+    );
     let made = str::from_utf8(root.as_bytes()).ok().ok_or("root")?;
     fs::remove_dir_all(&rt, made)?;
     Ok(())
