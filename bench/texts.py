@@ -1,7 +1,7 @@
 #!/usr/bin/env python3
 """Descriptors and signatures of a Java class library, one a line: a letter for the kind, a blank, the text.
 
-Kinds: f m for field and method descriptors, C M F for the signatures of classes, methods and fields.
+At most COUNT of them, and of these at most half are signatures. Kinds: f m for field and method descriptors, C M F for the signatures of classes, methods and fields.
 Usage: texts.py FOLDER COUNT, where FOLDER holds class files (in subfolders too).
 """
 import os
@@ -79,10 +79,11 @@ def main():
                 with open(os.path.join(path, name), "rb") as file:
                     for kind, text in read_class(file.read()):
                         kept["descriptors" if kind in "fm" else "signatures"].append((kind, text))
+    signatures = kept["signatures"][: count // 2]
+    descriptors = kept["descriptors"][: count - len(signatures)]
     out = sys.stdout.buffer
-    for texts in kept.values():
-        for kind, text in texts[: count // 2]:
-            out.write(kind.encode() + b" " + text + b"\n")
+    for kind, text in descriptors + signatures:
+        out.write(kind.encode() + b" " + text + b"\n")
 
 
 main()

@@ -16,3 +16,4 @@ pub mod SigPieces
 pub mod SigMapped
 pub mod SigPlaces
 pub mod Skips
+pub mod CutNames

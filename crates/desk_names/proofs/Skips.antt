@@ -1,11 +1,10 @@
 -- Names are passed whole.
-use Rattle.std.proofs.Common.{◌≡◌, ℕ, suc, ◌+◌, ◌-◌, ◌<◌, ◌≤◌, Bool, true, false, not, ◌&&◌, ◌==◌, get_or, List, [], ◌∷◌, ◌++◌, length, take, drop, refl, sym, ap, ◌∙◌, arith, append_assoc, append-nil, add-one}
+use Rattle.std.proofs.Common.{◌≡◌, ℕ, suc, ◌+◌, ◌-◌, ◌<◌, ◌≤◌, Bool, true, false, not, ◌==◌, get_or, [], ◌∷◌, ◌++◌, length, take, drop, refl, sym, ap, ◌∙◌, arith, append_assoc, append-nil, add-one}
 use Rattle.std.specs.Prelude.{if◌then◌else◌}
 use Rattle.std.proofs.lemmas.List.{length-drop, drop_all, take_all}
 use Rattle.std.proofs.Math.Seq.{drop-cons, drop-drop, take-add}
 use Rattle.desk_names.specs.declared.signatures.Spot.TheVariants as spots
 use Rattle.desk_names.specs.declared.signatures.RefState.TheVariants as ref_states
-use Rattle.desk_names.specs.declared.signatures.RefPlace.TheVariants as ref_places
 use Rattle.desk_names.specs.declared.signatures.SigState.{SigState}
 use Rattle.desk_names.specs.declared.signatures.SigState.TheVariants as sig_states
 use Rattle.desk_base.specs.Names.{Text}

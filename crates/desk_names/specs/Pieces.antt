@@ -1,5 +1,5 @@
 -- The parts of a descriptor's text: the class names, and what stands between them.
-use Rattle.std.specs.Prelude.{ℕ, suc, Bool, true, false, ◌==◌, List, [], ◌∷◌, ◌++◌, if◌then◌else◌}
+use Rattle.std.specs.Prelude.{◌≡◌, ℕ, suc, Bool, true, false, ◌==◌, List, [], ◌∷◌, ◌++◌, if◌then◌else◌}
 use Rattle.desk_names.specs.declared.parts.Part.{Part}
 use Rattle.desk_names.specs.declared.parts.Part.TheVariants as parts
 use Rattle.desk_base.specs.Names.{Text}
@@ -45,6 +45,17 @@ unfoldable pub names_in : List Piece → List Text
 names_in [] = []
 names_in (Piece.other t ∷ ps) = names_in ps
 names_in (Piece.class before last ∷ ps) = class_name before last ∷ names_in ps
+
+-- two texts are the package and the simple name of the class name that they make
+pub record IsCut (before last : Text) : Type 0 where
+  pub package_is : package_of (class_name before last) ≡ before
+  pub simple_is : simple_of (class_name before last) ≡ last
+
+-- each class name among parts is cut at its last `/`
+unfoldable pub AreCut : List Piece → Type 0
+AreCut [] = Unit {0}
+AreCut (Piece.other t ∷ ps) = AreCut ps
+AreCut (Piece.class before last ∷ ps) = IsCut before last × AreCut ps
 
 -- the first place of a byte in a text, or the text's length
 unfoldable pub place_of : ℕ → Text → ℕ

@@ -9,8 +9,11 @@ use crate::names::is_reserved;
 /// Which descriptor is wanted: of a field, of a method, or of what a method returns, which is a field descriptor or `V`.
 #[derive(Clone, Copy, Debug, PartialEq, Eq)]
 pub enum Want {
+    /// A field descriptor (JVMS 4.3.2).
     Field,
+    /// A method descriptor (JVMS 4.3.3).
     Method,
+    /// A return descriptor (JVMS 4.3.3).
     Return,
 }
 

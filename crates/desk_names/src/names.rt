@@ -8,7 +8,9 @@ ghost use Rattle.desk_names.specs.ClassNames.{package_of, simple_of};
 /// name has none.
 #[derive(Clone, Copy, Debug, PartialEq, Eq)]
 pub struct ClassName<'a> {
+    /// All parts but the last, with a `/` between each two.
     pub package: &'a [u8],
+    /// The last part.
     pub simple: &'a [u8],
 }
 

@@ -5,7 +5,7 @@ ghost use Rattle.std.specs.Iterator.{YieldsFirstBy, item_count};
 ghost use Rattle.desk_base.specs.Descriptors.{as_is, is_descriptor};
 ghost use Rattle.desk_names.specs.States.{wanted_kind};
 ghost use Rattle.desk_names.specs.Laws.{HasDescriptor, HasNoDescriptor};
-ghost use Rattle.desk_names.specs.Pieces.{place_of, cut, piece_of, pieces, joined};
+ghost use Rattle.desk_names.specs.Pieces.{AreCut, place_of, cut, piece_of, pieces, joined};
 
 use crate::descriptors::{Want, is_descriptor};
 use crate::names::{ClassName, cut_name};
@@ -14,7 +14,9 @@ use std::marker::Model;
 /// A part of a descriptor or a signature: a class name, or what stands between class names.
 #[derive(Clone, Copy, Debug, PartialEq, Eq)]
 pub enum Part<'a> {
+    /// What stands before, between or behind class names.
     Other(&'a [u8]),
+    /// A class name, cut at its last `/`.
     Class(ClassName<'a>),
 }
 
@@ -112,6 +114,7 @@ pub fn read_descriptor(text: &[u8], want: Want) -> Option<DescParts<'_>>
     ensures none { IfNone result (HasNoDescriptor (wanted_kind want) text.now) }
     ensures parts { IfSome result (λ parts. parts ≡ pieces text.now) }
     ensures joined { IfSome result (λ parts. joined as_is parts ≡ text.now) }
+    ensures cut { IfSome result AreCut }
 {
     if is_descriptor(text, want) {
         Some(DescParts {

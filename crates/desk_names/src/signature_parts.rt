@@ -4,7 +4,7 @@ ghost use Rattle.std.specs.Prelude.{◌≡◌, ◌<◌, ◌≤◌, [], ◌∷◌
 ghost use Rattle.std.specs.Iterator.{YieldsFirstBy, item_count};
 ghost use Rattle.desk_base.specs.Descriptors.{as_is};
 ghost use Rattle.desk_names.specs.Laws.{HasSignature, HasNoSignature};
-ghost use Rattle.desk_names.specs.Pieces.{Piece, piece_of, joined};
+ghost use Rattle.desk_names.specs.Pieces.{AreCut, Piece, piece_of, joined};
 ghost use Rattle.desk_names.specs.SignatureScan.{wanted_signature, is_sound_signature};
 ghost use Rattle.desk_names.specs.SignaturePieces.{is_naming, ends_name, named, name_end, sig_cut, sig_pieces};
 
@@ -152,6 +152,7 @@ pub fn read_signature(text: &[u8], which: Which) -> Option<SigParts<'_>>
     ensures none { IfNone result (HasNoSignature (wanted_signature which) text.now) }
     ensures parts { IfSome result (λ parts. parts ≡ sig_pieces (wanted_signature which) text.now) }
     ensures joined { IfSome result (λ parts. joined as_is parts ≡ text.now) }
+    ensures cut { IfSome result AreCut }
 {
     if is_signature(text, which) {
         Some(SigParts {

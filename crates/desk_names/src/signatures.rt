@@ -9,8 +9,11 @@ use crate::descriptors::is_base;
 /// Which signature is wanted: of a class, of a method, or of a field.
 #[derive(Clone, Copy, Debug, PartialEq, Eq)]
 pub enum Which {
+    /// The signature of a class or interface.
     Class,
+    /// The signature of a method or constructor.
     Method,
+    /// The signature of a field, a local variable or a record component.
     Field,
 }
 

@@ -1,8 +1,9 @@
-use Rattle.std.proofs.Common.{sym, ◌∙◌}
+use Rattle.std.proofs.Common.{false, [], sym, ◌∙◌}
 use Rattle.std.proofs.lemmas.Bool.{both_ways}
 use Rattle.desk_names.specs.States.{wanted_kind}
 use Rattle.desk_names.proofs.Scanned.{tree_of}
 use Rattle.desk_names.proofs.Takes.{taken}
+use Rattle.desk_names.proofs.CutNames.{cut_names}
 use Rattle.desk_names.proofs.Pieces.{joins_text}
 use Rattle.desk_names.proofs.parts.read_descriptor.Goals as goal
 
@@ -16,3 +17,6 @@ returns-then-is_descriptor-clause-joined c =
 
 pub returns-else-is_descriptor-clause-none : goal.returns-else-is_descriptor-clause-none
 returns-else-is_descriptor-clause-none c = λ d r. both_ways _ (sym c.is_descriptor.ensures ∙ c.if-is_descriptor.false) (taken (wanted_kind c.args.want) c.args.text.now d r)
+
+pub returns-then-is_descriptor-clause-cut : goal.returns-then-is_descriptor-clause-cut
+returns-then-is_descriptor-clause-cut c = cut_names false [] c.args.text.now
