@@ -1,8 +1,6 @@
 """Times the program against a plain copy of the same files, side by side."""
 
 import os
-import resource
-import shutil
 import subprocess
 import sys
 import time
@@ -34,25 +32,23 @@ def timed(words):
     return time.perf_counter() - start, usage.ru_maxrss
 
 
-def copied(place):
-    shutil.rmtree(f"{place}/copy", ignore_errors=True)
-    copy, _ = timed(["cp", "-r", f"{place}/app", f"{place}/copy"])
-    read, _ = timed(["sh", "-c", f"cat {place}/copy/*.bin {place}/copy/META-INF/services/* > /dev/null"])
+def copied(place, turn):
+    copy, _ = timed(["cp", "-r", f"{place}/app", f"{place}/copy{turn}"])
+    read, _ = timed(["sh", "-c", f"cat {place}/copy{turn}/*.bin {place}/copy{turn}/META-INF/services/* > /dev/null"])
     return copy + read
 
 
-def migrated(program, place):
-    shutil.rmtree(f"{place}/out", ignore_errors=True)
-    return timed([program, "run", "--rules", f"{place}/rules", "--from", f"{place}/app", "--to", f"{place}/out", "--ledger", f"{place}/ledger"])
+def migrated(program, place, turn):
+    return timed([program, "run", "--rules", f"{place}/rules", "--from", f"{place}/app", "--to", f"{place}/out{turn}", "--ledger", f"{place}/ledger"])
 
 
 def main():
     program, place = sys.argv[1:]
     make(place)
     plain, desk, peak = [], [], 0
-    for _ in range(ROUNDS):
-        plain.append(copied(place))
-        seconds, kib = migrated(program, place)
+    for turn in range(ROUNDS):
+        plain.append(copied(place, turn))
+        seconds, kib = migrated(program, place, turn)
         desk.append(seconds)
         peak = max(peak, kib * 1024)
     size = FILES * SIZE

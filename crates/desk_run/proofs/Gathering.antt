@@ -11,22 +11,24 @@ use Rattle.desk_report.specs.declared.status.Status.TheVariants.{Done, Memory, F
 use Rattle.desk_run.specs.declared.files.Source.{Source}
 use Rattle.desk_run.specs.declared.files.Input.{Input}
 use Rattle.desk_run.specs.declared.image.Image.{Image}
-use Rattle.desk_run.specs.declared.roots.Root.{Root}
-use Rattle.desk_run.specs.declared.roots.Roots.{Roots}
+use Rattle.desk_words.specs.declared.roots.Root.{Root}
+use Rattle.desk_words.specs.declared.roots.Roots.{Roots}
 use Rattle.desk_run.specs.declared.rules.Ruled.{Ruled}
 use Rattle.desk_run.specs.declared.stops.Halt.{Halt}
 use Rattle.desk_run.specs.declared.stops.Halt.TheVariants as halt
-use Rattle.desk_run.specs.declared.words.Task.{Task}
-use Rattle.desk_run.specs.declared.words.Task.TheVariants as task
+use Rattle.desk_words.specs.declared.words.Task.{Task}
+use Rattle.desk_words.specs.declared.words.Task.TheVariants as task
 use Rattle.desk_run.specs.declared.TheConstants.{MOST, SIZE}
-use Rattle.desk_run.specs.Words.{task_of, first_nested}
-use Rattle.desk_run.specs.Meaning.{nested_status, roots_apart, roots_of_task, roots_of_words, ruled, run_of, run_by_roots, run_by_rules, run_of_words}
+use Rattle.desk_words.specs.Words.{task_of, first_nested}
+use Rattle.desk_words.specs.Roots.{nested_status, roots_apart, roots_of_task, roots_of_words, RefusedBy}
+use Rattle.desk_run.specs.Meaning.{ruled, run_of, run_by_roots, run_by_rules, run_of_words}
 use Rattle.desk_run.specs.Runs.{Run, AllRelative}
 use Rattle.desk_run.specs.Answers.{or_else, other_run, goers, is_short, is_built, first_unbuilt, some_answer, files_answer, answer_of_run, WordsCause}
 use Rattle.desk_run.specs.Sources.{within_limit, source_of, sources_of, readers_of, bytes_have_image, is_fit, first_unfit}
 use Rattle.desk_run.specs.Inputs.{source_of_input, input_of}
 use Rattle.desk_run.specs.Halts.{HaltsAtWords, HaltsAtFiles, HaltsAtSources, HaltsAtCheck, HaltsGathering, HaltsReadingAll, reading_answer, is_rules_status, is_files_status, is_early_answer}
 use Rattle.desk_run.specs.Endings.{AreInputs}
+use Rattle.desk_run.specs.Stops.{halt_of_words}
 use Rattle.std.proofs.Common.{Vec, Global}
 use Rattle.desk_run.proofs.Reading.{if_some, at_some}
 use Rattle.desk_run.proofs.RuleFolder.{whole_bytes}
@@ -45,13 +47,29 @@ words_status words status e = by (task_of words) e where
   by None f = let s : Usage ≡ status = cc in subst P s (refl, e ∙ ap Err (sym s))
   by (Some (task.Run rules from to ledger workers)) f = at rules from to ledger (first_nested rules from to ledger) f
 
-pub halts_at_words : (words : List Text) (told : Option Contents) (f f' : ℕ) (h : Halt) → HaltsAtWords words h → HaltsGathering words told f f' h
+halts_at_words : (words : List Text) (told : Option Contents) (f f' : ℕ) (h : Halt) → HaltsAtWords words h → HaltsGathering words told f f' h
 halts_at_words words told f f' halt.Memory e = tt
 halts_at_words words told f f' halt.Folders e = absurd e
 halts_at_words words told f f' halt.Ledger e = absurd e
 halts_at_words words told f f' (halt.Answer status) e =
     let s = words_status words status e in
     record { is = s.0; cause = s.1; first = if_some _ told (λ m _ l. ap (λ r. answer_of_run m l (run_by_roots m r)) e) }
+
+-- a status that stands against words
+halts_against : (words : List Text) (told : Option Contents) (f f' : ℕ) (status : Status) → RefusedBy (roots_of_words words) status → HaltsGathering words told f f' (halt_of_words status)
+halts_against words told f f' Memory e = tt
+halts_against words told f f' Done e = halts_at_words words told f f' (halt.Answer Done) e
+halts_against words told f f' (FolderFault done) e = halts_at_words words told f f' (halt.Answer (FolderFault done)) e
+halts_against words told f f' (LedgerFault done) e = halts_at_words words told f f' (halt.Answer (LedgerFault done)) e
+halts_against words told f f' OutputFault e = halts_at_words words told f f' (halt.Answer OutputFault) e
+halts_against words told f f' Usage e = halts_at_words words told f f' (halt.Answer Usage) e
+halts_against words told f f' (NestedRoots first second) e = halts_at_words words told f f' (halt.Answer (NestedRoots first second)) e
+halts_against words told f f' (BadRules fault) e = halts_at_words words told f f' (halt.Answer (BadRules fault)) e
+halts_against words told f f' (OtherRun kept wanted) e = halts_at_words words told f f' (halt.Answer (OtherRun kept wanted)) e
+halts_against words told f f' (NotBuilt path) e = halts_at_words words told f f' (halt.Answer (NotBuilt path)) e
+
+pub halts_by_words : (words : List Text) (told : Option Contents) (f f' : ℕ) (status : Status) (h : Halt) → h ≡ halt_of_words status → RefusedBy (roots_of_words words) status → HaltsGathering words told f f' h
+halts_by_words words told f f' status h e r = subst (HaltsGathering words told f f') (sym e) (halts_against words told f f' status r)
 
 -- a status of rules or files
 reading_status : (words : List Text) (status : Status) → is_rules_status status ≡ true → (is_early_answer status ≡ true) × WordsCause words status

@@ -1,6 +1,3 @@
-pub mod Joined
-pub mod Apart
-pub mod Rooted
 pub mod Entries
 pub mod Counting
 pub mod Splits

@@ -14,13 +14,14 @@ use Rattle.desk_report.specs.declared.status.Status.TheVariants.{Done, Memory, F
 use Rattle.desk_run.specs.declared.files.Input.{Input}
 use Rattle.desk_run.specs.declared.finish.Prepared.{Prepared}
 use Rattle.desk_run.specs.declared.planning.Work.{Work}
-use Rattle.desk_run.specs.declared.roots.Roots.{Roots}
+use Rattle.desk_words.specs.declared.roots.Roots.{Roots}
 use Rattle.desk_run.specs.declared.rules.Ruled.{Ruled}
 use Rattle.desk_run.specs.declared.stops.Halt.{Halt}
 use Rattle.desk_run.specs.declared.stops.Halt.TheVariants as halt
 use Rattle.desk_run.specs.declared.TheConstants.{SIZE}
-use Rattle.desk_run.specs.Meaning.{roots_of_words, run_of, run_of_words}
-use Rattle.desk_run.specs.Roots.{AreRoots}
+use Rattle.desk_words.specs.Roots.{roots_of_words}
+use Rattle.desk_run.specs.Meaning.{run_of, run_of_words}
+use Rattle.desk_words.specs.Roots.{AreRoots}
 use Rattle.desk_run.specs.Runs.{Run, AllRelative, AllApart, Misses, targets_of}
 use Rattle.desk_run.specs.Answers.{goers, is_short, is_built, first_unbuilt, some_answer, files_answer, or_else, other_run, first_answer, answer_of_run, is_answer, WordsCause}
 use Rattle.desk_run.specs.Inputs.{input_of, work_of_input}

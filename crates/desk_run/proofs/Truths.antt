@@ -19,7 +19,8 @@ use Rattle.desk_ledger.specs.Ledger.{Ledger, Rows}
 use Rattle.desk_run.specs.declared.image.Image.{Image}
 use Rattle.desk_run.specs.declared.planning.Plan.{Plan}
 use Rattle.desk_run.specs.declared.planning.Plan.TheVariants.{Keep}
-use Rattle.desk_run.specs.Runs.{Run, RootsApart, AllRelative, held_of, targets_of}
+use Rattle.desk_words.specs.Roots.{RootsApart}
+use Rattle.desk_run.specs.Runs.{Run, AllRelative, held_of, targets_of}
 use Rattle.desk_run.specs.Works.{work_of, works_of, fresh, wrote, wrote_plan, logged, logged_plan, files_after, ledger_after}
 use Rattle.desk_run.specs.Truth.{TrueRows}
 use Rattle.desk_run.proofs.After.{full_apart, plan_spares}

@@ -10,7 +10,8 @@ use Rattle.desk_report.specs.declared.status.Status.{Status}
 use Rattle.desk_report.specs.declared.status.Status.TheVariants.{Done, Usage, NestedRoots, BadRules, OtherRun, NotBuilt}
 use Rattle.desk_run.specs.declared.TheConstants.{MOST, SIZE, LENGTH}
 use Rattle.desk_run.specs.Runs.{Run}
-use Rattle.desk_run.specs.Meaning.{roots_of_words, run_of_words}
+use Rattle.desk_words.specs.Roots.{roots_of_words}
+use Rattle.desk_run.specs.Meaning.{run_of_words}
 
 -- how many of the files go to a target
 abbrev pub goers : Run → Text → List File → ℕ

@@ -8,7 +8,7 @@ use Rattle.desk_report.specs.declared.status.Status.{Status}
 use Rattle.desk_report.specs.declared.status.Status.TheVariants.{Done, Memory, FolderFault, LedgerFault, OutputFault, OtherRun}
 use Rattle.desk_report.specs.Written.{WritesFront, writing}
 use Rattle.desk_run.specs.declared.planning.Work.{Work}
-use Rattle.desk_run.specs.declared.roots.Roots.{Roots}
+use Rattle.desk_words.specs.declared.roots.Roots.{Roots}
 use Rattle.desk_run.specs.declared.files.Input.{Input}
 use Rattle.desk_run.specs.declared.stops.Halt.{Halt}
 use Rattle.desk_run.specs.declared.stops.Halt.TheVariants as halt
@@ -19,7 +19,8 @@ use Rattle.desk_run.specs.Reports.{report}
 use Rattle.desk_run.specs.Inputs.{input_of}
 use Rattle.desk_run.specs.Stops.{StoppedAt, status_of_halt}
 use Rattle.desk_run.specs.Stands.{Unchanged, Between, Within}
-use Rattle.desk_run.specs.Meaning.{roots_of_words, run_of_words}
+use Rattle.desk_words.specs.Roots.{roots_of_words}
+use Rattle.desk_run.specs.Meaning.{run_of_words}
 use Rattle.desk_run.specs.Answers.{files_answer, other_run, first_answer, is_answer, WordsCause}
 
 -- where folders and keeper tell their contents

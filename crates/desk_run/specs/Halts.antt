@@ -12,21 +12,15 @@ use Rattle.desk_run.specs.declared.image.Image.{Image}
 use Rattle.desk_run.specs.declared.files.Source.{Source}
 use Rattle.desk_run.specs.declared.stops.Halt.{Halt}
 use Rattle.desk_run.specs.declared.stops.Halt.TheVariants.{Memory, Folders, Ledger as LedgerHalt, Answer}
-use Rattle.desk_run.specs.declared.roots.Roots.{Roots}
+use Rattle.desk_words.specs.declared.roots.Roots.{Roots}
 use Rattle.desk_run.specs.declared.rules.Ruled.{Ruled}
-use Rattle.desk_run.specs.declared.words.Task.{Task}
 use Rattle.desk_run.specs.declared.TheConstants.{MOST}
 use Rattle.desk_run.specs.Runs.{Run}
-use Rattle.desk_run.specs.Meaning.{roots_of_task, roots_of_words, ruled, run_of}
+use Rattle.desk_words.specs.Roots.{roots_of_words}
+use Rattle.desk_run.specs.Meaning.{ruled, run_of}
 use Rattle.desk_run.specs.Answers.{files_answer, first_answer, other_run, some_answer, WordsCause}
 use Rattle.desk_run.specs.Truth.{IsOurs}
 use Rattle.desk_run.specs.Sources.{is_fit, first_unfit}
-
--- at a task's roots
-abbrev pub HaltsAtTask : Option Task → Halt → Type 0
-HaltsAtTask task Memory = Unit {0}
-HaltsAtTask task (Answer status) = roots_of_task task ≡ Err status
-HaltsAtTask task _ = ⊥
 
 -- at the words
 abbrev pub HaltsAtWords : List Text → Halt → Type 0

@@ -1,6 +1,4 @@
-pub mod Words
 pub mod Runs
-pub mod Roots
 pub mod Works
 pub mod Sources
 pub mod Tallies

@@ -8,36 +8,17 @@ use Rattle.desk_base.specs.Names.{Text}
 use Rattle.desk_folders.specs.Contents.{Contents, File, files_below}
 use Rattle.desk_ledger.specs.Digests.{digest}
 use Rattle.desk_report.specs.declared.status.Status.{Status}
-use Rattle.desk_report.specs.declared.status.Status.TheVariants.{Usage, NestedRoots, NotBuilt, BadRules}
+use Rattle.desk_report.specs.declared.status.Status.TheVariants.{NotBuilt, BadRules}
 use Rattle.desk_rules.specs.Files.{Files, renames_name}
 use Rattle.desk_rules.specs.Rules.{Rules}
 use Rattle.desk_rules.specs.RuleFiles.{rules_of_files}
 use Rattle.desk_rules.specs.declared.RuleFault.{RuleFault}
-use Rattle.desk_run.specs.declared.roots.Root.{Root}
-use Rattle.desk_run.specs.declared.words.Task.{Task}
-use Rattle.desk_run.specs.declared.words.Task.TheVariants as task
-use Rattle.desk_run.specs.declared.roots.Roots.{Roots}
+use Rattle.desk_words.specs.declared.roots.Roots.{Roots}
 use Rattle.desk_run.specs.declared.rules.Ruled.{Ruled}
 use Rattle.desk_run.specs.declared.TheConstants.{SIZE}
-use Rattle.desk_run.specs.Words.{task_of, first_nested, written}
+use Rattle.desk_words.specs.Roots.{roots_of_words}
 use Rattle.desk_run.specs.Images.{target, image}
 use Rattle.desk_run.specs.Runs.{Run}
-
-abbrev pub nested_status : Root × Root → Status
-nested_status pair = NestedRoots (written pair.0) (written pair.1)
-
--- the written roots, where none lies in another that it may not lie in
-abbrev pub roots_apart : Root → Root → Root → Root → Option (Root × Root) → Result Roots Status
-roots_apart rules from to ledger None = Ok (record { rules = written rules; from = written from; to = written to; ledger = written ledger })
-roots_apart rules from to ledger (Some pair) = Err (nested_status pair)
-
-abbrev pub roots_of_task : Option Task → Result Roots Status
-roots_of_task None = Err Usage
-roots_of_task (Some (task.Run rules from to ledger workers)) = roots_apart rules from to ledger (first_nested rules from to ledger)
-
--- the roots of words
-abbrev pub roots_of_words : List Text → Result Roots Status
-roots_of_words words = roots_of_task (task_of words)
 
 -- a file that isn't the one of the renames, or is too large
 abbrev pub is_other : File → Bool

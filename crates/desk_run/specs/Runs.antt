@@ -4,11 +4,12 @@ use Rattle.std.specs.Cmp.Lexicographic.{pointwise}
 use Rattle.std.specs.FinMap as fin
 use Rattle.sha2.specs.Sha256.{sha256}
 use Rattle.desk_base.specs.Names.{Text}
-use Rattle.desk_base.specs.Paths.{full, is_relative_path}
+use Rattle.desk_base.specs.Paths.{is_relative_path}
 use Rattle.desk_folders.specs.Contents.{Contents, File, files_below}
 use Rattle.desk_ledger.specs.declared.keeper.Header.{Header}
 use Rattle.desk_ledger.specs.declared.keeper.Held.{Held}
 use Rattle.desk_ledger.specs.Ledger.{Rows}
+use Rattle.desk_words.specs.Roots.{RootsApart}
 use Rattle.desk_run.specs.declared.image.Image.{Image}
 
 -- the roots of source, target and ledger as they are written, the header, and for each path its target
@@ -40,10 +41,6 @@ held_of file = record { source = file.path; digest = record { 0 = sha256 file.by
 
 abbrev pub targets_of : Run → List File → List Text
 targets_of run = map (λ file. run.target file.path)
-
--- nothing below one root is below the other
-abbrev pub RootsApart : Text → Text → Type 0
-RootsApart from to = (p q : Text) → is_relative_path p ≡ true → is_relative_path q ≡ true → full from p ≢ full to q
 
 -- a text isn't in the list
 abbrev pub Misses : Text → List Text → Type 0

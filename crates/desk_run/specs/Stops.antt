@@ -67,6 +67,10 @@ abbrev pub halt_of_keeper : KeeperFault → Halt
 halt_of_keeper keeper.Failed = halt.Ledger
 halt_of_keeper keeper.Memory = halt.Memory
 
+abbrev pub halt_of_words : Status → Halt
+halt_of_words status.Memory = halt.Memory
+halt_of_words against = halt.Answer against
+
 abbrev pub status_of_halt : Halt → Status
 status_of_halt halt.Memory = status.Memory
 status_of_halt halt.Folders = status.FolderFault 0

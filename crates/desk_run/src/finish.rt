@@ -8,7 +8,7 @@ ghost use Rattle.desk_run.specs.Halts.{HaltsPlan, NamedAtHalt};
 ghost use Rattle.desk_run.specs.Images.{image};
 ghost use Rattle.desk_run.specs.Inputs.{work_of_input};
 ghost use Rattle.desk_run.specs.Reports.{report_of_works};
-ghost use Rattle.desk_run.specs.Roots.{AreRoots, IsPathRoot};
+ghost use Rattle.desk_words.specs.Roots.{AreRoots, IsPathRoot};
 ghost use Rattle.desk_run.specs.Runs.{AllRelative};
 ghost use Rattle.desk_run.specs.Truth.{IsOurs};
 ghost use Rattle.desk_run.specs.Answers.{other_run};

@@ -4,19 +4,19 @@ ghost use Rattle.std.specs.Prelude.{◌≡◌, ◌≤◌, ◌<◌, ◌^◌, Ok, 
 ghost use Rattle.desk_folders.specs.Contents.{Rose, files_below};
 ghost use Rattle.desk_run.specs.Endings.{AreInputs};
 ghost use Rattle.desk_run.specs.Halts.{HaltsAtFiles, HaltsGathering, HaltsReadingAll};
-ghost use Rattle.desk_run.specs.Meaning.{roots_of_words, ruled, run_of, run_of_words};
-ghost use Rattle.desk_run.specs.Roots.{AreRoots};
+ghost use Rattle.desk_run.specs.Meaning.{ruled, run_of, run_of_words};
+ghost use Rattle.desk_words.specs.Roots.{AreRoots, roots_of_words};
 ghost use Rattle.desk_run.specs.Runs.{AllRelative};
 
 use crate::check::check_all;
 use crate::files::Input;
-use crate::roots::{Roots, roots_of_words};
 use crate::rules::{Ruled, read_rules};
 use crate::sources::{copy_of, read_sources};
-use crate::stops::Halt;
+use crate::stops::{Halt, halt_of_words};
 use desk_base::{Memory, Text};
 use desk_folders::Folders;
 use desk_ledger::Header;
+use desk_words::{Roots, roots_of_words};
 use std::alloc::Global;
 
 /// What a run goes by: its roots, its rules, its header, and its files.
@@ -111,6 +111,6 @@ pub(crate) fn gather<F: Folders>(
 {
     match roots_of_words(alloc, words) {
         Ok(names) => gather_by(alloc, folders, names),
-        Err(halt) => Err(halt),
+        Err(status) => Err(halt_of_words(status)),
     }
 }

@@ -14,23 +14,20 @@ mod image;
 mod opening;
 mod planning;
 mod report;
-mod roots;
 mod rules;
 mod sources;
 mod stops;
 mod tally;
-mod words;
 mod write;
 
 use desk_base::Text;
 use desk_folders::Folders;
 use desk_ledger::Keeper;
 use desk_report::{Sink, Status, write_fault};
+pub use desk_words::{Root, Task, WordsFault, read_words};
 use finish::{finish, prepare};
-pub use roots::Root;
 use std::alloc::Global;
 use stops::status_of_halt;
-pub use words::{Task, WordsFault, read_words};
 
 /// How many files a run takes.
 pub const MOST: u32 = 1000;

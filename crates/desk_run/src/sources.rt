@@ -12,13 +12,13 @@ ghost use Rattle.desk_run.specs.Halts.{HaltsReading, HaltsAtSources, IsNotBuilt}
 
 use crate::files::{Content, Source};
 use crate::image::target_of;
-use crate::roots::Roots;
 use crate::rules::Ruled;
 use crate::stops::Halt;
 use crate::{MOST, SIZE};
 use desk_base::{Memory, Text};
 use desk_folders::{FolderFault, Folders};
 use desk_report::Status;
+use desk_words::Roots;
 use std::alloc::Global;
 
 /// How many bytes one call asks for.

@@ -1,7 +1,7 @@
 //! Why a run stops, and how that is told as a status.
 
 ghost use Rattle.std.specs.Prelude.{◌≡◌};
-ghost use Rattle.desk_run.specs.Stops.{stop_of_folders, stop_of_keeper, halt_of_folders, halt_of_keeper, status_of_stop, status_of_halt};
+ghost use Rattle.desk_run.specs.Stops.{stop_of_folders, stop_of_keeper, halt_of_folders, halt_of_keeper, halt_of_words, status_of_stop, status_of_halt};
 
 use desk_base::Memory;
 use desk_folders::FolderFault;
@@ -118,6 +118,16 @@ impl From<KeeperFault> for Halt {
             KeeperFault::Failed => Halt::Ledger,
             KeeperFault::Memory => Halt::Memory,
         }
+    }
+}
+
+/// Why a run stops at words against which this status stands.
+pub(crate) fn halt_of_words(status: Status) -> Halt
+    ensures { result ≡ halt_of_words status }
+{
+    match status {
+        Status::Memory => Halt::Memory,
+        status => Halt::Answer(status),
     }
 }
 

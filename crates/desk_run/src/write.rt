@@ -4,7 +4,7 @@ ghost use Rattle.std.specs.Prelude.{◌≡◌, ◌⊎◌, ◌≤◌, ◌<◌, �
 ghost use Rattle.desk_base.specs.Paths.{full, is_full_path, is_relative_path};
 ghost use Rattle.desk_folders.specs.Contents.{Contents, Rose, ChangesOnly, holding};
 ghost use Rattle.desk_ledger.specs.Ledger.{with_row, held_in};
-ghost use Rattle.desk_run.specs.Roots.{IsPathRoot};
+ghost use Rattle.desk_words.specs.Roots.{IsPathRoot};
 ghost use Rattle.desk_run.specs.Runs.{AllRelative};
 ghost use Rattle.desk_run.specs.Works.{wrote, logged, forgot, files_after, ledger_after, held_of_work};
 ghost use Rattle.desk_run.specs.Stops.{HasCause, Broken, StoppedAt, Begun, Untouched};

@@ -8,15 +8,15 @@ use Rattle.std.proofs.lemmas.List.Elements.{All-nil, All-cons}
 use Rattle.std.proofs.lemmas.List.Splits.{slice_split_none, slice_split_at}
 use Rattle.desk_base.specs.Names.{Text, slash, is_empty, is_whole, written}
 use Rattle.desk_base.specs.Paths.{here, top, is_segment, is_relative_path, is_full_path, is_root, written_root, full}
-use Rattle.desk_run.specs.declared.roots.Root.{Root}
-use Rattle.desk_run.specs.declared.words.Task.{Task}
-use Rattle.desk_run.specs.declared.words.Task.TheVariants.{Run}
-use Rattle.desk_run.specs.Words.{parts, is_upward, is_dropped, named_parts, is_value, is_absolute, root_of, written as written_of, run_of_roots, task_of, are_options}
-use Rattle.desk_run.specs.declared.roots.Roots.{Roots}
-use Rattle.desk_run.specs.Words.{overlap, first_nested}
-use Rattle.desk_run.specs.Meaning.{roots_apart, roots_of_task, roots_of_words}
-use Rattle.desk_run.specs.Roots.{AreRoots}
-use Rattle.desk_run.proofs.Apart.{is_named, before, full_relative, full_absolute, roots_apart as apart_roots}
+use Rattle.desk_words.specs.declared.roots.Root.{Root}
+use Rattle.desk_words.specs.declared.words.Task.{Task}
+use Rattle.desk_words.specs.declared.words.Task.TheVariants.{Run}
+use Rattle.desk_words.specs.Words.{parts, is_upward, is_dropped, named_parts, is_value, is_absolute, root_of, written as written_of, run_of_roots, task_of, are_options}
+use Rattle.desk_words.specs.declared.roots.Roots.{Roots}
+use Rattle.desk_words.specs.Words.{overlap, first_nested}
+use Rattle.desk_words.specs.Roots.{roots_apart, roots_of_task, roots_of_words}
+use Rattle.desk_words.specs.Roots.{AreRoots}
+use Rattle.desk_words.proofs.Apart.{is_named, before, full_relative, full_absolute, roots_apart as apart_roots}
 
 split_whole : (t : Text) → list_all (is_whole slash) (parts t) ≡ true
 split_whole [] = refl

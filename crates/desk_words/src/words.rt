@@ -1,7 +1,7 @@
 //! The words of a run.
 
 ghost use Rattle.std.specs.Prelude.{◌≡◌, Some, None, Err, IfOk};
-ghost use Rattle.desk_run.specs.Words.{root_of, task_of, run_of_roots, are_options};
+ghost use Rattle.desk_words.specs.Words.{root_of, task_of, run_of_roots, are_options};
 
 use crate::roots::Root;
 use desk_base::{Memory, Text};
@@ -28,7 +28,7 @@ pub enum WordsFault {
 
 impl From<Memory> for WordsFault {
     ghost use Rattle.std.specs.Prelude.{◌≡◌};
-    ghost use Rattle.desk_run.specs.declared.words.WordsFault.TheVariants as fault;
+    ghost use Rattle.desk_words.specs.declared.words.WordsFault.TheVariants as fault;
 
     ghost from_gives = { λ _ it. it ≡ fault.Memory };
 

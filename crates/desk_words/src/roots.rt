@@ -4,13 +4,10 @@ ghost use Rattle.std.specs.Prelude.{◌≡◌, Some, Ok, Err, IfOk, IfErr, OnOk,
 ghost use Rattle.std.specs.List.{list_any};
 ghost use Rattle.std.specs.Str.{is_utf8};
 ghost use Rattle.desk_base.specs.Names.{written as joined};
-ghost use Rattle.desk_run.specs.Words.{is_value, parts, is_upward, is_dropped, named_parts, root_of, written, lies_in, overlap, first_nested};
+ghost use Rattle.desk_words.specs.Words.{is_value, parts, is_upward, is_dropped, named_parts, root_of, written, lies_in, overlap, first_nested};
 ghost use Rattle.desk_report.specs.declared.status.Status.TheVariants.{NestedRoots};
-ghost use Rattle.desk_run.specs.Roots.{AreRoots};
-ghost use Rattle.desk_run.specs.Halts.{HaltsAtTask, HaltsAtWords};
-ghost use Rattle.desk_run.specs.Meaning.{nested_status, roots_of_task, roots_of_words};
+ghost use Rattle.desk_words.specs.Roots.{AreRoots, RefusedBy, nested_status, roots_apart, roots_of_words};
 
-use crate::stops::Halt;
 use crate::words::{Task, WordsFault, read_words};
 use desk_base::{Memory, Text, TextList};
 use desk_report::Status;
@@ -209,33 +206,56 @@ fn written_roots(
     })
 }
 
-/// The roots of a task, or the status of the first pair of them that is nested, or want of memory.
-fn roots_of_task(alloc: Global, task: &Task) -> Result<Roots, Halt>
-    ensures ok { IfOk result (λ roots. roots_of_task (Some task.now) ≡ Ok roots) }
-    ensures err { IfErr result (HaltsAtTask (Some task.now)) }
+/// The roots as they are written, or the status of the first pair of them that is nested, or want of
+/// memory.
+fn separate_roots(
+    alloc: Global,
+    rules: &Root,
+    from: &Root,
+    to: &Root,
+    ledger: &Root,
+) -> Result<Roots, Status>
+    ensures ok { IfOk result (λ roots. roots_apart rules.now from.now to.now ledger.now (first_nested rules.now from.now to.now ledger.now) ≡ Ok roots) }
+    ensures err { IfErr result (RefusedBy (roots_apart rules.now from.now to.now ledger.now (first_nested rules.now from.now to.now ledger.now))) }
 {
-    let Task::Run {
-        rules,
-        from,
-        to,
-        ledger,
-        ..
-    } = task;
-    match first_nested(alloc, rules, from, to, ledger)? {
-        Some(status) => Err(Halt::Answer(status)),
-        None => Ok(written_roots(alloc, rules, from, to, ledger)?),
+    match first_nested(alloc, rules, from, to, ledger) {
+        Ok(Some(status)) => Err(status),
+        Ok(None) => match written_roots(alloc, rules, from, to, ledger) {
+            Ok(roots) => Ok(roots),
+            Err(Memory) => Err(Status::Memory),
+        },
+        Err(Memory) => Err(Status::Memory),
     }
 }
 
-/// The roots that words name, or the status of words that name none, or want of memory.
-pub(crate) fn roots_of_words(alloc: Global, words: &[Text]) -> Result<Roots, Halt>
+/// The roots that words name, as they are written, or why they name none.
+fn read_roots(alloc: Global, words: &[Text]) -> Result<Roots, Status>
     ensures ok { IfOk result (λ roots. roots_of_words words.now ≡ Ok roots) }
-    ensures sound { IfOk result AreRoots }
-    ensures err { IfErr result (HaltsAtWords words.now) }
+    ensures err { IfErr result (RefusedBy (roots_of_words words.now)) }
 {
     match read_words(alloc, words) {
-        Ok(task) => roots_of_task(alloc, &task),
-        Err(WordsFault::Usage) => Err(Halt::Answer(Status::Usage)),
-        Err(WordsFault::Memory) => Err(Halt::Memory),
+        Ok(
+            Task::Run {
+                rules,
+                from,
+                to,
+                ledger,
+                ..
+            },
+        ) => separate_roots(alloc, &rules, &from, &to, &ledger),
+        Err(WordsFault::Usage) => Err(Status::Usage),
+        Err(WordsFault::Memory) => Err(Status::Memory),
     }
+}
+
+/// The roots that words name, as they are written. They are roots below which paths stand, and source and
+/// target have no path in common.
+/// The errors: `Usage` of words without a task; `NestedRoots` with the first two roots of which one lies
+/// in the other; `Memory`, which may come at any words.
+pub fn roots_of_words(alloc: Global, words: &[Text]) -> Result<Roots, Status>
+    ensures ok { IfOk result (λ roots. roots_of_words words.now ≡ Ok roots) }
+    ensures sound { IfOk result AreRoots }
+    ensures err { IfErr result (RefusedBy (roots_of_words words.now)) }
+{
+    read_roots(alloc, words)
 }

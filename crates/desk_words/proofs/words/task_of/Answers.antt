@@ -1,7 +1,7 @@
 use Rattle.std.proofs.Common.{◌≡◌, ◌<◌, ◌≤◌, ℕ, List, [], ◌∷◌, length, get_or, Option, None, true, false, Bool, arith, sym, ap, ◌∙◌, subst, IfOk, if◌then◌else◌, refl}
-use Rattle.desk_run.specs.declared.words.Task.{Task}
-use Rattle.desk_run.specs.Words.{task_of, run_of_roots, root_of}
-use Rattle.desk_run.proofs.words.task_of.Goals as goal
+use Rattle.desk_words.specs.declared.words.Task.{Task}
+use Rattle.desk_words.specs.Words.{task_of, run_of_roots, root_of}
+use Rattle.desk_words.proofs.words.task_of.Goals as goal
 
 -- nine words, one by one
 nine : (xs : List (List ℕ)) (a b c d e f g h i : List ℕ) → 9 ≤ length xs → length xs < 10 → a ≡ get_or xs 0 a → b ≡ get_or xs 1 b → c ≡ get_or xs 2 c → d ≡ get_or xs 3 d

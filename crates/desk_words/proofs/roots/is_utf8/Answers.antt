@@ -4,7 +4,7 @@ use Rattle.std.specs.Result.{is_ok}
 use Rattle.std.specs.Str.{is_utf8, IsUtf8}
 use Rattle.std.proofs.lemmas.Str.{is_utf8-from_IsUtf8, IsUtf8-from_is_utf8}
 use Rattle.std.proofs.lemmas.Bool.{false_from_ne_true}
-use Rattle.desk_run.proofs.roots.is_utf8.Goals as goal
+use Rattle.desk_words.proofs.roots.is_utf8.Goals as goal
 
 tested : {S E : Type 0} (bytes : List ℕ) (P : S → Type 0) (Q : E → Type 0) (r : Result S E) → MatchResult r (λ s. P s × IsUtf8 bytes) (λ e. ¬ (IsUtf8 bytes) × Q e) → is_ok r ≡ is_utf8 bytes
 tested bytes P Q (Ok s) h = sym (is_utf8-from_IsUtf8 bytes h.1)

@@ -4,9 +4,9 @@ use Rattle.std.specs.List.{slice_split, list_any, starts_with}
 use Rattle.std.specs.Str.{bytes_eq, is_utf8}
 use Rattle.desk_base.specs.Names.{Text, is_empty, slash}
 use Rattle.desk_base.specs.Paths.{here, written_root}
-use Rattle.desk_run.specs.declared.roots.Root.{Root}
-use Rattle.desk_run.specs.declared.words.Task.{Task}
-use Rattle.desk_run.specs.declared.words.Task.TheVariants.{Run}
+use Rattle.desk_words.specs.declared.roots.Root.{Root}
+use Rattle.desk_words.specs.declared.words.Task.{Task}
+use Rattle.desk_words.specs.declared.words.Task.TheVariants.{Run}
 
 -- a value of an option: UTF-8, not empty, not beginning with `-`, and of at most 1,024 bytes
 abbrev pub is_value : Text → Bool

@@ -1,0 +1,3 @@
+pub mod Joined
+pub mod Apart
+pub mod Rooted

@@ -1,0 +1,8 @@
+//! The words of a run, and the roots that they name.
+#![tactic(auto)]
+
+mod roots;
+mod words;
+
+pub use roots::{Root, Roots, roots_of_words};
+pub use words::{Task, WordsFault, read_words};
