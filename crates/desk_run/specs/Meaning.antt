@@ -1,5 +1,5 @@
 -- What words and folders mean: a run, or the answer that stands before it.
-use Rattle.std.specs.Prelude.{Bool, not, ◌||◌, ◌++◌, nat_lt, List, [], ◌∷◌, length, Option, Some, None, Result, Ok, Err, if◌then◌else◌}
+use Rattle.std.specs.Prelude.{Bool, not, ◌||◌, ◌++◌, nat_lt, List, [], ◌∷◌, length, Result, Ok, Err, if◌then◌else◌}
 use Rattle.std.specs.List.{list_any, flat_map}
 use Rattle.std.specs.Int.{w32, w64, to_be_bytes}
 use Rattle.std.specs.Str.{bytes_eq}
