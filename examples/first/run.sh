@@ -6,6 +6,7 @@ program=crates/migrate/out/migrate
 if [ ! -x "$program" ]; then
   echo "building $program (each crate is proved first; this takes some minutes)" >&2
   (cd crates/migrate && rt run >/dev/null) || true
+  [ -x "$program" ] || { echo "$program was not built" >&2; exit 1; }
 fi
 rm -rf build/first
 "$program" run --rules examples/first/rules --from examples/first/app --to build/first --ledger build/first.ledger
