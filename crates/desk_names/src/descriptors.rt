@@ -114,6 +114,30 @@ fn ends(place: Place, byte: u8) -> State
     }
 }
 
+/// The state behind a byte that stands in a class name, where a part of it has begun or not.
+#[tactic(auto, unfolding(desk_base::specs::Descriptors::step))]
+fn name_step(place: Place, inside: bool, byte: u8) -> State
+    ensures { awaited_of result ≡ step (awaited_of (State.Name place inside)) byte }
+{
+    if byte == b';' {
+        if inside {
+            behind(place, false)
+        } else {
+            State::Wrong
+        }
+    } else if byte == b'/' {
+        if inside {
+            State::Name(place, false)
+        } else {
+            State::Wrong
+        }
+    } else if is_reserved(byte) {
+        State::Wrong
+    } else {
+        State::Name(place, true)
+    }
+}
+
 /// The state behind a byte.
 #[tactic(auto, unfolding(desk_base::specs::Descriptors::step))]
 fn step(state: State, byte: u8) -> State
@@ -144,25 +168,7 @@ fn step(state: State, byte: u8) -> State
                 State::Wrong
             }
         }
-        State::Name(place, inside) => {
-            if byte == b';' {
-                if inside {
-                    behind(place, false)
-                } else {
-                    State::Wrong
-                }
-            } else if byte == b'/' {
-                if inside {
-                    State::Name(place, false)
-                } else {
-                    State::Wrong
-                }
-            } else if is_reserved(byte) {
-                State::Wrong
-            } else {
-                State::Name(place, true)
-            }
-        }
+        State::Name(place, inside) => name_step(place, inside, byte),
         State::Over => State::Wrong,
         State::Wrong => State::Wrong,
     }

@@ -1,6 +1,6 @@
 //! Reading a signature byte by byte (JVMS 4.7.9.1).
 
-ghost use Rattle.std.specs.Prelude.{◌≡◌, ◌+◌, ◌≤◌, length, drop};
+ghost use Rattle.std.specs.Prelude.{◌≡◌, ◌+◌, ◌≤◌, length, drop, []};
 ghost use Rattle.desk_base.specs.Signatures.{is_mark};
 ghost use Rattle.desk_names.specs.SignatureScan.{wanted_signature, ref_behind, in_class, ref_step, after, at_place, has_bound, first_bound, body_step, sig_step, sig_start, is_sound_signature, is_within, mark_place};
 
@@ -291,6 +291,36 @@ fn in_params(owner: Owner, inside: bool, byte: u8, behind: &[u8]) -> SigState
     }
 }
 
+/// The state behind a byte that stands behind the bounds of a type parameter.
+#[tactic(auto, unfolding(crate::specs::SignatureScan::sig_step))]
+fn bounds_step(owner: Owner, byte: u8) -> SigState
+    ensures { result ≡ sig_step (SigState.Bounds owner) byte [] }
+{
+    if !is_mark(byte) {
+        SigState::ParamName(owner, true)
+    } else if byte == b':' {
+        SigState::In(RefPlace::Bound(owner), RefState::Ref(0, false))
+    } else if byte == b'>' {
+        SigState::Body(owner)
+    } else {
+        SigState::Wrong
+    }
+}
+
+/// The state behind a byte that stands behind `^`.
+#[tactic(auto, unfolding(crate::specs::SignatureScan::sig_step))]
+fn thrown_step(byte: u8) -> SigState
+    ensures { result ≡ sig_step SigState.Thrown byte [] }
+{
+    if byte == b'L' {
+        SigState::In(RefPlace::Thrown, RefState::Class(0, Spot::Package(false)))
+    } else if byte == b'T' {
+        SigState::In(RefPlace::Thrown, RefState::Variable(0, false))
+    } else {
+        SigState::Wrong
+    }
+}
+
 /// The state behind a byte, in front of a text.
 #[tactic(auto, unfolding(crate::specs::SignatureScan::sig_step))]
 pub fn sig_step(state: SigState, byte: u8, behind: &[u8]) -> SigState
@@ -306,17 +336,7 @@ pub fn sig_step(state: SigState, byte: u8, behind: &[u8]) -> SigState
             }
         }
         SigState::ParamName(owner, inside) => in_params(owner, inside, byte, behind),
-        SigState::Bounds(owner) => {
-            if !is_mark(byte) {
-                SigState::ParamName(owner, true)
-            } else if byte == b':' {
-                SigState::In(RefPlace::Bound(owner), RefState::Ref(0, false))
-            } else if byte == b'>' {
-                SigState::Body(owner)
-            } else {
-                SigState::Wrong
-            }
-        }
+        SigState::Bounds(owner) => bounds_step(owner, byte),
         SigState::Body(owner) => body_step(owner, byte),
         SigState::Supers => body_step(Owner::Class, byte),
         SigState::Parameters => {
@@ -340,15 +360,7 @@ pub fn sig_step(state: SigState, byte: u8, behind: &[u8]) -> SigState
                 SigState::Wrong
             }
         }
-        SigState::Thrown => {
-            if byte == b'L' {
-                SigState::In(RefPlace::Thrown, RefState::Class(0, Spot::Package(false)))
-            } else if byte == b'T' {
-                SigState::In(RefPlace::Thrown, RefState::Variable(0, false))
-            } else {
-                SigState::Wrong
-            }
-        }
+        SigState::Thrown => thrown_step(byte),
         SigState::Over => SigState::Wrong,
         SigState::Wrong => SigState::Wrong,
     }
