@@ -38,6 +38,11 @@ def copied(place, turn):
     return copy + read
 
 
+def digested(place):
+    seconds, _ = timed(["sh", "-c", f"sha256sum {place}/app/*.bin {place}/app/META-INF/services/*"])
+    return seconds
+
+
 def migrated(program, place, turn):
     return timed([program, "run", "--rules", f"{place}/rules", "--from", f"{place}/app", "--to", f"{place}/out{turn}", "--ledger", f"{place}/ledger"])
 
@@ -45,14 +50,16 @@ def migrated(program, place, turn):
 def main():
     program, place = sys.argv[1:]
     make(place)
-    plain, desk, peak = [], [], 0
+    plain, digest, desk, peak = [], [], [], 0
     for turn in range(ROUNDS):
         plain.append(copied(place, turn))
+        digest.append(digested(place))
         seconds, kib = migrated(program, place, turn)
         desk.append(seconds)
         peak = max(peak, kib * 1024)
     size = FILES * SIZE
     print(f"time: {min(desk) / min(plain):.2f} times cp -r and reading once more ({min(desk):.3f} s to {min(plain):.3f} s; aim: at most 3)")
+    print(f"beside it: sha256sum of the same files takes {min(digest) / min(plain):.2f} times that, and the digests are part of a run")
     print(f"peak memory: {(peak - (64 << 20)) / size:.2f} times the files' bytes, besides 64 MiB ({peak} of {size} bytes; aim: at most 2)")
 
 
