@@ -3,12 +3,13 @@
 ghost use Rattle.std.specs.Prelude.{◌≡◌, ◌≢◌, ◌≤◌, ◌<◌, ◌++◌, ◌∷◌, [], ◌↔◌, IsTrue, length, OnOk, OnErr};
 ghost use Rattle.std.specs.List.{flat_map};
 ghost use Rattle.hex.specs.Hex.{encode_lower};
-ghost use Rattle.desk_base.specs.Shown.{is_plain, shown_byte, shown, hex_digit};
+ghost use Rattle.desk_base.specs.Shown.{shown_byte, shown};
 ghost use Rattle.desk_ledger.specs.Ledger.{Rose};
 ghost use Rattle.desk_report.specs.Written.{writing, WritesFront};
 ghost use Rattle.desk_report.specs.Pieces.{piece_text, pieces_text, Gathers};
 
 use crate::{Sink, SinkFault};
+use desk_base::show_byte;
 use itoa::Buffer;
 use std::marker::Model;
 
@@ -132,21 +133,6 @@ fn put_all<O: Sink>(out: &mut O, waiting: &mut Waiting, bytes: &[u8]) -> Result<
     Ok(())
 }
 
-/// A digit of base 16, in lower case.
-fn digit_of(n: u8) -> u8
-    requires { n < 16 }
-    ensures { result ≡ hex_digit n }
-{
-    if n < 10 { b'0' + n } else { b'a' - 10 + n }
-}
-
-/// Whether a byte stands for itself where it is shown.
-fn stands_for_itself(byte: u8) -> bool
-    ensures { result ≡ is_plain byte }
-{
-    33 <= byte && byte <= 126 && byte != b'\\'
-}
-
 /// Puts a byte as it is shown.
 fn put_byte<O: Sink>(out: &mut O, waiting: &mut Waiting, byte: u8) -> Result<(), SinkFault>
     ensures ok { OnOk result (Gathers (shown_byte byte) waiting.old waiting.new (O.told out.old) (O.told out.new)) }
@@ -154,12 +140,7 @@ fn put_byte<O: Sink>(out: &mut O, waiting: &mut Waiting, byte: u8) -> Result<(),
     ensures counts { O.faults out.old ≤ O.faults out.new }
     ensures failed { OnErr result (Rose (O.faults out.old) (O.faults out.new)) }
 {
-    if stands_for_itself(byte) {
-        put(out, waiting, byte)
-    } else {
-        let escape = [b'\\', digit_of(byte / 16), digit_of(byte % 16)];
-        put_all(out, waiting, &escape)
-    }
+    put_all(out, waiting, show_byte(byte).as_bytes())
 }
 
 /// Puts the bytes of a text, each as it is shown.
