@@ -1,5 +1,6 @@
 -- Small service files and their images under the one rule that renames `javax.servlet` to `jakarta.servlet`.
 use Rattle.std.proofs.Common.{◌≡◌, ℕ, false, [], ◌∷◌, ◌++◌, Result, Ok, Err, refl}
+use Rattle.std.specs.FinMap as fin
 use Rattle.std.specs.Prelude.{codes}
 use Rattle.desk_base.specs.Names.{Text}
 use Rattle.desk_base.specs.declared.Changed.{Changed}
@@ -7,7 +8,14 @@ use Rattle.desk_rules.specs.Rules.{Rules}
 use Rattle.desk_metainf.specs.Services.{service}
 
 abbrev servlet : Rules
-servlet = record { renames = record { source = codes "javax" ∷ codes "servlet" ∷ []; target = codes "jakarta" ∷ codes "servlet" ∷ []; below = false } ∷ [] }
+servlet = record {
+  renames = record { source = codes "javax" ∷ codes "servlet" ∷ []; target = codes "jakarta" ∷ codes "servlet" ∷ []; below = false } ∷ [];
+  versions = fin.empty;
+  bundles = fin.empty;
+  direct = fin.empty;
+  selection = [];
+  texts = [];
+}
 
 abbrev gives : Text → ℕ → Result Changed ℕ
 gives bytes changed = Ok (record { bytes = bytes; changed = changed })

@@ -1,1 +1,6 @@
-pub mod Targets
+pub mod Roots
+pub mod Stays
+pub mod Walked
+pub mod Folders
+pub mod Relative
+pub mod Answered

@@ -1,50 +1,188 @@
-ghost use Rattle.std.specs.Prelude.{◌≤◌, length};
-
 use super::*;
-use desk_rules::{BuildFault, RuleFiles};
+use desk_base::{Memory, Text};
+use desk_rules::{RuleFiles, RuleSet};
+use std::alloc::Global;
 use std::test::Fail;
 
-/// The rule set of a folder with this one file.
-fn build(alloc: Global, line: &[u8]) -> Result<RuleSet, BuildFault>
-    requires { length line.now ≤ 1048576 }
-{
-    let mut files = RuleFiles::new(alloc);
-    let name = Text::from_bytes(alloc, b"renames.properties")?;
-    let content = Text::from_bytes(alloc, line)?;
+/// The files with one more, if its name is new.
+fn with_file(
+    alloc: Global,
+    mut files: RuleFiles,
+    name: &[u8],
+    content: &[u8],
+) -> Result<RuleFiles, Fail> {
+    let name = Text::from_bytes(alloc, name)?;
+    if content.len() > 1_048_576 {
+        return Ok(files);
+    }
+    if let Some(_) = files.content(&name) {
+        return Ok(files);
+    }
+    let content = Text::from_bytes(alloc, content)?;
     files.add(name, content)?;
-    RuleSet::build(alloc, &files)
+    Ok(files)
 }
 
-/// Whether a path goes to this one.
-fn goes(rules: &RuleSet, alloc: Global, path: &[u8], to: &[u8]) -> Result<bool, Memory> {
-    Ok(target(alloc, path, rules)?.as_bytes() == to)
+/// The rule set of these renames and of one further file.
+fn build(alloc: Global, renames: &[u8], name: &[u8], content: &[u8]) -> Result<RuleSet, Fail> {
+    let files = with_file(alloc, RuleFiles::new(alloc), b"renames.properties", renames)?;
+    let files = with_file(alloc, files, name, content)?;
+    Ok(RuleSet::build(alloc, &files)?)
 }
+
+/// The rule set of the one below rename and of one selection.
+fn selecting(alloc: Global, selection: &[u8]) -> Result<RuleSet, Fail> {
+    build(
+        alloc,
+        b"javax.servlet.*=jakarta.servlet",
+        b"selection.properties",
+        selection,
+    )
+}
+
+/// Whether a path goes to this one, by both calls.
+fn goes(rules: &RuleSet, alloc: Global, path: &[u8], to: &[u8]) -> Result<bool, Memory> {
+    let renamed = renamed_path(alloc, path, rules)?;
+    let found = target(alloc, path, rules)?;
+    Ok(renamed.as_bytes() == to && found.as_bytes() == to)
+}
+
+/// Whether a path has this class root, rest and kind.
+fn placed(path: &[u8], root: &[u8], rest: &[u8], kind: Kind) -> bool {
+    let found = place(path);
+    found.root == root && found.rest == rest && found.kind == kind
+}
+
+/// Paths, each with its class root, its rest and its kind.
+const PLACES: [(&[u8], &[u8], &[u8], Kind); 14] = [
+    (
+        b"shop.war/WEB-INF/classes/javax/servlet/F.class",
+        b"shop.war/WEB-INF/classes",
+        b"javax/servlet/F.class",
+        Kind::Class,
+    ),
+    (
+        b"META-INF/versions/11/javax/servlet/F.class",
+        b"META-INF/versions/11",
+        b"javax/servlet/F.class",
+        Kind::Class,
+    ),
+    (
+        b"a.ear/b.war/WEB-INF/lib/c.jar/META-INF/services/x.Y",
+        b"a.ear/b.war/WEB-INF/lib/c.jar",
+        b"META-INF/services/x.Y",
+        Kind::Service,
+    ),
+    (
+        b"a.rar/META-INF/MANIFEST.MF",
+        b"a.rar",
+        b"META-INF/MANIFEST.MF",
+        Kind::Manifest,
+    ),
+    (
+        b"META-INF/MANIFEST.MF",
+        b"",
+        b"META-INF/MANIFEST.MF",
+        Kind::Manifest,
+    ),
+    (
+        b"x/META-INF/MANIFEST.MF",
+        b"",
+        b"x/META-INF/MANIFEST.MF",
+        Kind::Other,
+    ),
+    (b"lib/a.jar", b"", b"lib/a.jar", Kind::Other),
+    (b"x/classes/A.class", b"", b"x/classes/A.class", Kind::Class),
+    (
+        b"versions/11/A.class",
+        b"",
+        b"versions/11/A.class",
+        Kind::Class,
+    ),
+    (
+        b"META-INF/versions/1a/A.class",
+        b"",
+        b"META-INF/versions/1a/A.class",
+        Kind::Class,
+    ),
+    (
+        b"BOOT-INF/classes/META-INF/services/a/b",
+        b"BOOT-INF/classes",
+        b"META-INF/services/a/b",
+        Kind::Other,
+    ),
+    (
+        b"APP-INF/classes/x.properties",
+        b"APP-INF/classes",
+        b"x.properties",
+        Kind::Other,
+    ),
+    (
+        b"META-INF/services/x.class",
+        b"",
+        b"META-INF/services/x.class",
+        Kind::Service,
+    ),
+    (b"A.class", b"", b"A.class", Kind::Class),
+];
 
 #[test]
-fn paths_have_kinds(rt: HostRuntime) -> Result<(), Fail> {
-    assert_eq!(rt;
-        kind_of(b"META-INF/services/javax.servlet.Filter"),
-        Some(Kind::Service)
-    );
-    assert_eq!(rt; kind_of(b"META-INF/services/"), None);
-    assert_eq!(rt; kind_of(b"META-INF/services/a/b"), None);
-    assert_eq!(rt; kind_of(b"x/META-INF/services/a"), None);
-    assert_eq!(rt; kind_of(b"readme.txt"), Some(Kind::Other));
-    assert_eq!(rt; kind_of(b"A.class"), None);
-    assert_eq!(rt; kind_of(b"a/readme.txt"), None);
+fn a_path_is_cut_at_its_last_class_root(rt: HostRuntime) -> Result<(), Fail> {
+    for (path, root, rest, kind) in PLACES {
+        assert!(rt; placed(path, root, rest, kind), "{path:?}");
+    }
     Ok(())
 }
 
 #[test]
-fn service_files_follow_their_names(rt: HostRuntime) -> Result<(), Fail> {
+fn the_folder_behind_a_class_root_is_exchanged(rt: HostRuntime) -> Result<(), Fail> {
     let alloc = rt.alloc();
-    let rules = build(alloc, b"javax.servlet=jakarta.servlet")?;
+    let rules = selecting(alloc, b"")?;
     assert!(rt;
         goes(
             &rules,
             alloc,
-            b"META-INF/services/javax.servlet.Filter",
-            b"META-INF/services/jakarta.servlet.Filter"
+            b"shop.war/WEB-INF/classes/javax/servlet/F.class",
+            b"shop.war/WEB-INF/classes/jakarta/servlet/F.class"
+        )?
+    );
+    assert!(rt;
+        goes(
+            &rules,
+            alloc,
+            b"META-INF/versions/11/javax/servlet/F.class",
+            b"META-INF/versions/11/jakarta/servlet/F.class"
+        )?
+    );
+    assert!(rt;
+        goes(
+            &rules,
+            alloc,
+            b"x/javax/servlet/F.class",
+            b"x/javax/servlet/F.class"
+        )?
+    );
+    assert!(rt;
+        goes(
+            &rules,
+            alloc,
+            b"lib/javax.servlet.jar",
+            b"lib/javax.servlet.jar"
+        )?
+    );
+    Ok(())
+}
+
+#[test]
+fn service_files_follow_their_names_at_nested_roots(rt: HostRuntime) -> Result<(), Fail> {
+    let alloc = rt.alloc();
+    let rules = selecting(alloc, b"")?;
+    assert!(rt;
+        goes(
+            &rules,
+            alloc,
+            b"shop.war/WEB-INF/lib/a.jar/META-INF/services/javax.servlet.Filter",
+            b"shop.war/WEB-INF/lib/a.jar/META-INF/services/jakarta.servlet.Filter"
         )?
     );
     assert!(rt;
@@ -59,9 +197,32 @@ fn service_files_follow_their_names(rt: HostRuntime) -> Result<(), Fail> {
         goes(
             &rules,
             alloc,
+            b"a.jar/META-INF/MANIFEST.MF",
+            b"a.jar/META-INF/MANIFEST.MF"
+        )?
+    );
+    assert!(rt;
+        goes(
+            &rules,
+            alloc,
             b"javax.servlet.Filter",
             b"javax.servlet.Filter"
         )?
+    );
+    Ok(())
+}
+
+#[test]
+fn an_unselected_file_keeps_its_path(rt: HostRuntime) -> Result<(), Fail> {
+    let alloc = rt.alloc();
+    let rules = selecting(alloc, b"a.jar/*=!")?;
+    let path = b"a.jar/javax/servlet/F.class".as_slice();
+    let found = target(alloc, path, &rules)?;
+    assert_eq!(rt; found.as_bytes(), path);
+    let renamed = renamed_path(alloc, path, &rules)?;
+    assert_eq!(rt;
+        renamed.as_bytes(),
+        b"a.jar/jakarta/servlet/F.class".as_slice()
     );
     Ok(())
 }

@@ -1,1 +1,4 @@
 pub mod Fronts
+pub mod Images
+pub mod Drafts
+pub mod Laws

@@ -5,11 +5,14 @@ use Rattle.std.specs.Fmt.{digits}
 use Rattle.hex.specs.Hex.{encode_with}
 use Rattle.desk_base.specs.Names.{Text}
 use Rattle.desk_base.specs.Shown.{shown}
-use Rattle.desk_rules.specs.declared.RuleFault.TheVariants.{PlainLine}
+use Rattle.desk_properties.specs.declared.PropFault.TheVariants.{NotUtf8, Escape}
+use Rattle.desk_rules.specs.declared.RuleFault.TheVariants.{NoRenames, Properties, BadKey, BadValue, MissingText, Chain}
 use Rattle.desk_ledger.specs.declared.keeper.Header.{Header}
 use Rattle.desk_report.specs.declared.lines.Detail.TheVariants.{Service, Copy}
-use Rattle.desk_report.specs.declared.lines.Line.TheVariants.{Written, Kept}
-use Rattle.desk_report.specs.declared.status.Status.TheVariants.{Done, Memory, FolderFault, LedgerFault, OutputFault, Usage, NestedRoots, BadRules, OtherRun, NotBuilt}
+use Rattle.desk_report.specs.declared.lines.Line.TheVariants.{Written, Kept, Refused}
+use Rattle.desk_report.specs.declared.lines.Reason.TheVariants.{BadLine, NotBuilt}
+use Rattle.desk_report.specs.declared.status.LimitKind.TheVariants.{Files, PathLength, FileSize, Sum, RuleFiles, RuleSize}
+use Rattle.desk_report.specs.declared.status.Status.TheVariants.{Done, Refusals, Memory, FolderFault, LedgerFault, OutputFault, Usage, NestedRoots, BadRules, Limit, PathClash, OtherRun}
 use Rattle.desk_report.specs.Texts.{line_text, summary_text, fault_text}
 
 -- a plain text stands for itself
@@ -35,6 +38,13 @@ written_copy = refl
 kept_line : line_text (Kept (codes "a") (codes "a")) ≡ codes "kept a a\n"
 kept_line = refl
 
+refused_line : line_text (Refused (codes "META-INF/services/x") (BadLine 0)) ≡ codes "refused META-INF/services/x bad-line at=0\n"
+unfolding digits
+refused_line = refl
+
+not_built_line : line_text (Refused (codes "A.class") NotBuilt) ≡ codes "refused A.class not-built\n"
+not_built_line = refl
+
 total_line : summary_text (record { files = 5001; written = 5000; kept = 1; refused = 0; renamed = 25000; added = 18446744073709551615 })
     ≡ codes "total files=5001 written=5000 kept=1 refused=0 renamed=25000 added=18446744073709551615\n"
 unfolding digits
@@ -42,6 +52,9 @@ total_line = refl
 
 fault_0 : fault_text Done ≡ []
 fault_0 = refl
+
+fault_2 : fault_text Refusals ≡ []
+fault_2 = refl
 
 fault_10 : fault_text Memory ≡ codes "migrate: 10 out of memory\n"
 fault_10 = refl
@@ -57,17 +70,56 @@ fault_12 = refl
 fault_13 : fault_text OutputFault ≡ codes "migrate: 13 output fault\n"
 fault_13 = refl
 
-fault_20 : fault_text Usage ≡ codes "migrate: 20 usage: migrate run --rules R --from A --to B --ledger L\n"
+fault_20 : fault_text Usage ≡ codes "migrate: 20 usage: migrate run --rules R --from A --to B --ledger L [--workers N]\n"
 fault_20 = refl
 
 fault_21 : fault_text (NestedRoots (codes "in") (codes "in/x")) ≡ codes "migrate: 21 nested roots in in/x\n"
 fault_21 = refl
 
-fault_22 : fault_text (BadRules PlainLine) ≡ codes "migrate: 22 plain line\n"
-fault_22 = refl
+fault_22_renames : fault_text (BadRules NoRenames) ≡ codes "migrate: 22 no renames\n"
+fault_22_renames = refl
 
-fault_30 : fault_text (NotBuilt (codes "A.class")) ≡ codes "migrate: 30 not built A.class\n"
-fault_30 = refl
+fault_22_utf8 : fault_text (BadRules (Properties (codes "renames.properties") (NotUtf8 7))) ≡ codes "migrate: 22 properties renames.properties not-utf8 7\n"
+unfolding digits
+fault_22_utf8 = refl
+
+fault_22_escape : fault_text (BadRules (Properties (codes "renames.properties") (Escape 1))) ≡ codes "migrate: 22 properties renames.properties escape 1\n"
+unfolding digits
+fault_22_escape = refl
+
+fault_22_key : fault_text (BadRules (BadKey (codes "renames.properties") (codes "a..b"))) ≡ codes "migrate: 22 bad key renames.properties a..b\n"
+fault_22_key = refl
+
+fault_22_value : fault_text (BadRules (BadValue (codes "renames.properties") (codes "a"))) ≡ codes "migrate: 22 bad value renames.properties a\n"
+fault_22_value = refl
+
+fault_22_text : fault_text (BadRules (MissingText (codes "*.xml") (codes "x y"))) ≡ codes "migrate: 22 missing text *.xml x\\20y\n"
+fault_22_text = refl
+
+fault_22_chain : fault_text (BadRules (Chain 1 (codes "a.*") (codes "a.*"))) ≡ codes "migrate: 22 chain 1 a.* a.*\n"
+unfolding digits
+fault_22_chain = refl
+
+fault_23_files : fault_text (Limit Files (codes "in")) ≡ codes "migrate: 23 limit files in\n"
+fault_23_files = refl
+
+fault_23_path : fault_text (Limit PathLength (codes "a")) ≡ codes "migrate: 23 limit path-length a\n"
+fault_23_path = refl
+
+fault_23_size : fault_text (Limit FileSize (codes "a")) ≡ codes "migrate: 23 limit file-size a\n"
+fault_23_size = refl
+
+fault_23_sum : fault_text (Limit Sum (codes "a")) ≡ codes "migrate: 23 limit sum a\n"
+fault_23_sum = refl
+
+fault_23_rules : fault_text (Limit RuleFiles (codes "r")) ≡ codes "migrate: 23 limit rule-files r\n"
+fault_23_rules = refl
+
+fault_23_rule : fault_text (Limit RuleSize (codes "x")) ≡ codes "migrate: 23 limit rule-size x\n"
+fault_23_rule = refl
+
+fault_24 : fault_text (PathClash (codes "jakarta/x/a.txt") (codes "javax/x/a.txt")) ≡ codes "migrate: 24 path clash jakarta/x/a.txt javax/x/a.txt\n"
+fault_24 = refl
 
 abbrev run_of : Text → Text → ℕ → Header
 run_of from to byte = record { from = from; to = to; rules = record { 0 = replicate 32 byte } }

@@ -1,4 +1,6 @@
 pub mod Written
+pub mod Joined
+pub mod RuleFaults
 pub mod Texts
 pub mod Pieces
 pub mod InMemory

@@ -4,28 +4,34 @@ use Rattle.desk_base.specs.Names.{Text}
 use Rattle.desk_base.specs.Shown.{shown}
 use Rattle.hex.specs.Hex.{encode_lower}
 use Rattle.desk_ledger.specs.declared.keeper.Header.{Header}
-use Rattle.desk_rules.specs.declared.RuleFault.TheVariants.{PlainLine}
 use Rattle.desk_report.specs.declared.lines.Detail.{Detail}
 use Rattle.desk_report.specs.declared.lines.Detail.TheVariants.{Service, Copy}
 use Rattle.desk_report.specs.declared.lines.Line.{Line}
-use Rattle.desk_report.specs.declared.lines.Line.TheVariants.{Written, Kept}
+use Rattle.desk_report.specs.declared.lines.Line.TheVariants.{Written, Kept, Refused}
+use Rattle.desk_report.specs.declared.lines.Reason.{Reason}
+use Rattle.desk_report.specs.declared.lines.Reason.TheVariants.{BadLine, NotBuilt}
 use Rattle.desk_report.specs.declared.lines.Summary.{Summary}
 use Rattle.desk_report.specs.declared.status.Status.{Status}
-use Rattle.desk_report.specs.declared.status.Status.TheVariants.{Done, Memory, FolderFault, LedgerFault, OutputFault, Usage, NestedRoots, BadRules, OtherRun, NotBuilt}
-
--- pieces, one behind the other
-abbrev pub joined : List Text → Text
-joined [] = []
-joined (piece ∷ pieces) = piece ++ joined pieces
+use Rattle.desk_report.specs.declared.status.Status.TheVariants.{Done, Refusals, Memory, FolderFault, LedgerFault, OutputFault, Usage, NestedRoots, BadRules, Limit, PathClash, OtherRun}
+use Rattle.desk_report.specs.declared.status.LimitKind.{LimitKind}
+use Rattle.desk_report.specs.declared.status.LimitKind.TheVariants.{Files, PathLength, FileSize, Sum, RuleFiles, RuleSize}
+use Rattle.desk_report.specs.Joined.{joined, pair_pieces}
+use Rattle.desk_report.specs.RuleFaults.{rule_fault_pieces}
 
 -- what a file's image is made of
 abbrev pub detail_pieces : Detail → List Text
 detail_pieces (Service changed) = codes " service changed=" ∷ decimal changed ∷ codes "\n" ∷ []
 detail_pieces Copy = codes " copy\n" ∷ []
 
+-- why a file was refused
+abbrev pub reason_pieces : Reason → List Text
+reason_pieces (BadLine at) = codes " bad-line at=" ∷ decimal at ∷ codes "\n" ∷ []
+reason_pieces NotBuilt = codes " not-built\n" ∷ []
+
 abbrev pub line_pieces : Line → List Text
 line_pieces (Written path target detail) = codes "written " ∷ shown path ∷ codes " " ∷ shown target ∷ detail_pieces detail
 line_pieces (Kept path target) = codes "kept " ∷ shown path ∷ codes " " ∷ shown target ∷ codes "\n" ∷ []
+line_pieces (Refused path reason) = codes "refused " ∷ shown path ∷ reason_pieces reason
 
 -- the line of one file
 abbrev pub line_text : Line → Text
@@ -45,26 +51,38 @@ summary_text s = joined (summary_pieces s)
 abbrev pub header_pieces : Header → Text → List Text
 header_pieces h behind = shown h.from ∷ codes " " ∷ shown h.to ∷ codes " " ∷ encode_lower h.rules.0 ∷ behind ∷ []
 
--- what a status but Done is told by
+-- the name of a limit
+abbrev pub limit_name : LimitKind → Text
+limit_name Files = codes "files"
+limit_name PathLength = codes "path-length"
+limit_name FileSize = codes "file-size"
+limit_name Sum = codes "sum"
+limit_name RuleFiles = codes "rule-files"
+limit_name RuleSize = codes "rule-size"
+
+-- what a status is told by
 abbrev pub fault_pieces : Status → List Text
 fault_pieces Done = []
+fault_pieces Refusals = []
 fault_pieces Memory = codes "migrate: 10 out of memory\n" ∷ []
 fault_pieces (FolderFault done) = codes "migrate: 11 folder fault done=" ∷ decimal done ∷ codes "\n" ∷ []
 fault_pieces (LedgerFault done) = codes "migrate: 12 ledger fault done=" ∷ decimal done ∷ codes "\n" ∷ []
 fault_pieces OutputFault = codes "migrate: 13 output fault\n" ∷ []
-fault_pieces Usage = codes "migrate: 20 usage: migrate run --rules R --from A --to B --ledger L\n" ∷ []
-fault_pieces (NestedRoots first second) = codes "migrate: 21 nested roots " ∷ shown first ∷ codes " " ∷ shown second ∷ codes "\n" ∷ []
-fault_pieces (BadRules PlainLine) = codes "migrate: 22 plain line\n" ∷ []
+fault_pieces Usage = codes "migrate: 20 usage: migrate run --rules R --from A --to B --ledger L [--workers N]\n" ∷ []
+fault_pieces (NestedRoots first second) = pair_pieces (codes "migrate: 21 nested roots ") first second
+fault_pieces (BadRules fault) = rule_fault_pieces fault
+fault_pieces (Limit kind path) = codes "migrate: 23 limit " ∷ limit_name kind ∷ codes " " ∷ shown path ∷ codes "\n" ∷ []
+fault_pieces (PathClash first second) = pair_pieces (codes "migrate: 24 path clash ") first second
 fault_pieces (OtherRun kept wanted) = codes "migrate: 27 other run kept " ∷ header_pieces kept (codes " wanted ") ++ header_pieces wanted (codes "\n")
-fault_pieces (NotBuilt path) = codes "migrate: 30 not built " ∷ shown path ∷ codes "\n" ∷ []
 
--- the line of a fault; Done has none
+-- the line of a fault; Done and Refusals have none
 abbrev pub fault_text : Status → Text
 fault_text status = joined (fault_pieces status)
 
 -- the exit status
 abbrev pub code_of : Status → ℕ
 code_of Done = 0
+code_of Refusals = 2
 code_of Memory = 10
 code_of (FolderFault done) = 11
 code_of (LedgerFault done) = 12
@@ -72,5 +90,6 @@ code_of OutputFault = 13
 code_of Usage = 20
 code_of (NestedRoots first second) = 21
 code_of (BadRules fault) = 22
+code_of (Limit kind path) = 23
+code_of (PathClash first second) = 24
 code_of (OtherRun kept wanted) = 27
-code_of (NotBuilt path) = 30

@@ -4,14 +4,15 @@
 mod lines;
 mod memory;
 mod pieces;
+mod rule_faults;
 mod sink;
 mod standard;
 mod status;
 #[cfg(test)]
 mod tests;
 
-pub use lines::{Detail, Line, Summary, write_line, write_summary};
+pub use lines::{Detail, Line, Reason, Summary, write_line, write_summary};
 pub use memory::MemorySink;
 pub use sink::{Sink, SinkFault};
 pub use standard::StdSink;
-pub use status::{Status, write_fault};
+pub use status::{LimitKind, Status, write_fault};

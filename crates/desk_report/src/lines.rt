@@ -19,6 +19,15 @@ pub enum Detail {
     Copy,
 }
 
+/// Why a file has no image.
+#[derive(Clone, Copy, Debug, PartialEq, Eq)]
+pub enum Reason {
+    /// A line that isn't of the file's form; `at` is the offset of its first byte from the start.
+    BadLine { at: u32 },
+    /// The file is of a kind that isn't built.
+    NotBuilt,
+}
+
 /// The line of one file of the source, by its relative path and its target.
 #[derive(Debug, Drop)]
 pub enum Line {
@@ -32,6 +41,11 @@ pub enum Line {
     Kept {
         path: Text,
         target: Text,
+    },
+    /// The file has no image, and nothing was written for it.
+    Refused {
+        path: Text,
+        reason: Reason,
     },
 }
 
@@ -70,6 +84,7 @@ pub fn write_line<O: Sink>(line: &Line, out: &mut O) -> Result<(), SinkFault>
                 Piece::Plain(b"\n"),
             ],
         ),
+        Line::Refused { path, reason } => write_refused(path, *reason, out),
     }
 }
 
@@ -108,6 +123,36 @@ fn write_written<'x, O: Sink>(
                 Piece::Plain(b" "),
                 Piece::Shown(target),
                 Piece::Plain(b" copy\n"),
+            ],
+        ),
+    }
+}
+
+/// Writes the line of a file that was refused.
+fn write_refused<'x, O: Sink>(path: &'x Text, reason: Reason, out: &mut O) -> Result<(), SinkFault>
+    ensures ok { OnOk result (O.told out.new ≡ writing (line_text (line.Refused path.now reason)) (O.told out.old)) }
+    ensures err { OnErr result (WritesFront (line_text (line.Refused path.now reason)) (O.told out.old) (O.told out.new)) }
+    ensures counts { O.faults out.old ≤ O.faults out.new }
+    ensures failed { OnErr result (Rose (O.faults out.old) (O.faults out.new)) }
+{
+    let path = path.as_bytes();
+    match reason {
+        Reason::BadLine { at } => write_pieces(
+            out,
+            &[
+                Piece::Plain(b"refused "),
+                Piece::Shown(path),
+                Piece::Plain(b" bad-line at="),
+                Piece::Number(at as u64),
+                Piece::Plain(b"\n"),
+            ],
+        ),
+        Reason::NotBuilt => write_pieces(
+            out,
+            &[
+                Piece::Plain(b"refused "),
+                Piece::Shown(path),
+                Piece::Plain(b" not-built\n"),
             ],
         ),
     }

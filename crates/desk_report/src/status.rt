@@ -1,17 +1,55 @@
 //! How a run ended.
 
 ghost use Rattle.std.specs.Prelude.{◌≡◌, ◌≤◌, [], ◌∷◌, OnOk, OnErr, codes, decimal};
-ghost use Rattle.desk_base.specs.Shown.{shown};
 ghost use Rattle.desk_ledger.specs.Ledger.{Rose};
 ghost use Rattle.desk_report.specs.Written.{writing, WritesFront};
-ghost use Rattle.desk_report.specs.Texts.{code_of, joined, fault_text};
+ghost use Rattle.desk_report.specs.Joined.{joined, pair_pieces};
+ghost use Rattle.desk_report.specs.Texts.{code_of, fault_text, limit_name};
 ghost use Rattle.desk_report.specs.declared.status.Status.TheVariants as case;
 
 use crate::pieces::{Piece, write_pieces};
+use crate::rule_faults::write_rule_fault;
 use crate::{Sink, SinkFault};
 use desk_base::Text;
 use desk_ledger::Header;
 use desk_rules::RuleFault;
+
+/// The line of words without a task.
+const USAGE: &[u8] =
+    b"migrate: 20 usage: migrate run --rules R --from A --to B --ledger L [--workers N]\n";
+
+/// What a run takes no more of.
+#[derive(Clone, Copy, Debug, PartialEq, Eq)]
+pub enum LimitKind {
+    /// 200,000 files of the source.
+    Files,
+    /// 1,024 bytes of a relative path or its target.
+    PathLength,
+    /// 67,108,864 bytes of a file.
+    FileSize,
+    /// 1,073,741,824 bytes of all files together.
+    Sum,
+    /// 1,000 files of the rule folder.
+    RuleFiles,
+    /// 1,048,576 bytes of a rule file.
+    RuleSize,
+}
+
+impl LimitKind {
+    /// The name of the limit in its line.
+    fn name(self) -> &'static [u8]
+        ensures { result.now ≡ limit_name self }
+    {
+        match self {
+            LimitKind::Files => b"files",
+            LimitKind::PathLength => b"path-length",
+            LimitKind::FileSize => b"file-size",
+            LimitKind::Sum => b"sum",
+            LimitKind::RuleFiles => b"rule-files",
+            LimitKind::RuleSize => b"rule-size",
+        }
+    }
+}
 
 /// How a run ended. `done` counts the files, in the order of their paths, before the one at which a call
 /// failed.
@@ -19,6 +57,8 @@ use desk_rules::RuleFault;
 pub enum Status {
     /// Every file was written or kept.
     Done,
+    /// Every file was written, kept or refused, and some file was refused.
+    Refusals,
     /// Memory ran out.
     Memory,
     /// The folders failed.
@@ -33,10 +73,12 @@ pub enum Status {
     NestedRoots { first: Text, second: Text },
     /// The rule files make no rule set.
     BadRules(RuleFault),
+    /// A limit is passed, by this root or by the file of this relative path.
+    Limit { kind: LimitKind, path: Text },
+    /// Of two files, by their relative paths, one's target equals the other's, or is a folder of it.
+    PathClash { first: Text, second: Text },
     /// The ledger belongs to another run.
     OtherRun { kept: Header, wanted: Header },
-    /// The file, or the root, is of a form that isn't built.
-    NotBuilt { path: Text },
 }
 
 impl Status {
@@ -46,6 +88,7 @@ impl Status {
     {
         match self {
             Status::Done => 0,
+            Status::Refusals => 2,
             Status::Memory => 10,
             Status::FolderFault { .. } => 11,
             Status::LedgerFault { .. } => 12,
@@ -53,23 +96,25 @@ impl Status {
             Status::Usage => 20,
             Status::NestedRoots { .. } => 21,
             Status::BadRules(_) => 22,
+            Status::Limit { .. } => 23,
+            Status::PathClash { .. } => 24,
             Status::OtherRun { .. } => 27,
-            Status::NotBuilt { .. } => 30,
         }
     }
 }
 
-/// Writes the line of a status, in few writes; for `Done` it does nothing. After an error a front of the
+/// Writes the line of a status, in few writes; for `Done` and `Refusals` it does nothing. After an error a front of the
 /// line was written. It takes no memory.
 pub fn write_fault<O: Sink>(status: &Status, out: &mut O) -> Result<(), SinkFault>
     ensures ok { OnOk result (O.told out.new ≡ writing (fault_text status.now) (O.told out.old)) }
     ensures err { OnErr result (WritesFront (fault_text status.now) (O.told out.old) (O.told out.new)) }
-    ensures quiet { status.now ≡ Status.Done → out.new ≡ out.old }
+    ensures done { status.now ≡ Status.Done → out.new ≡ out.old }
+    ensures refusals { status.now ≡ Status.Refusals → out.new ≡ out.old }
     ensures counts { O.faults out.old ≤ O.faults out.new }
     ensures failed { OnErr result (Rose (O.faults out.old) (O.faults out.new)) }
 {
     match status {
-        Status::Done => Ok(()),
+        Status::Done | Status::Refusals => Ok(()),
         Status::Memory => write_plain(b"migrate: 10 out of memory\n", out),
         Status::FolderFault { done } => write_counted(
             b"migrate: 11 folder fault done=",
@@ -82,24 +127,27 @@ pub fn write_fault<O: Sink>(status: &Status, out: &mut O) -> Result<(), SinkFaul
             out,
         ),
         Status::OutputFault => write_plain(b"migrate: 13 output fault\n", out),
-        Status::Usage => write_plain(
-            b"migrate: 20 usage: migrate run --rules R --from A --to B --ledger L\n",
-            out,
-        ),
+        Status::Usage => write_plain(USAGE, out),
         Status::NestedRoots { first, second } => write_pair(
             b"migrate: 21 nested roots ",
             first,
             second,
             out,
         ),
-        Status::BadRules(RuleFault::PlainLine) => write_plain(b"migrate: 22 plain line\n", out),
+        Status::BadRules(fault) => write_rule_fault(fault, out),
+        Status::Limit { kind, path } => write_limit(*kind, path, out),
+        Status::PathClash { first, second } => write_pair(
+            b"migrate: 24 path clash ",
+            first,
+            second,
+            out,
+        ),
         Status::OtherRun { kept, wanted } => write_other_run(kept, wanted, out),
-        Status::NotBuilt { path } => write_named(b"migrate: 30 not built ", path, out),
     }
 }
 
 /// Writes this text.
-fn write_plain<O: Sink>(text: &[u8], out: &mut O) -> Result<(), SinkFault>
+pub(crate) fn write_plain<O: Sink>(text: &[u8], out: &mut O) -> Result<(), SinkFault>
     ensures ok { OnOk result (O.told out.new ≡ writing text.now (O.told out.old)) }
     ensures err { OnErr result (WritesFront text.now (O.told out.old) (O.told out.new)) }
     ensures counts { O.faults out.old ≤ O.faults out.new }
@@ -125,32 +173,34 @@ fn write_counted<O: Sink>(text: &[u8], count: u32, out: &mut O) -> Result<(), Si
     )
 }
 
-/// Writes a line of this text and a shown text.
-fn write_named<'x, O: Sink>(text: &'x [u8], name: &'x Text, out: &mut O) -> Result<(), SinkFault>
-    ensures ok { OnOk result (O.told out.new ≡ writing (joined (text.now ∷ shown name.now ∷ codes "\n" ∷ [])) (O.told out.old)) }
-    ensures err { OnErr result (WritesFront (joined (text.now ∷ shown name.now ∷ codes "\n" ∷ [])) (O.told out.old) (O.told out.new)) }
+/// Writes the line of a limit that is passed.
+fn write_limit<'x, O: Sink>(kind: LimitKind, path: &'x Text, out: &mut O) -> Result<(), SinkFault>
+    ensures ok { OnOk result (O.told out.new ≡ writing (fault_text (case.Limit kind path.now)) (O.told out.old)) }
+    ensures err { OnErr result (WritesFront (fault_text (case.Limit kind path.now)) (O.told out.old) (O.told out.new)) }
     ensures counts { O.faults out.old ≤ O.faults out.new }
     ensures failed { OnErr result (Rose (O.faults out.old) (O.faults out.new)) }
 {
     write_pieces(
         out,
         &[
-            Piece::Plain(text),
-            Piece::Shown(name.as_bytes()),
+            Piece::Plain(b"migrate: 23 limit "),
+            Piece::Plain(kind.name()),
+            Piece::Plain(b" "),
+            Piece::Shown(path.as_bytes()),
             Piece::Plain(b"\n"),
         ],
     )
 }
 
 /// Writes a line of this text and two shown texts.
-fn write_pair<'x, O: Sink>(
+pub(crate) fn write_pair<'x, O: Sink>(
     text: &'x [u8],
     first: &'x Text,
     second: &'x Text,
     out: &mut O,
 ) -> Result<(), SinkFault>
-    ensures ok { OnOk result (O.told out.new ≡ writing (joined (text.now ∷ shown first.now ∷ codes " " ∷ shown second.now ∷ codes "\n" ∷ [])) (O.told out.old)) }
-    ensures err { OnErr result (WritesFront (joined (text.now ∷ shown first.now ∷ codes " " ∷ shown second.now ∷ codes "\n" ∷ [])) (O.told out.old) (O.told out.new)) }
+    ensures ok { OnOk result (O.told out.new ≡ writing (joined (pair_pieces text.now first.now second.now)) (O.told out.old)) }
+    ensures err { OnErr result (WritesFront (joined (pair_pieces text.now first.now second.now)) (O.told out.old) (O.told out.new)) }
     ensures counts { O.faults out.old ≤ O.faults out.new }
     ensures failed { OnErr result (Rose (O.faults out.old) (O.faults out.new)) }
 {

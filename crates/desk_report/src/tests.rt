@@ -1,12 +1,12 @@
 //! Lines, totals and faults as they are written, and the sinks.
 
 use crate::{
-    Detail, Line, MemorySink, Sink, SinkFault, Status, StdSink, Summary, write_fault, write_line,
-    write_summary,
+    Detail, LimitKind, Line, MemorySink, Reason, Sink, SinkFault, Status, StdSink, Summary,
+    write_fault, write_line, write_summary,
 };
 use desk_base::Text;
 use desk_ledger::{Digest, Header};
-use desk_rules::RuleFault;
+use desk_rules::{PropFault, RuleFault};
 use std::alloc::Global;
 use std::test::Fail;
 
@@ -52,6 +52,28 @@ fn writes_lines(rt: HostRuntime) -> Result<(), Fail> {
 }
 
 #[test]
+fn writes_refused_lines(rt: HostRuntime) -> Result<(), Fail> {
+    let alloc = rt.alloc();
+    let bad_line = Line::Refused {
+        path: text(alloc, b"META-INF/services/x")?,
+        reason: Reason::BadLine { at: 23 },
+    };
+    let not_built = Line::Refused {
+        path: text(alloc, b"A.class")?,
+        reason: Reason::NotBuilt,
+    };
+    assert!(rt;
+        is_line(
+            alloc,
+            &bad_line,
+            b"refused META-INF/services/x bad-line at=23\n"
+        )?
+    );
+    assert!(rt; is_line(alloc, &not_built, b"refused A.class not-built\n")?);
+    Ok(())
+}
+
+#[test]
 fn writes_totals(rt: HostRuntime) -> Result<(), Fail> {
     let mut sink = MemorySink::with_room(rt.alloc(), 100)?;
     let totals = Summary {
@@ -72,8 +94,10 @@ fn writes_totals(rt: HostRuntime) -> Result<(), Fail> {
 #[test]
 fn writes_faults(rt: HostRuntime) -> Result<(), Fail> {
     let alloc = rt.alloc();
-    let usage = b"migrate: 20 usage: migrate run --rules R --from A --to B --ledger L\n";
+    let usage =
+        b"migrate: 20 usage: migrate run --rules R --from A --to B --ledger L [--workers N]\n";
     assert!(rt; is_fault(alloc, &Status::Done, 0, b"")?);
+    assert!(rt; is_fault(alloc, &Status::Refusals, 2, b"")?);
     assert!(rt; is_fault(alloc, &Status::Memory, 10, b"migrate: 10 out of memory\n")?);
     assert!(rt;
         is_fault(
@@ -119,11 +143,151 @@ fn writes_nested_roots(alloc: Global) -> Result<bool, Fail> {
     is_fault(alloc, &status, 21, b"migrate: 21 nested roots in in/x\n")
 }
 
-fn writes_not_built(alloc: Global) -> Result<bool, Fail> {
-    let status = Status::NotBuilt {
-        path: text(alloc, b"A.class")?,
+/// Whether a limit passed by `x` is written with this text behind its number.
+fn writes_limit(alloc: Global, kind: LimitKind, line: &[u8]) -> Result<bool, Fail> {
+    let status = Status::Limit {
+        kind,
+        path: text(alloc, b"x")?,
     };
-    is_fault(alloc, &status, 30, b"migrate: 30 not built A.class\n")
+    is_fault(alloc, &status, 23, line)
+}
+
+#[test]
+fn writes_limits(rt: HostRuntime) -> Result<(), Fail> {
+    let alloc = rt.alloc();
+    assert!(rt; writes_limit(alloc, LimitKind::Files, b"migrate: 23 limit files x\n")?);
+    assert!(rt;
+        writes_limit(
+            alloc,
+            LimitKind::PathLength,
+            b"migrate: 23 limit path-length x\n"
+        )?
+    );
+    assert!(rt;
+        writes_limit(
+            alloc,
+            LimitKind::FileSize,
+            b"migrate: 23 limit file-size x\n"
+        )?
+    );
+    assert!(rt; writes_limit(alloc, LimitKind::Sum, b"migrate: 23 limit sum x\n")?);
+    assert!(rt;
+        writes_limit(
+            alloc,
+            LimitKind::RuleFiles,
+            b"migrate: 23 limit rule-files x\n"
+        )?
+    );
+    assert!(rt;
+        writes_limit(
+            alloc,
+            LimitKind::RuleSize,
+            b"migrate: 23 limit rule-size x\n"
+        )?
+    );
+    Ok(())
+}
+
+/// Whether a fault of rule files is written as this line.
+fn writes_rule_fault(alloc: Global, fault: RuleFault, line: &[u8]) -> Result<bool, Fail> {
+    is_fault(alloc, &Status::BadRules(fault), 22, line)
+}
+
+fn writes_not_utf8(alloc: Global) -> Result<bool, Fail> {
+    let fault = RuleFault::Properties {
+        file: text(alloc, b"text.properties")?,
+        fault: PropFault::NotUtf8 { at: 12 },
+    };
+    writes_rule_fault(
+        alloc,
+        fault,
+        b"migrate: 22 properties text.properties not-utf8 12\n",
+    )
+}
+
+fn writes_escape(alloc: Global) -> Result<bool, Fail> {
+    let fault = RuleFault::Properties {
+        file: text(alloc, b"renames.properties")?,
+        fault: PropFault::Escape { at: 1 },
+    };
+    writes_rule_fault(
+        alloc,
+        fault,
+        b"migrate: 22 properties renames.properties escape 1\n",
+    )
+}
+
+#[test]
+fn writes_faults_of_properties(rt: HostRuntime) -> Result<(), Fail> {
+    let alloc = rt.alloc();
+    assert!(rt; writes_not_utf8(alloc)?);
+    assert!(rt; writes_escape(alloc)?);
+    Ok(())
+}
+
+fn writes_bad_key(alloc: Global) -> Result<bool, Fail> {
+    let file = text(alloc, b"renames.properties")?;
+    let key = text(alloc, b"a..b")?;
+    writes_rule_fault(
+        alloc,
+        RuleFault::BadKey { file, key },
+        b"migrate: 22 bad key renames.properties a..b\n",
+    )
+}
+
+fn writes_bad_value(alloc: Global) -> Result<bool, Fail> {
+    let file = text(alloc, b"renames.properties")?;
+    let key = text(alloc, b"a")?;
+    writes_rule_fault(
+        alloc,
+        RuleFault::BadValue { file, key },
+        b"migrate: 22 bad value renames.properties a\n",
+    )
+}
+
+fn writes_missing_text(alloc: Global) -> Result<bool, Fail> {
+    let key = text(alloc, b"*.xml")?;
+    let name = text(alloc, b"")?;
+    writes_rule_fault(
+        alloc,
+        RuleFault::MissingText { key, name },
+        b"migrate: 22 missing text *.xml \\-\n",
+    )
+}
+
+fn writes_chain(alloc: Global) -> Result<bool, Fail> {
+    let first = text(alloc, b"a")?;
+    let second = text(alloc, b"b")?;
+    let fault = RuleFault::Chain {
+        kind: 1,
+        first,
+        second,
+    };
+    writes_rule_fault(alloc, fault, b"migrate: 22 chain 1 a b\n")
+}
+
+#[test]
+fn writes_faults_of_keys_and_values(rt: HostRuntime) -> Result<(), Fail> {
+    let alloc = rt.alloc();
+    assert!(rt; writes_rule_fault(alloc, RuleFault::NoRenames, b"migrate: 22 no renames\n")?);
+    assert!(rt; writes_bad_key(alloc)?);
+    assert!(rt; writes_bad_value(alloc)?);
+    assert!(rt; writes_missing_text(alloc)?);
+    assert!(rt; writes_chain(alloc)?);
+    Ok(())
+}
+
+fn writes_path_clash(alloc: Global) -> Result<bool, Fail> {
+    let status = Status::PathClash {
+        first: text(alloc, b"jakarta/x/a.txt")?,
+        second: text(alloc, b"javax/x/a.txt")?,
+    };
+    is_fault(
+        alloc,
+        &status,
+        24,
+        b"migrate: 24 path clash jakarta/x/a.txt javax/x/a.txt\n",
+    )
 }
 
 fn writes_other_run(alloc: Global) -> Result<bool, Fail> {
@@ -142,10 +306,8 @@ fn writes_other_run(alloc: Global) -> Result<bool, Fail> {
 #[test]
 fn writes_roots_paths_and_digests(rt: HostRuntime) -> Result<(), Fail> {
     let alloc = rt.alloc();
-    let bad_rules = Status::BadRules(RuleFault::PlainLine);
-    assert!(rt; is_fault(alloc, &bad_rules, 22, b"migrate: 22 plain line\n")?);
     assert!(rt; writes_nested_roots(alloc)?);
-    assert!(rt; writes_not_built(alloc)?);
+    assert!(rt; writes_path_clash(alloc)?);
     assert!(rt; writes_other_run(alloc)?);
     Ok(())
 }

@@ -1,33 +1,89 @@
 -- Under a rule set each image is its own image, and keeps its form.
-use Rattle.std.proofs.Common.{◌≡◌, ℕ, true, List, Option, Some, None, refl, ap, ◌∙◌}
+use Rattle.std.proofs.Common.{◌≡◌, ℕ, Bool, true, false, cond, not, List, [], ◌∷◌, ◌++◌, Option, Some, None, refl, sym, ap, ◌∙◌, ◌⊎◌, inl, inr}
+use Rattle.std.specs.Prelude.{unwrap_or}
 use Rattle.std.specs.List.{list_all}
-use Rattle.desk_base.specs.Names.{Text, segments, written, front, simple, is_dotted, is_identifier, dot}
-use Rattle.desk_rules.specs.Renames.{Renaming, pkg, is_rename}
-use Rattle.desk_rules.specs.Rules.{Rules}
-use Rattle.desk_rules.specs.Settled.{first_pair, rename_then_rename, chain_of, IsSettled}
-use Rattle.desk_rules.specs.Images.{refronted}
-use Rattle.desk_rules.specs.RuleSets.{IsRuleSet, PackagesStay, DottedStay, DottedKeepForm, IsDottedImage}
-use Rattle.desk_rules.proofs.Twice.{pkg_twice}
-use Rattle.desk_rules.proofs.Cuts.{front-push, simple-push}
-use Rattle.desk_rules.proofs.Bytes.{identifier_whole}
+use Rattle.std.specs.Str.{bytes_eq}
+use Rattle.std.specs.FinMap as finite
+use Rattle.std.proofs.lemmas.Slice.Eq.{bytes_eq-Decides}
+use Rattle.std.proofs.lemmas.Bool.{cases_Bool, and_parts, and_from, not-false, not_from_false, both_ways, false_from_ne_true}
+use Rattle.desk_base.specs.Names.{Text, Package, segments, written, front, simple, is_name, is_part, is_dotted, is_class_name, is_identifier, slash, dot}
+use Rattle.desk_rules.specs.Renames.{Renaming, in_scope, changes, pick, renamed_by, pkg, is_rename}
+use Rattle.desk_rules.specs.Rules.{Rules, Update, TextMap}
+use Rattle.desk_rules.specs.Settled.{first_pair, rename_then_rename, rename_then_direct, one_then_another, direct_then_rename, update_then_update, alters, renames_bundle, Exchange, BundleUpdate, Chain, chain_of, or_chain, front_in_reach, IsSettled}
+use Rattle.desk_rules.specs.Images.{refronted, dotted, cls, str}
+use Rattle.desk_rules.specs.RuleSets.{IsRuleSet, PackagesStay, ClassesStay, ClassesKeepForm, IsClassImage, DottedStay, DottedKeepForm, IsDottedImage, StringsStay, BundlesStay, changing_update, only_other_name}
+use Rattle.desk_rules.proofs.Same.{covers_is, covers_moved, same_is as bytes_same}
+use Rattle.desk_rules.proofs.Picks.{In, Found, pick_Some}
+use Rattle.desk_rules.proofs.Twice.{first_pair_None, pkg_twice, unchanged}
+use Rattle.desk_rules.proofs.Cuts.{written-segments, front-push, simple-push, front_simple}
+use Rattle.desk_rules.proofs.Bytes.{identifier_part, part_whole, identifier_whole}
 use Rattle.desk_rules.proofs.Forms.{Parts, segments_image, name_image_named, name_image_twice}
+use Rattle.desk_rules.proofs.TextMaps.{map_holds}
+
+pub class_parts : Parts slash is_part
+class_parts = record { known = identifier_part; cuts = record { filled = refl; whole = part_whole } }
 
 pub dotted_parts : Parts dot is_identifier
 dotted_parts = record { known = λ t h. h; cuts = record { filled = refl; whole = identifier_whole } }
+
+-- each kind of chain is missing
+pub record NoChain (rules : Rules) : Type 0 where
+  pub renames : first_pair rename_then_rename rules.renames rules.renames ≡ None
+  pub rename_direct : first_pair rename_then_direct rules.renames (finite.entries rules.direct) ≡ None
+  pub directs : first_pair one_then_another (finite.entries rules.direct) (finite.entries rules.direct) ≡ None
+  pub direct_rename : first_pair direct_then_rename (finite.entries rules.direct) rules.renames ≡ None
+  pub bundles : first_pair update_then_update (finite.entries rules.bundles) (finite.entries rules.bundles) ≡ None
+
+no_first : (a b : Option Chain) → or_chain a b ≡ None → a ≡ None
+no_first None b h = refl
+no_first (Some c) b h = absurd cc
+
+no_second : (a b : Option Chain) → or_chain a b ≡ None → b ≡ None
+no_second None b h = h
+no_second (Some c) b h = absurd cc
 
 no_pair : {A B : Type 0} (kind : ℕ) (first : A → Text) (second : B → Text) (o : Option (A × B)) → chain_of kind first second o ≡ None → o ≡ None
 no_pair kind first second None h = refl
 no_pair kind first second (Some pair) h = absurd cc
 
+pub no_chain : (rules : Rules) → IsSettled rules → NoChain rules
+no_chain rules h =
+    let after_one = no_second _ _ h in
+    let after_two = no_second _ _ after_one in
+    let after_three = no_second _ _ after_two in
+    let after_four = no_second _ _ after_three in
+    record {
+      renames = no_pair 1 _ _ _ (no_first _ _ h);
+      rename_direct = no_pair 2 _ _ _ (no_first _ _ after_one);
+      directs = no_pair 3 _ _ _ (no_first _ _ after_two);
+      direct_rename = no_pair 4 _ _ _ (no_first _ _ after_three);
+      bundles = no_pair 5 _ _ _ after_four;
+    }
+
 -- no changing rename leads to another
 pub no_renames : (rules : Rules) → IsSettled rules → first_pair rename_then_rename rules.renames rules.renames ≡ None
-no_renames rules settled = no_pair 1 _ _ _ settled
+no_renames rules settled = (no_chain rules settled).renames
 
 pub packages_stay : (rules : Rules) → IsRuleSet rules → PackagesStay rules.renames
 packages_stay rules is = pkg_twice rules.renames (no_renames rules is.settled)
 
+pub classes_stay : (rules : Rules) → IsRuleSet rules → ClassesStay rules.renames
+classes_stay rules is = name_image_twice slash is_part class_parts rules.renames is.formed (no_renames rules is.settled)
+
 pub dotted_stay : (rules : Rules) → IsRuleSet rules → DottedStay rules.renames
 dotted_stay rules is = name_image_twice dot is_identifier dotted_parts rules.renames is.formed (no_renames rules is.settled)
+
+class_image : (renames : List Renaming) → list_all is_rename renames ≡ true → (text : Text) → is_class_name text ≡ true → IsClassImage renames text (written slash (refronted renames (segments slash text)))
+class_image renames formed text named =
+    let parts = segments_image slash is_part class_parts renames formed text named in
+    record {
+      named = name_image_named slash is_part class_parts renames formed text named;
+      front_is = ap front parts.1 ∙ front-push (pkg renames (front (segments slash text))) (simple (segments slash text));
+      last_is = ap simple parts.1 ∙ simple-push (pkg renames (front (segments slash text))) (simple (segments slash text));
+    }
+
+pub classes_keep_form : (rules : Rules) → IsRuleSet rules → ClassesKeepForm rules.renames
+classes_keep_form rules is text named = rw named (class_image rules.renames is.formed text named)
 
 dotted_image : (renames : List Renaming) → list_all is_rename renames ≡ true → (text : Text) → is_dotted text ≡ true → IsDottedImage renames text (written dot (refronted renames (segments dot text)))
 dotted_image renames formed text named =
@@ -40,3 +96,117 @@ dotted_image renames formed text named =
 
 pub dotted_keep_form : (rules : Rules) → IsRuleSet rules → DottedKeepForm rules.renames
 dotted_keep_form rules is text named = rw named (dotted_image rules.renames is.formed text named)
+
+-- a dotted name whose front no changing rename fits is its own image
+dotted_still : (rules : Rules) → (t : Text) → ((s : Renaming) → In rules.renames s → is_dotted t ≡ true → in_scope s (front (segments dot t)) ≡ true → changes s ≡ false) → dotted rules.renames t ≡ t
+dotted_still rules t h =
+    elim (is_dotted t) as (λ (b : Bool). is_dotted t ≡ b → cond b (written dot (refronted rules.renames (segments dot t))) t ≡ t) [
+      | true ↦ λ named.
+          let still : pkg rules.renames (front (segments dot t)) ≡ front (segments dot t) = unchanged rules.renames (front (segments dot t)) (λ s is scope. h s is named scope) in
+          ap (λ (p : Package). written dot (p ++ simple (segments dot t) ∷ [])) still
+          ∙ ap (written dot) (front_simple (segments dot t) (and_parts _ _ named).0)
+          ∙ written-segments dot t
+      | false ↦ λ other. refl
+    ] refl
+
+-- a changing rename whose reach holds the front of a text
+record Reached (rules : Rules) (t : Text) : Type 0 where
+  by : Renaming
+  there : In rules.renames by
+  moves : changes by ≡ true
+  reach : front_in_reach by t ≡ true
+
+-- a text is its own dotted image, or the image lies in the reach of a changing rename
+dotted_reached : (rules : Rules) → IsRuleSet rules → (t : Text) → (dotted rules.renames t ≡ t) ⊎ Reached rules (dotted rules.renames t)
+dotted_reached rules fine t =
+    elim (is_dotted t) as (λ (b : Bool). is_dotted t ≡ b → let u = cond b (written dot (refronted rules.renames (segments dot t))) t in (u ≡ t) ⊎ Reached rules u) [
+      | true ↦ λ named. reached_name rules fine t named
+      | false ↦ λ other. inl refl
+    ] refl
+  where
+    reached_name : (rules : Rules) → IsRuleSet rules → (t : Text) → is_dotted t ≡ true → let u = written dot (refronted rules.renames (segments dot t)) in (u ≡ t) ⊎ Reached rules u
+    reached_name rules fine t named =
+        let p = front (segments dot t) in
+        elim (pick rules.renames p) as (λ (o : Option Renaming). pick rules.renames p ≡ o → let u = written dot (renamed_by o p ++ simple (segments dot t) ∷ []) in (is_dotted u ≡ true) → (segments dot u ≡ renamed_by o p ++ simple (segments dot t) ∷ []) → (u ≡ t) ⊎ Reached rules u) [
+          | None ↦ λ q d s. inl (ap (written dot) (front_simple (segments dot t) (and_parts _ _ named).0) ∙ written-segments dot t)
+          | Some r ↦ λ q d s.
+              let f : Found (λ (r : Renaming). in_scope r p) rules.renames r = pick_Some rules.renames p r q in
+              elim (cases_Bool (changes r)) [
+                | inl moves ↦ inr (record { by = r; there = f.there; moves = moves; reach = and_from _ _ d (rw (s, front-push (renamed_by (Some r) p) (simple (segments dot t))) (covers_moved r.below r.source p r.target f.passes)) })
+                | inr stays ↦
+                    let still : r.source ≡ r.target = bytes_same r.source r.target (not-false _ stays) in
+                    let same_again : renamed_by (Some r) p ≡ p = rw (← still) (sym (covers_is r.below r.source p f.passes)) in
+                    inl (ap (λ (w : Package). written dot (w ++ simple (segments dot t) ∷ [])) same_again ∙ ap (written dot) (front_simple (segments dot t) (and_parts _ _ named).0) ∙ written-segments dot t)
+              ]
+        ] refl (name_image_named dot is_identifier dotted_parts rules.renames fine.formed t named) (segments_image dot is_identifier dotted_parts rules.renames fine.formed t named).1
+
+unaltered : (t v : Text) → alters (t, v) ≡ false → t ≡ v
+unaltered t v h = (bytes_eq-Decides t v).0 (not-false _ h)
+
+equal_texts : (t : Text) → bytes_eq t t ≡ true
+equal_texts t = (bytes_eq-Decides t t).1 refl
+
+-- the target of a changing direct rule is its own image
+direct_still : (rules : Rules) → IsSettled rules → (t v : Text) → In (finite.entries rules.direct) (t, v) → alters (t, v) ≡ true → str rules v ≡ v
+direct_still rules settled t v is moves =
+    let none = no_chain rules settled in
+    elim (finite.get rules.direct v) as (λ (o : Option Text). finite.get rules.direct v ≡ o → unwrap_or o (dotted rules.renames v) ≡ v) [
+      | None ↦ λ q. dotted_still rules v (λ s js named scope.
+          let apart : direct_then_rename (t, v) s ≡ false = first_pair_None direct_then_rename (finite.entries rules.direct) rules.renames (t, v) s none.direct_rename is js in
+          false_from_ne_true (changes s) (λ (changed : changes s ≡ true). both_ways _ apart (and_from _ _ (and_from _ _ moves changed) (and_from _ _ named scope))))
+      | Some w ↦ λ q.
+          let apart : one_then_another (t, v) (v, w) ≡ false = first_pair_None one_then_another (finite.entries rules.direct) (finite.entries rules.direct) (t, v) (v, w) none.directs is (map_holds rules.direct v w q) in
+          let stays : alters (v, w) ≡ false = false_from_ne_true (alters (v, w)) (λ (changed : alters (v, w) ≡ true). both_ways _ apart (and_from _ _ (and_from _ _ moves changed) (equal_texts v))) in
+          sym (unaltered v w stays)
+    ] refl
+
+-- the image of a string is its own image
+pub strings_stay : (rules : Rules) → IsRuleSet rules → StringsStay rules
+strings_stay rules fine t =
+    elim (finite.get rules.direct t) as (λ (o : Option Text). finite.get rules.direct t ≡ o → let u = unwrap_or o (dotted rules.renames t) in str rules u ≡ u) [
+      | Some v ↦ λ q.
+          elim (cases_Bool (alters (t, v))) [
+            | inl moves ↦ direct_still rules fine.settled t v (map_holds rules.direct t v q) moves
+            | inr stays ↦
+                let same_text : v ≡ t = sym (unaltered t v stays) in
+                ap (str rules) same_text ∙ ap (λ (o : Option Text). unwrap_or o (dotted rules.renames t)) q
+          ]
+      | None ↦ λ q. elim (dotted_reached rules fine t) [
+        | inl still ↦ ap (str rules) still ∙ ap (λ (o : Option Text). unwrap_or o (dotted rules.renames t)) q
+        | inr reached ↦ at_reached rules fine t reached
+      ]
+    ] refl
+  where
+    at_reached : (rules : Rules) → IsRuleSet rules → (t : Text) → Reached rules (dotted rules.renames t) → str rules (dotted rules.renames t) ≡ dotted rules.renames t
+    at_reached rules fine t reached =
+        let v = dotted rules.renames t in
+        elim (finite.get rules.direct v) as (λ (o : Option Text). finite.get rules.direct v ≡ o → unwrap_or o (dotted rules.renames v) ≡ v) [
+          | None ↦ λ q. dotted_stay rules fine t
+          | Some w ↦ λ q.
+              let apart : rename_then_direct reached.by (v, w) ≡ false = first_pair_None rename_then_direct rules.renames (finite.entries rules.direct) reached.by (v, w) (no_chain rules fine.settled).rename_direct reached.there (map_holds rules.direct v w q) in
+              let stays : alters (v, w) ≡ false = false_from_ne_true (alters (v, w)) (λ (changed : alters (v, w) ≡ true). both_ways _ apart (and_from _ _ (and_from _ _ reached.moves changed) reached.reach)) in
+              sym (unaltered v w stays)
+        ] refl
+
+-- the update of a bundle that gets another name
+updated : (bundles : TextMap Update) (name : Text) (u : Update) (o : Option Update) → finite.get bundles name ≡ o → only_other_name name o ≡ Some u → (finite.get bundles name ≡ Some u) × (renames_bundle (name, u) ≡ true)
+updated bundles name u None q h = absurd cc
+updated bundles name u (Some w) q h =
+    elim (bytes_eq name w.name) as (λ (b : Bool). bytes_eq name w.name ≡ b → cond b None (Some w) ≡ Some u → (finite.get bundles name ≡ Some u) × (renames_bundle (name, u) ≡ true)) [
+      | true ↦ λ p k. absurd cc
+      | false ↦ λ p k.
+          let same : w ≡ u = cc in
+          (q ∙ ap (λ (x : Update). Some x) same, rw (← same) (not_from_false _ p))
+    ] refl h
+
+-- the new name of an updated bundle is not updated again
+pub bundles_stay : (rules : Rules) → IsRuleSet rules → BundlesStay rules.bundles
+bundles_stay rules fine name u h =
+    let at = updated rules.bundles name u (finite.get rules.bundles name) refl h in
+    elim (finite.get rules.bundles u.name) as (λ (o : Option Update). finite.get rules.bundles u.name ≡ o → only_other_name u.name o ≡ None) [
+      | None ↦ λ q. refl
+      | Some w ↦ λ q.
+          let apart : update_then_update (name, u) (u.name, w) ≡ false = first_pair_None update_then_update (finite.entries rules.bundles) (finite.entries rules.bundles) (name, u) (u.name, w) (no_chain rules fine.settled).bundles (map_holds rules.bundles name u at.0) (map_holds rules.bundles u.name w q) in
+          let stays : renames_bundle (u.name, w) ≡ false = false_from_ne_true (renames_bundle (u.name, w)) (λ (changed : renames_bundle (u.name, w) ≡ true). both_ways _ apart (and_from _ _ (and_from _ _ at.1 changed) (equal_texts u.name))) in
+          ap (λ (b : Bool). cond b None (Some w)) (not-false _ stays)
+    ] refl

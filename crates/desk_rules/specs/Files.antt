@@ -1,6 +1,5 @@
--- The files of a rule folder, and lines of them.
-use Rattle.std.specs.Prelude.{ℕ, ◌==◌, ◌-◌, List, [], ◌∷◌, length, take, codes, if◌then◌else◌}
-use Rattle.std.specs.List.{ends_with}
+-- The files of a rule folder.
+use Rattle.std.specs.Prelude.{ℕ, List, codes}
 use Rattle.std.specs.Cmp.Lexicographic.{slice_cmp}
 use Rattle.std.specs.Ordering.{nat_cmp}
 use Rattle.std.specs.FinMap.{FinMap}
@@ -14,6 +13,22 @@ Files = FinMap (slice_cmp nat_cmp) (List ℕ)
 abbrev pub renames_name : Text
 renames_name = codes "renames.properties"
 
--- a line without the LF at its end, where it has one
-abbrev pub without_end : Text → Text
-without_end line = if ends_with ◌==◌ line (10 ∷ []) then take (length line - 1) line else line
+-- the file of the versions
+abbrev pub versions_name : Text
+versions_name = codes "versions.properties"
+
+-- the file of the bundle updates
+abbrev pub bundles_name : Text
+bundles_name = codes "bundles.properties"
+
+-- the file of the direct strings
+abbrev pub direct_name : Text
+direct_name = codes "direct.properties"
+
+-- the file of the selection
+abbrev pub selection_name : Text
+selection_name = codes "selection.properties"
+
+-- the file of the patterns with text rules
+abbrev pub text_name : Text
+text_name = codes "text.properties"

@@ -1,7 +1,9 @@
 -- Images of texts.
-use Rattle.std.specs.Prelude.{◌≡◌, ◌≢◌, MatchOption, ℕ, Bool, List, [], ◌∷◌, ◌++◌, Option, if◌then◌else◌}
-use Rattle.desk_base.specs.Names.{Text, Package, segments, written, front, simple, is_name, is_identifier, dot}
+use Rattle.std.specs.Prelude.{◌≡◌, ◌≢◌, MatchOption, ℕ, Bool, List, [], ◌∷◌, ◌++◌, Option, Some, None, if◌then◌else◌, unwrap_or}
+use Rattle.std.specs.FinMap as finite
+use Rattle.desk_base.specs.Names.{Text, Package, segments, written, front, simple, is_name, is_identifier, is_part, dot, slash}
 use Rattle.desk_rules.specs.Renames.{Renaming, pkg}
+use Rattle.desk_rules.specs.Rules.{Rules}
 
 -- the segments with all but the last exchanged as a package
 abbrev pub refronted : List Renaming → Package → Package
@@ -12,9 +14,17 @@ abbrev pub name_image : (Text → Bool) → ℕ → List Renaming → Text → T
 name_image part separator renames text =
     if is_name part separator text then written separator (refronted renames (segments separator text)) else text
 
+-- the image of a class name
+abbrev pub cls : List Renaming → Text → Text
+cls = name_image is_part slash
+
 -- the image of a dotted name
 abbrev pub dotted : List Renaming → Text → Text
 dotted = name_image is_identifier dot
+
+-- the image of a string: by a direct rule, else as a dotted name
+abbrev pub str : Rules → Text → Text
+str rules text = unwrap_or (finite.get rules.direct text) (dotted rules.renames text)
 
 -- the answer for an image: none exactly where it is the text itself
 abbrev pub IsImage : Text → Text → Option Text → Type 0

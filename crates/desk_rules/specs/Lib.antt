@@ -5,6 +5,7 @@ pub mod Images
 pub mod RuleSets
 pub mod Keys
 pub mod Files
-pub mod RuleFiles
 pub mod Builds
-pub mod PlainLines
+pub mod Reads
+pub mod RuleFiles
+pub mod TextFiles

@@ -1,37 +1,20 @@
--- The rules that a rule folder holds.
-use Rattle.std.specs.Prelude.{◌&&◌, ◌==◌, [], ◌∷◌, false, Option, Some, None, Result, Ok, Err, if◌then◌else◌}
-use Rattle.std.specs.List.{before_first, after_first}
-use Rattle.std.specs.FinMap as map
-use Rattle.desk_base.specs.Names.{Text, segments, dot, is_dotted}
-use Rattle.desk_rules.specs.Files.{Files, renames_name, without_end}
-use Rattle.desk_rules.specs.Renames.{Renaming}
+-- The rules of a whole rule folder, or its first fault.
+use Rattle.std.specs.Prelude.{List, Result}
+use Rattle.desk_rules.specs.Files.{Files, versions_name, bundles_name, direct_name, selection_name}
 use Rattle.desk_rules.specs.Rules.{Rules}
+use Rattle.desk_rules.specs.RuleSets.{rules_of}
+pub use Rattle.desk_rules.specs.Reads.{◌>>=◌, entries_or, entries_of, entries_in, in_order, fault_at, with_first, each, renaming_from, rename_entry, keyed, versions_entry, update_entry, where_ok, direct_entry, choice_from, selection_entry, renames_of, renames_in, all_in, unless_chain, settled}
+use Rattle.desk_rules.specs.TextFiles.{texts_in}
 use Rattle.desk_rules.specs.declared.RuleFault.{RuleFault}
-use Rattle.desk_rules.specs.declared.RuleFault.TheVariants.{PlainLine}
 
--- the exact rename of two packages, each written with dots
-abbrev pub exact_rename : Text → Text → Option Renaming
-exact_rename source target =
-    if is_dotted source && is_dotted target
-    then Some (record { source = segments dot source; target = segments dot target; below = false })
-    else None
-
--- the rename of a line: a package, the first `=` of the line, a package, and one LF or nothing
-abbrev pub rename_of_line : Text → Option Renaming
-rename_of_line line = exact_rename (before_first (λ b. b == 61) (without_end line)) (after_first (λ b. b == 61) (without_end line))
-
-abbrev pub rules_of_rename : Option Renaming → Result Rules RuleFault
-rules_of_rename None = Err PlainLine
-rules_of_rename (Some rename) = Ok (record { renames = rename ∷ [] })
-
--- the rules of the one line of renames, or their fault
-abbrev pub rules_of_line : Text → Result Rules RuleFault
-rules_of_line line = rules_of_rename (rename_of_line line)
-
-abbrev pub rules_of_content : Option Text → Result Rules RuleFault
-rules_of_content None = Err PlainLine
-rules_of_content (Some content) = rules_of_line content
-
--- the rules of rule files, or their fault
+-- the rules of rule files, or their first fault: file by file, in each file first as properties, then key by key in byte
+-- order; chains come last
 abbrev pub rules_of_files : Files → Result Rules RuleFault
-rules_of_files files = rules_of_content (map.get files renames_name)
+rules_of_files files = do
+  renames ← renames_in files
+  versions ← all_in files versions_name versions_entry
+  bundles ← all_in files bundles_name update_entry
+  direct ← all_in files direct_name direct_entry
+  selection ← all_in files selection_name selection_entry
+  texts ← texts_in files
+  settled (rules_of renames versions bundles direct selection texts)

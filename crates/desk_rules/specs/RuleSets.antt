@@ -1,25 +1,42 @@
 -- What a rule set keeps, and what it answers.
-use Rattle.std.specs.Prelude.{◌≡◌, ◌≤◌, ℕ, Bool, false, List, Option, Some, None, length, if◌then◌else◌, IsTrue}
+use Rattle.std.specs.Prelude.{◌≡◌, ◌≤◌, ℕ, Bool, List, Option, Some, None, length, not, option_map, if◌then◌else◌, IsTrue}
 use Rattle.std.specs.List.{list_all}
-use Rattle.desk_base.specs.Names.{Text, Package, segments, written, is_dotted, front, simple, dot}
+use Rattle.std.specs.Str.{bytes_eq}
+use Rattle.std.specs.FinMap as finite
+use Rattle.desk_base.specs.Names.{Text, Package, segments, written, is_dotted, is_class_name, front, simple, dot, slash}
+use Rattle.desk_patterns.specs.Selections.{Choice}
+use Rattle.desk_patterns.specs.PatternTexts.{PatternText}
 use Rattle.desk_rules.specs.Renames.{Renaming, pick, pkg, changes, is_rename}
-use Rattle.desk_rules.specs.Rules.{Rules}
-use Rattle.desk_rules.specs.Settled.{IsSettled}
-use Rattle.desk_rules.specs.Images.{dotted}
+use Rattle.desk_rules.specs.Rules.{Rules, Update, Versions, TextMap}
+use Rattle.desk_rules.specs.Keys.{IsTable, RiseBy, HoldsPlaces, sources_of}
+use Rattle.desk_rules.specs.Settled.{Exchange, BundleUpdate, first_chain_in, IsSettled}
+use Rattle.desk_rules.specs.Images.{dotted, cls, str}
+
+-- the rules of lists in byte order of their keys
+abbrev pub rules_of : List Renaming → List (Text × Versions) → List BundleUpdate → List Exchange → List Choice → List PatternText → Rules
+rules_of renames versions bundles direct selection texts = record {
+  renames = renames;
+  versions = finite.from_entries versions;
+  bundles = finite.from_entries bundles;
+  direct = finite.from_entries direct;
+  selection = selection;
+  texts = texts;
+}
+
+-- what a rule set keeps: lists in byte order of their keys without a chain, and where the sources of the renames are found
+pub record IsKept (renames : List Renaming) (versions : List (Text × Versions)) (bundles : List BundleUpdate) (direct : List Exchange) (dotted_sources slashed_sources : List (List ℕ)) : Type 0 where
+  pub table : IsTable renames
+  pub versions_rise : RiseBy (λ v. v.0) versions
+  pub bundles_rise : RiseBy (λ b. b.0) bundles
+  pub direct_rise : RiseBy (λ d. d.0) direct
+  pub dotted_held : HoldsPlaces dotted_sources (sources_of dot renames)
+  pub slashed_held : HoldsPlaces slashed_sources (sources_of slash renames)
+  pub settled : first_chain_in renames direct bundles ≡ None
 
 -- sources and targets are packages, and no image is changed again
 pub record IsRuleSet (rules : Rules) : Type 0 where
   pub formed : IsTrue (list_all is_rename rules.renames)
   pub settled : IsSettled rules
-
--- the exact rename of a source that is written with dots
-abbrev pub kept_rename : Text → Package → Renaming
-kept_rename source target = record { source = segments dot source; target = target; below = false }
-
--- a rename of packages, and whether it changes
-pub record IsKept (rename : Renaming) (changing : Bool) : Type 0 where
-  pub formed : IsTrue (is_rename rename)
-  pub changing_is : changing ≡ changes rename
 
 abbrev pub only_changing : Option Renaming → Option Renaming
 only_changing None = None
@@ -37,13 +54,51 @@ pub record IsFrontOf (renames : List Renaming) (separator : ℕ) (path : Text) (
   pub taken_is : taken ≡ length (written separator rename.source)
   pub target_is : target ≡ rename.target
 
+-- the version of a new package where it is imported, or where it is exported
+abbrev pub version_of : TextMap Versions → Text → Bool → Option Text
+version_of versions name exporting =
+    option_map (λ v. if exporting then v.exported else v.imported) (finite.get versions name)
+
+abbrev pub only_other_name : Text → Option Update → Option Update
+only_other_name name None = None
+only_other_name name (Some u) = if bytes_eq name u.name then None else Some u
+
+abbrev pub update_of : Text → Option Text → Update
+update_of name version = record { name = name; version = version }
+
+-- the update of a bundle, if it changes the name
+abbrev pub changing_update : TextMap Update → Text → Option Update
+changing_update bundles name = only_other_name name (finite.get bundles name)
+
 -- the image of each package is its own image
 abbrev pub PackagesStay : List Renaming → Type 0
 PackagesStay renames = (p : Package) → pkg renames (pkg renames p) ≡ pkg renames p
 
+-- the image of each text, as a class name, is its own image
+abbrev pub ClassesStay : List Renaming → Type 0
+ClassesStay renames = (text : Text) → cls renames (cls renames text) ≡ cls renames text
+
 -- the image of each text, as a dotted name, is its own image
 abbrev pub DottedStay : List Renaming → Type 0
 DottedStay renames = (text : Text) → dotted renames (dotted renames text) ≡ dotted renames text
+
+-- the image of each text, as a string, is its own image
+abbrev pub StringsStay : Rules → Type 0
+StringsStay rules = (text : Text) → str rules (str rules text) ≡ str rules text
+
+-- the new name of an updated bundle is not updated again
+abbrev pub BundlesStay : TextMap Update → Type 0
+BundlesStay bundles = (name : Text) (update : Update) → changing_update bundles name ≡ Some update → changing_update bundles update.name ≡ None
+
+-- the image of a class name is a class name: the image of its package, and its own last part
+pub record IsClassImage (renames : List Renaming) (text image : Text) : Type 0 where
+  pub named : IsTrue (is_class_name image)
+  pub front_is : front (segments slash image) ≡ pkg renames (front (segments slash text))
+  pub last_is : simple (segments slash image) ≡ simple (segments slash text)
+
+-- the image of each class name keeps its form
+abbrev pub ClassesKeepForm : List Renaming → Type 0
+ClassesKeepForm renames = (text : Text) → IsTrue (is_class_name text) → IsClassImage renames text (cls renames text)
 
 -- the image of a dotted name is a dotted name: the image of its front, and its own last part
 pub record IsDottedImage (renames : List Renaming) (text image : Text) : Type 0 where

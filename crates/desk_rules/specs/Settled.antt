@@ -1,17 +1,58 @@
--- No image is changed again: the kinds of chain.
-use Rattle.std.specs.Prelude.{◌≡◌, ℕ, Bool, ◌&&◌, ◌||◌, List, [], ◌∷◌, Option, Some, None}
+-- No image is changed again: the five kinds of chain.
+use Rattle.std.specs.Prelude.{◌≡◌, ℕ, Bool, not, ◌&&◌, ◌||◌, List, [], ◌∷◌, Option, Some, None}
 use Rattle.std.specs.List.{find}
-use Rattle.desk_base.specs.Names.{Text, same, begins_with}
-use Rattle.desk_rules.specs.Renames.{Renaming, changes, key_of}
-use Rattle.desk_rules.specs.Rules.{Rules}
+use Rattle.std.specs.Str.{bytes_eq}
+use Rattle.std.specs.FinMap as finite
+use Rattle.desk_base.specs.Names.{Text, same, begins_with, segments, dot, is_dotted, front}
+use Rattle.desk_rules.specs.Renames.{Renaming, changes, in_scope, in_reach, key_of}
+use Rattle.desk_rules.specs.Rules.{Rules, Update}
 
 -- whether a package lies in the reach of the first and in the scope of the second
 abbrev pub meets : Renaming → Renaming → Bool
 meets r s = same r.target s.source || (s.below && begins_with r.target s.source) || (r.below && begins_with s.source r.target)
 
+-- a text, and what it is exchanged for
+abbrev pub Exchange : Type 0
+Exchange = Text × Text
+
+-- whether a text is exchanged for another
+abbrev pub alters : Exchange → Bool
+alters e = not (bytes_eq e.0 e.1)
+
+-- a bundle's old name, and its update
+abbrev pub BundleUpdate : Type 0
+BundleUpdate = Text × Update
+
+-- whether a bundle gets another name
+abbrev pub renames_bundle : BundleUpdate → Bool
+renames_bundle u = not (bytes_eq u.0 u.1.name)
+
+-- whether a text is a dotted name whose front lies in the reach of a rename, or in its scope
+abbrev pub front_in_reach : Renaming → Text → Bool
+front_in_reach r text = is_dotted text && in_reach r (front (segments dot text))
+
+abbrev pub front_in_scope : Renaming → Text → Bool
+front_in_scope r text = is_dotted text && in_scope r (front (segments dot text))
+
 -- kind 1: a changing rename gives what a changing rename changes
 abbrev pub rename_then_rename : Renaming → Renaming → Bool
 rename_then_rename r s = changes r && changes s && meets r s
+
+-- kind 2: a changing rename gives what a changing direct rule changes
+abbrev pub rename_then_direct : Renaming → Exchange → Bool
+rename_then_direct r e = changes r && alters e && front_in_reach r e.0
+
+-- kind 3: a changing direct rule gives what a changing direct rule changes
+abbrev pub one_then_another : Exchange → Exchange → Bool
+one_then_another d e = alters d && alters e && bytes_eq d.1 e.0
+
+-- kind 4: a changing direct rule gives what a changing rename changes
+abbrev pub direct_then_rename : Exchange → Renaming → Bool
+direct_then_rename e r = alters e && changes r && front_in_scope r e.1
+
+-- kind 5: a changing bundle update gives the old name of a changing bundle update
+abbrev pub update_then_update : BundleUpdate → BundleUpdate → Bool
+update_then_update u v = renames_bundle u && renames_bundle v && bytes_eq u.1.name v.0
 
 -- the first pair of which a relation holds: by the place of its first part, then of its second
 abbrev pub first_pair : {A B : Type 0} → (A → B → Bool) → List A → List B → Option (A × B)
@@ -28,9 +69,31 @@ abbrev pub chain_of : {A B : Type 0} → ℕ → (A → Text) → (B → Text) �
 chain_of kind first second None = None
 chain_of kind first second (Some pair) = Some (record { kind = kind; first = first pair.0; second = second pair.1 })
 
--- the first chain by kind, then by the first key, then by the second
+abbrev pub or_chain : Option Chain → Option Chain → Option Chain
+or_chain None other = other
+or_chain (Some chain) other = Some chain
+
+-- the old text of an exchange, and the old name of a bundle
+abbrev pub old_text : Exchange → Text
+old_text e = e.0
+
+abbrev pub old_name : BundleUpdate → Text
+old_name u = u.0
+
+-- the first chain among renames, direct rules and bundle updates: by its kind, then by the first key, then by the second
+abbrev pub first_chain_in : List Renaming → List Exchange → List BundleUpdate → Option Chain
+first_chain_in renames direct bundles =
+    or_chain (chain_of 1 key_of key_of (first_pair rename_then_rename renames renames))
+    (or_chain (chain_of 2 key_of old_text (first_pair rename_then_direct renames direct))
+    (or_chain (chain_of 3 old_text old_text (first_pair one_then_another direct direct))
+    (or_chain (chain_of 4 old_text key_of (first_pair direct_then_rename direct renames))
+    (chain_of 5 old_name old_name (first_pair update_then_update bundles bundles)))))
+
+abbrev pub chain_at : ℕ → Text → Text → Chain
+chain_at kind first second = record { kind = kind; first = first; second = second }
+
 abbrev pub first_chain : Rules → Option Chain
-first_chain rules = chain_of 1 key_of key_of (first_pair rename_then_rename rules.renames rules.renames)
+first_chain rules = first_chain_in rules.renames (finite.entries rules.direct) (finite.entries rules.bundles)
 
 abbrev pub IsSettled : Rules → Type 0
 IsSettled rules = first_chain rules ≡ None

@@ -1,6 +1,6 @@
 //! The files of a rule folder.
 
-ghost use Rattle.std.specs.Prelude.{◌≡◌, ◌≤◌, ◌↔◌, None, Some, IsTrue, MatchOption, length, OnOk, OnErr};
+ghost use Rattle.std.specs.Prelude.{◌≡◌, ◌≤◌, ◌↔◌, None, Some, IsTrue, MatchOption, length, OnOk, OnErr, IfSome};
 ghost use Rattle.std.specs.FinMap as map;
 
 use desk_base::{Memory, Text};
@@ -23,7 +23,13 @@ impl Model for RuleFiles {
 
     ghost coded = { map.code (coded_list coded_ℕ) (coded_list coded_ℕ) };
 
+    ghost use Rattle.std.specs.Prelude.{◌≤◌, length};
+    ghost use Rattle.std.specs.List.{All};
+    ghost use Rattle.std.specs.BTreeMap.{values};
+
     ghost view = { λ f. map.from_entries f.files.entries };
+
+    ghost invariant = { λ f. All (λ content. length content ≤ 1048576) (values f.files) };
 }
 
 impl RuleFiles {
@@ -50,9 +56,10 @@ impl RuleFiles {
 
     /// The bytes of the file with a name; none exactly where there is no such file.
     pub fn content(&self, name: &Text) -> Option<&[u8]>
-        ensures { MatchOption result
+        ensures answer { MatchOption result
             (map.get self.now name.now ≡ None)
             (λ content. map.get self.now name.now ≡ Some content.now) }
+        ensures small { IfSome result (λ content. length content.now ≤ 1048576) }
     {
         match self.files.get(name) {
             None => None,

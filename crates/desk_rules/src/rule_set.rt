@@ -1,23 +1,38 @@
 //! A rule set, which is well-formed and settled by its type.
 
-ghost use Rattle.std.specs.Prelude.{◌≡◌, ◌==◌, ◌↔◌, ℕ, None, Some, Ok, IsTrue, MatchOption, IfOk, IfErr, length, map};
-ghost use Rattle.std.specs.List.{before_first, after_first, slice_split, position_or_len};
-ghost use Rattle.desk_base.specs.Names.{segments, written};
-ghost use Rattle.desk_rules.specs.Keys.{is_separator, spelled};
-ghost use Rattle.desk_rules.specs.Files.{without_end};
-ghost use Rattle.desk_rules.specs.RuleFiles.{rules_of_files, rules_of_line};
-ghost use Rattle.desk_rules.specs.PlainLines.{ReadsPlainLines};
-ghost use Rattle.desk_rules.specs.Builds.{IsBuildFault, IsLineFault};
-ghost use Rattle.desk_rules.specs.RuleSets.{changing_pick, IsFrontOf, IsRuleSet, PackagesStay, DottedStay, DottedKeepForm};
+ghost use Rattle.std.specs.Prelude.{◌≡◌, ◌==◌, None, Some, Ok, IsTrue, MatchOption, IfOk, IfErr, if◌then◌else◌};
+ghost use Rattle.std.specs.Option.{option_copied};
+ghost use Rattle.std.specs.FinMap as finite;
+ghost use Rattle.desk_base.specs.Names.{segments};
+ghost use Rattle.desk_patterns.specs.PatternTexts.{texts_of};
+ghost use Rattle.desk_patterns.specs.Selections.{selects};
+ghost use Rattle.desk_rules.specs.Keys.{is_separator, IsTable, RiseBy};
+ghost use Rattle.desk_rules.specs.Renames.{key_of};
+ghost use Rattle.desk_rules.specs.Builds.{IsFaultOf};
+ghost use Rattle.desk_rules.specs.RuleFiles.{rules_of_files, settled};
+ghost use Rattle.desk_rules.specs.RuleSets.{changing_pick, IsFrontOf, IsRuleSet, PackagesStay, ClassesStay, ClassesKeepForm, DottedStay, DottedKeepForm, StringsStay, BundlesStay, version_of, changing_update, update_of, rules_of};
 
-use crate::names::is_dotted;
+use crate::chain::first_chain;
+use crate::keyed::{BundleRule, DirectRule, VersionRule, rule_of};
+use crate::picking::picked;
+use crate::reading::{read_all, read_renames, read_selection};
+use crate::rename::Rename;
+use crate::sources::Sources;
+use crate::texts::read_texts;
 use crate::{BuildFault, RuleFault, RuleFiles};
-use desk_base::{Memory, Text, TextList};
+use desk_base::{Text, TextList};
+use desk_patterns::{PatternTexts, Selection, TextRules};
 use std::alloc::Global;
 use std::marker::Model;
 
-/// The name of the file that holds the renames.
-const RENAMES: &[u8] = b"renames.properties";
+/// The file of the versions.
+const VERSIONS: &[u8] = b"versions.properties";
+
+/// The file of the bundle updates.
+const BUNDLES: &[u8] = b"bundles.properties";
+
+/// The file of the direct strings.
+const DIRECT: &[u8] = b"direct.properties";
 
 /// What is exchanged of a package: its first `taken` bytes, for these segments.
 #[derive(Clone, Copy, Debug)]
@@ -28,149 +43,126 @@ pub struct Front<'r> {
     pub segments: &'r TextList,
 }
 
-/// The rules of a rule folder: one exact rename. No image under them is changed again.
-#[derive(Debug, Drop)]
+/// What a bundle is updated to.
+#[derive(Clone, Copy, Debug)]
+pub struct BundleUpdate<'r> {
+    /// The new symbolic name.
+    pub name: &'r [u8],
+    /// The new version; none where the bundle keeps its own.
+    pub version: Option<&'r [u8]>,
+}
+
+impl BundleRule {
+    fn update(&self) -> BundleUpdate<'_>
+        ensures { update_of result.name.now (option_copied result.version) ≡ self.now.1 }
+    {
+        BundleUpdate {
+            name: self.update.name.as_bytes(),
+            version: match &self.update.version {
+                None => None,
+                Some(version) => Some(version.as_bytes()),
+            },
+        }
+    }
+}
+
+/// The rules of a rule folder. No image under them is changed again.
+#[derive(Drop)]
 pub struct RuleSet {
-    source: Text,
-    target: TextList,
-    changes: bool,
+    renames: Vec<Rename>,
+    dotted_sources: Sources,
+    slashed_sources: Sources,
+    versions: Vec<VersionRule>,
+    bundles: Vec<BundleRule>,
+    direct: Vec<DirectRule>,
+    selection: Selection,
+    texts: PatternTexts,
 }
 
 impl Model for RuleSet {
-    ghost use Rattle.std.specs.Prelude.{[], ◌∷◌};
     ghost use Rattle.desk_rules.specs.Rules.{Rules, rules_code};
-    ghost use Rattle.desk_rules.specs.RuleSets.{IsKept, kept_rename};
+    ghost use Rattle.desk_rules.specs.RuleSets.{rules_of, IsKept};
 
     ghost Value = { Rules };
 
     ghost coded = { rules_code };
 
-    ghost view = { λ r. record { renames = kept_rename r.source r.target ∷ [] } };
+    ghost view = { λ r. rules_of r.renames.items r.versions.items r.bundles.items r.direct.items r.selection r.texts };
 
-    ghost invariant = { λ r. IsKept (kept_rename r.source r.target) r.changes };
+    ghost invariant = { λ r. IsKept r.renames.items r.versions.items r.bundles.items r.direct.items r.dotted_sources r.slashed_sources };
 }
 
-/// A byte of a path as a rule spells it: `.` for the separator.
-fn spell(byte: u8, separator: u8) -> u8
-    ensures { result ≡ spelled separator byte }
+/// The sources as a separator writes them.
+fn sources_by<'s>(separator: u8, dotted: &'s Sources, slashed: &'s Sources) -> &'s Sources
+    ensures { result.now ≡ (if separator == 47 then slashed.now else dotted.now) }
 {
-    if byte == separator {
-        b'.'
-    } else if byte == b'.' {
-        separator
-    } else {
-        byte
-    }
-}
-
-/// Whether a rule spells a path, written with a separator, as this text.
-fn is_spelled(text: &[u8], path: &[u8], separator: u8) -> bool
-    ensures { IsTrue result ↔ (text.now ≡ map (spelled separator) path.now) }
-{
-    if text.len() != path.len() {
-        return false;
-    }
-    for (i, byte) in path.iter().enumerate() {
-        if text[i] != spell(*byte, separator) {
-            return false;
-        }
-    }
-    true
-}
-
-/// The parts of a text between dots.
-fn split_at_dots(alloc: Global, text: &[u8]) -> Result<TextList, Memory>
-    ensures { IfOk result (λ parts. parts ≡ slice_split (λ b. b == 46) text.now) }
-{
-    let mut parts = TextList::empty(alloc);
-    let mut from = 0;
-    for (i, byte) in text.iter().enumerate() {
-        if *byte == b'.' {
-            parts.push(Text::from_bytes(alloc, &text[from..i])?)?;
-            from = i + 1;
-        }
-    }
-    parts.push(Text::from_bytes(alloc, &text[from..])?)?;
-    Ok(parts)
-}
-
-/// A line without the LF at its end, where it has one.
-fn without_end(line: &[u8]) -> &[u8]
-    ensures { result.now ≡ without_end line.now }
-{
-    if line.ends_with(b"\n") {
-        &line[..line.len() - 1]
-    } else {
-        line
-    }
-}
-
-/// The place of the first `=` of a line, or the line's length.
-fn place_of_equals(line: &[u8]) -> usize
-    ensures { result ≡ position_or_len (λ b. b == 61) line.now }
-{
-    for (i, byte) in line.iter().enumerate() {
-        if *byte == b'=' {
-            return i;
-        }
-    }
-    line.len()
-}
-
-/// What stands before the first `=` of a line, and what stands behind it; nothing behind where there
-/// is none.
-fn cut_at_equals(line: &[u8]) -> (&[u8], &[u8])
-    ensures before { result.0.now ≡ before_first (λ b. b == 61) line.now }
-    ensures behind { result.1.now ≡ after_first (λ b. b == 61) line.now }
-{
-    let at = place_of_equals(line);
-    if at < line.len() {
-        (&line[..at], &line[at + 1..])
-    } else {
-        (line, &line[line.len()..])
-    }
+    if separator == b'/' { slashed } else { dotted }
 }
 
 impl RuleSet {
-    /// The rule set of the one line of renames.
-    fn of_line(alloc: Global, line: &[u8]) -> Result<RuleSet, BuildFault>
-        ensures built { IfOk result (λ rules. rules_of_line line.now ≡ Ok rules) }
-        ensures refused { IfErr result (IsLineFault line.now) }
+    /// The rule set of rules in byte order of their keys. The fault is their first chain, or want of memory.
+    pub(crate) fn settled(
+        alloc: Global,
+        renames: Vec<Rename>,
+        versions: Vec<VersionRule>,
+        bundles: Vec<BundleRule>,
+        direct: Vec<DirectRule>,
+        selection: Selection,
+        texts: PatternTexts,
+    ) -> Result<RuleSet, BuildFault>
+        requires renames { IsTable renames.items }
+        requires versions { RiseBy (λ v. v.0) versions.items }
+        requires bundles { RiseBy (λ b. b.0) bundles.items }
+        requires direct { RiseBy (λ d. d.0) direct.items }
+        ensures built { IfOk result (λ rules. settled (rules_of renames.items versions.items bundles.items direct.items selection texts) ≡ Ok rules) }
+        ensures refused { IfErr result (IsFaultOf (settled (rules_of renames.items versions.items bundles.items direct.items selection texts))) }
         ensures settled { IfOk result IsRuleSet }
     {
-        let (source, target) = cut_at_equals(without_end(line));
-        if !is_dotted(source) || !is_dotted(target) {
-            return Err(BuildFault::Rules(RuleFault::PlainLine));
+        if let Some(chain) = first_chain(&renames, &direct, &bundles) {
+            return Err(BuildFault::Rules(RuleFault::Chain {
+                kind: chain.kind,
+                first: Text::from_bytes(alloc, chain.first)?,
+                second: Text::from_bytes(alloc, chain.second)?,
+            }));
         }
+        let dotted_sources = Sources::of(alloc, &renames, b'.')?;
+        let slashed_sources = Sources::of(alloc, &renames, b'/')?;
         Ok(RuleSet {
-            source: Text::from_bytes(alloc, source)?,
-            target: split_at_dots(alloc, target)?,
-            changes: source != target,
+            renames,
+            dotted_sources,
+            slashed_sources,
+            versions,
+            bundles,
+            direct,
+            selection,
+            texts,
         })
     }
 
-    /// The rule set of rule files. The fault of the files comes exactly where they make no rules:
-    /// `PlainLine` where the file `renames.properties` is missing, or isn't one line of a package,
-    /// one `=`, a package, and one LF or nothing behind it. The only other error is want of memory.
+    /// The rule set of rule files. The files are looked at in the order `renames.properties`, `versions.properties`,
+    /// `bundles.properties`, `direct.properties`, `selection.properties`, `text.properties`, and then the text rule files
+    /// that it names, in byte order of their names; a missing file is read as an empty one. In each file first comes the
+    /// fault of its properties, and for the renames `NoRenames` where there is no key; then each key is looked at in byte
+    /// order, `BadKey` before `MissingText`, and this before `BadValue`. `Chain` comes last. The only other error is want
+    /// of memory.
     pub fn build(alloc: Global, files: &RuleFiles) -> Result<RuleSet, BuildFault>
         ensures built { IfOk result (λ rules. rules_of_files files.now ≡ Ok rules) }
-        ensures refused { IfErr result (IsBuildFault files.now) }
+        ensures refused { IfErr result (IsFaultOf (rules_of_files files.now)) }
         ensures settled { IfOk result IsRuleSet }
-
-        // What a line is read as: exactly the plain lines are rules.
-        ensures plain { ReadsPlainLines }
     {
-        let name = Text::from_bytes(alloc, RENAMES)?;
-        match files.content(&name) {
-            None => Err(BuildFault::Rules(RuleFault::PlainLine)),
-            Some(line) => RuleSet::of_line(alloc, line),
-        }
+        let renames = read_renames(alloc, files)?;
+        let versions = read_all(alloc, files, VERSIONS)?;
+        let bundles = read_all(alloc, files, BUNDLES)?;
+        let direct = read_all(alloc, files, DIRECT)?;
+        let selection = read_selection(alloc, files)?;
+        let texts = read_texts(alloc, files)?;
+        RuleSet::settled(alloc, renames, versions, bundles, direct, selection, texts)
     }
 
     /// What is exchanged of a package that is written with a separator, `.` or `/`: something exactly
     /// where a changing rule is picked for it. It takes no memory. Every rule set is settled: under
-    /// it the image of a package or of a dotted name is its own image, and the image of a dotted
-    /// name is a dotted name with the same last part.
+    /// it the image of a package, of a class name or of a dotted name is its own image, and the image
+    /// of a name is a name of its kind with the same last part.
     pub fn package(&self, path: &[u8], separator: u8) -> Option<Front<'_>>
         requires { IsTrue (is_separator separator) }
         ensures answer { MatchOption result
@@ -178,16 +170,72 @@ impl RuleSet {
             (λ front. IsFrontOf self.now.renames separator path.now front.taken front.segments.now) }
         ensures settled { IsRuleSet self.now }
         ensures packages_stay { PackagesStay self.now.renames }
+        ensures classes_stay { ClassesStay self.now.renames }
+        ensures classes_keep_form { ClassesKeepForm self.now.renames }
         ensures dotted_stay { DottedStay self.now.renames }
         ensures dotted_keep_form { DottedKeepForm self.now.renames }
     {
-        if self.changes && is_spelled(self.source.as_bytes(), path, separator) {
-            Some(Front {
-                taken: path.len(),
-                segments: &self.target,
-            })
-        } else {
-            None
+        let sources = sources_by(separator, &self.dotted_sources, &self.slashed_sources);
+        match picked(&self.renames, sources, path, separator) {
+            Some(rename) if rename.changes() => Some(Front {
+                taken: rename.source_text(separator).len(),
+                segments: rename.target(),
+            }),
+            _ => None,
         }
+    }
+
+    /// The new text of an old one: something exactly where the text is a direct source, also where the two are
+    /// equal. It takes no memory. Under a rule set the image of a string is its own image.
+    pub fn direct(&self, text: &[u8]) -> Option<&[u8]>
+        ensures answer { option_copied result ≡ finite.get self.now.direct text.now }
+        ensures settled { IsRuleSet self.now }
+        ensures strings_stay { StringsStay self.now }
+    {
+        match rule_of(&self.direct, text) {
+            None => None,
+            Some(rule) => Some(rule.target()),
+        }
+    }
+
+    /// The version of a new package that is written with dots, where it is exported or where it is imported; none
+    /// exactly where the package has no versions. It takes no memory.
+    pub fn version(&self, package: &[u8], export: bool) -> Option<&[u8]>
+        ensures { option_copied result ≡ version_of self.now.versions «package».now export }
+    {
+        match rule_of(&self.versions, package) {
+            None => None,
+            Some(rule) => Some(rule.version(export)),
+        }
+    }
+
+    /// What a bundle of this symbolic name is updated to: something exactly where its update changes the name. It takes
+    /// no memory. Under a rule set no new name is updated again.
+    pub fn bundle(&self, name: &[u8]) -> Option<BundleUpdate<'_>>
+        ensures answer { MatchOption result
+            (changing_update self.now.bundles name.now ≡ None)
+            (λ update. changing_update self.now.bundles name.now ≡ Some (update_of update.name.now (option_copied update.version))) }
+        ensures bundles_stay { BundlesStay self.now.bundles }
+    {
+        match rule_of(&self.bundles, name) {
+            Some(rule) if rule.changes() => Some(rule.update()),
+            _ => None,
+        }
+    }
+
+    /// The text rules of a path: those of the first pattern that fits it, in the order in which the patterns first stand in
+    /// their file; none exactly where none fits. It takes no memory.
+    pub fn texts(&self, path: &[u8]) -> Option<&TextRules>
+        ensures { option_copied result ≡ texts_of self.now.texts path.now }
+    {
+        self.texts.find(path)
+    }
+
+    /// Whether a path is selected: where no pattern includes or one that includes fits it, and none that excludes fits it.
+    /// It takes no memory.
+    pub fn selected(&self, path: &[u8]) -> bool
+        ensures { result ≡ selects self.now.selection path.now }
+    {
+        self.selection.selects(path)
     }
 }

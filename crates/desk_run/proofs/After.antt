@@ -29,12 +29,12 @@ Spares target (work ∷ works) = (writes work.plan ≡ true → work.target ≢ 
 
 pub plan_spares : (path q : List ℕ) (plan : Plan) (m : Contents) → (writes plan ≡ true → path ≢ q) → fin.get (wrote_plan path plan m) q ≡ fin.get m q
 plan_spares path q Keep m h = refl
-plan_spares path q Leave m h = refl
+plan_spares path q (Leave reason) m h = refl
 plan_spares path q (Write found image) m h = get-insert-other m path image.bytes q (λ e. h refl (sym e))
 
 pub logged_spares : (target q : List ℕ) (held : Held) (plan : Plan) (l : Ledger) → (writes plan ≡ true → target ≢ q) → fin.get (logged_plan target held plan l).rows q ≡ fin.get l.rows q
 logged_spares target q held Keep l h = refl
-logged_spares target q held Leave l h = refl
+logged_spares target q held (Leave reason) l h = refl
 logged_spares target q held (Write found image) l h = get-insert-other l.rows target held q (λ e. h refl (sym e))
 
 pub forgot_spares : (target q : List ℕ) (found : Bool) (l : Ledger) → target ≢ q → fin.get (forgot found target l).rows q ≡ fin.get l.rows q
@@ -43,7 +43,7 @@ forgot_spares target q false l h = refl
 
 pub cleared_spares : (target q : List ℕ) (plan : Plan) (l : Ledger) → target ≢ q → fin.get (cleared_plan target plan l).rows q ≡ fin.get l.rows q
 cleared_spares target q Keep l h = refl
-cleared_spares target q Leave l h = refl
+cleared_spares target q (Leave reason) l h = refl
 cleared_spares target q (Write found image) l h = forgot_spares target q found l h
 
 pub files_spare : (to path : List ℕ) (works : List Work) (m : Contents) → Off to path works → fin.get (files_after to works m) path ≡ fin.get m path
@@ -75,11 +75,11 @@ header_after [] l = refl
 header_after (work ∷ works) l = header_after works (logged work l) ∙ same work.target _ work.plan l where
   same : (target : List ℕ) (held : Held) (plan : Plan) (l : Ledger) → (logged_plan target held plan l).header ≡ l.header
   same target held Keep l = refl
-  same target held Leave l = refl
+  same target held (Leave reason) l = refl
   same target held (Write found image) l = refl
 
 pub header_cleared : (target : List ℕ) (plan : Plan) (l : Ledger) → (cleared_plan target plan l).header ≡ l.header
 header_cleared target Keep l = refl
-header_cleared target Leave l = refl
+header_cleared target (Leave reason) l = refl
 header_cleared target (Write true bytes) l = refl
 header_cleared target (Write false bytes) l = refl

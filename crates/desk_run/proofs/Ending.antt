@@ -1,7 +1,7 @@
 -- From the plan and the writing to where a run stands, and to what is promised of it.
-use Rattle.std.proofs.Common.{◌≡◌, inl, inr, ℕ, ◌+◌, ◌≤◌, List, [], ◌∷◌, ◌++◌, Option, Some, None, refl, sym, ap, ◌∙◌, subst, true, false, Bool, cond, append-nil, is_some, length, Result, Ok}
-use Rattle.std.specs.Prelude.{not, ◌&&◌, count_by, is_none, IsOkAnd}
-use Rattle.std.specs.List.{flat_map, fold}
+use Rattle.std.proofs.Common.{◌≡◌, inl, inr, ℕ, ◌+◌, ◌≤◌, List, [], ◌∷◌, ◌++◌, Option, Some, None, refl, sym, ap, ◌∙◌, subst, true, false, Bool, cond, append-nil, is_some, length, Result, Ok, Err}
+use Rattle.std.specs.Prelude.{not, ◌&&◌, ◌||◌, count_by, is_ok, is_err, IsOkAnd, if◌then◌else◌}
+use Rattle.std.specs.List.{flat_map, fold, list_any}
 use Rattle.std.proofs.lemmas.List.{length-map}
 use Rattle.desk_base.specs.Names.{Text}
 use Rattle.desk_base.specs.Paths.{full}
@@ -10,22 +10,23 @@ use Rattle.desk_folders.specs.ContentsLaws.{Rose-earlier}
 use Rattle.desk_ledger.specs.declared.keeper.Header.{Header}
 use Rattle.desk_ledger.specs.Ledger.{Ledger, Rows, with_header}
 use Rattle.desk_report.specs.declared.status.Status.{Status}
-use Rattle.desk_report.specs.declared.status.Status.TheVariants.{Done, Memory, FolderFault, LedgerFault, OutputFault, Usage, NestedRoots, BadRules, OtherRun, NotBuilt}
+use Rattle.desk_report.specs.declared.status.Status.TheVariants.{Done, Refusals, Memory, FolderFault, LedgerFault, OutputFault, Usage, NestedRoots, BadRules, Limit, PathClash, OtherRun}
 use Rattle.desk_report.specs.Texts.{summary_text}
 use Rattle.desk_report.specs.Written.{WritesFront, writing}
-use Rattle.desk_run.specs.declared.image.Image.{Image}
+use Rattle.desk_file.specs.declared.images.Image.{Image}
+use Rattle.desk_report.specs.declared.lines.Reason.{Reason}
 use Rattle.desk_run.specs.declared.planning.Plan.TheVariants.{Keep}
 use Rattle.desk_run.specs.declared.planning.Work.{Work}
 use Rattle.desk_run.specs.declared.stops.Halt.{Halt}
 use Rattle.desk_run.specs.declared.stops.Halt.TheVariants as halt
-use Rattle.desk_run.specs.Runs.{Run, is_kept_file, is_fresh}
+use Rattle.desk_run.specs.Runs.{Run, is_kept_file, is_fresh, is_refused}
 use Rattle.desk_run.specs.Works.{work_of, works_of, fresh, writes, keeps, leaves, cleared, files_after, ledger_after}
 use Rattle.desk_run.specs.Truth.{IsOurs}
 use Rattle.desk_run.specs.Stops.{Broken, StoppedAt, status_of_halt}
 use Rattle.desk_run.specs.Stands.{Unchanged}
 use Rattle.desk_run.specs.Meaning.{run_of_words}
 use Rattle.desk_run.specs.Answers.{other_run, or_else, answer_of_run, first_answer, is_answer, WordsCause}
-use Rattle.desk_run.specs.Reports.{report, line_of, file_line, is_refused, summary_of, line_of_work, plan_line, summary_of_works, report_of_works}
+use Rattle.desk_run.specs.Reports.{report, line_of, file_line, summary_of, ending, ending_of_works, line_of_work, plan_line, summary_of_works, report_of_works}
 use Rattle.desk_run.specs.Endings.{WhereTold, Tells, Planned, LedgerEarly, HaltsEarly, AllWritten, Finishes, Reported, ReportedOf, HasCauses, StandsAt, IsDone, StandsAfter, is_final, Named, NamedBy, NamedByRoots, IsAttached}
 use Rattle.desk_run.proofs.Splits.{Mapped, mapped}
 
@@ -121,6 +122,7 @@ stopped_stands words m0 l0 to header works done f' k' p s = by s.broken where
 pub finish_stands : (words : List Text) (m0 : Contents) (l0 : Ledger) (to : Text) (header : Header) (works : List Work) (f' : Option Contents) (k' : Option Ledger) (status : Status) → Planned words m0 l0 to header works
     → Finishes to works (Some m0) f' (Some (with_header header l0)) k' status → Tells f' k' (λ m l. StandsAfter words m0 l0 m l status)
 finish_stands words m0 l0 to header works f' k' Done p a = all_written words m0 l0 to header works f' k' p a
+finish_stands words m0 l0 to header works f' k' Refusals p a = all_written words m0 l0 to header works f' k' p a
 finish_stands words m0 l0 to header works f' k' OutputFault p a = all_written words m0 l0 to header works f' k' p a
 finish_stands words m0 l0 to header works f' k' Memory p a =
     let s = stopped_stands words m0 l0 to header works a.done f' k' p a.stopped in
@@ -131,7 +133,8 @@ finish_stands words m0 l0 to header works f' k' Usage p a = absurd a
 finish_stands words m0 l0 to header works f' k' (NestedRoots first second) p a = absurd a
 finish_stands words m0 l0 to header works f' k' (BadRules fault) p a = absurd a
 finish_stands words m0 l0 to header works f' k' (OtherRun kept wanted) p a = absurd a
-finish_stands words m0 l0 to header works f' k' (NotBuilt path) p a = absurd a
+finish_stands words m0 l0 to header works f' k' (Limit kind path) p a = absurd a
+finish_stands words m0 l0 to header works f' k' (PathClash first second) p a = absurd a
 
 -- nothing is written yet, and the header may be set
 early : (words : List Text) (m0 : Contents) (l0 : Ledger) (f' : Option Contents) (k' : Option Ledger) → f' ≡ Some m0 → LedgerEarly words (Some m0) (Some l0) k' → Tells f' k' (λ m l. StandsAt words m0 l0 m l 0)
@@ -165,8 +168,10 @@ answer_stands words m0 l0 m l Usage e u = u
 answer_stands words m0 l0 m l (NestedRoots first second) e u = u
 answer_stands words m0 l0 m l (BadRules fault) e u = u
 answer_stands words m0 l0 m l (OtherRun kept wanted) e u = u
-answer_stands words m0 l0 m l (NotBuilt path) e u = u
+answer_stands words m0 l0 m l (Limit kind path) e u = u
+answer_stands words m0 l0 m l (PathClash first second) e u = u
 answer_stands words m0 l0 m l Done e u = cc
+answer_stands words m0 l0 m l Refusals e u = cc
 answer_stands words m0 l0 m l Memory e u = cc
 answer_stands words m0 l0 m l (FolderFault done) e u = cc
 answer_stands words m0 l0 m l (LedgerFault done) e u = cc
@@ -191,31 +196,11 @@ early_first words m0 l0 k' a b c d halt.Folders s e = cc
 early_first words m0 l0 k' a b c d halt.Ledger s e = cc
 early_first words m0 l0 k' a b c d (halt.Answer status) s e = sym (s.1.first m0 l0 refl refl)
 
-planned_first : (words : List Text) (m0 : Contents) (l0 : Ledger) (to : Text) (header : Header) (works : List Work) → Planned words m0 l0 to header works → Done ≡ first_answer words m0 l0
-planned_first words m0 l0 to header works p =
-    sym (ap (answer_of_run m0 l0) p.ready.is
-    ∙ ap (λ o. or_else o (or_else (other_run p.run.header l0.header) Done)) p.ready.built
-    ∙ ap (λ o. or_else o Done) p.other)
-
--- a late answer is the first
-pub finish_first : (words : List Text) (m0 : Contents) (l0 : Ledger) (to : Text) (header : Header) (works : List Work) (f f' : Option Contents) (k k' : Option Ledger) (status : Status) → Planned words m0 l0 to header works
-    → Finishes to works f f' k k' status → is_final status ≡ true → status ≡ first_answer words m0 l0
-finish_first words m0 l0 to header works f f' k k' Done p a e = planned_first words m0 l0 to header works p
-finish_first words m0 l0 to header works f f' k k' OutputFault p a e = cc
-finish_first words m0 l0 to header works f f' k k' Memory p a e = cc
-finish_first words m0 l0 to header works f f' k k' (FolderFault done) p a e = cc
-finish_first words m0 l0 to header works f f' k k' (LedgerFault done) p a e = cc
-finish_first words m0 l0 to header works f f' k k' Usage p a e = absurd a
-finish_first words m0 l0 to header works f f' k k' (NestedRoots first second) p a e = absurd a
-finish_first words m0 l0 to header works f f' k k' (BadRules fault) p a e = absurd a
-finish_first words m0 l0 to header works f f' k k' (OtherRun kept wanted) p a e = absurd a
-finish_first words m0 l0 to header works f f' k k' (NotBuilt path) p a e = absurd a
-
 -- the report of the works is that of the run
-line_plan : (path target : Text) (kept found : Bool) (o : Option Image) → plan_line path target (cond kept Keep (fresh found o)) ≡ file_line path target kept o
+line_plan : (path target : Text) (kept found : Bool) (o : Result Image Reason) → plan_line path target (cond kept Keep (fresh found o)) ≡ file_line path target kept o
 line_plan path target true found o = refl
-line_plan path target false found (Some image) = refl
-line_plan path target false found None = refl
+line_plan path target false found (Ok image) = refl
+line_plan path target false found (Err reason) = refl
 
 lines_works : (run : Run) (rows : Rows) (files : List File) → flat_map line_of_work (works_of run rows files) ≡ flat_map (line_of run rows) files
 lines_works run rows [] = refl
@@ -228,20 +213,20 @@ counted p q run rows same files = by 0 files where
   by n [] = refl
   by n (file ∷ files) = by (n + cond (p (work_of run rows file)) 1 0) files ∙ ap (λ b. fold (λ a f. a + cond (q f) 1 0) (n + cond b 1 0) files) (same file)
 
-written_same : (kept found : Bool) (o : Option Image) → writes (cond kept Keep (fresh found o)) ≡ not kept && is_some o
+written_same : (kept found : Bool) (o : Result Image Reason) → writes (cond kept Keep (fresh found o)) ≡ not kept && is_ok o
 written_same true found o = refl
-written_same false found (Some image) = refl
-written_same false found None = refl
+written_same false found (Ok image) = refl
+written_same false found (Err reason) = refl
 
-kept_same : (kept found : Bool) (o : Option Image) → keeps (cond kept Keep (fresh found o)) ≡ kept
+kept_same : (kept found : Bool) (o : Result Image Reason) → keeps (cond kept Keep (fresh found o)) ≡ kept
 kept_same true found o = refl
-kept_same false found (Some image) = refl
-kept_same false found None = refl
+kept_same false found (Ok image) = refl
+kept_same false found (Err reason) = refl
 
-left_same : (kept found : Bool) (o : Option Image) → leaves (cond kept Keep (fresh found o)) ≡ not kept && is_none o
+left_same : (kept found : Bool) (o : Result Image Reason) → leaves (cond kept Keep (fresh found o)) ≡ not kept && is_err o
 left_same true found o = refl
-left_same false found (Some image) = refl
-left_same false found None = refl
+left_same false found (Ok image) = refl
+left_same false found (Err reason) = refl
 
 summary_works : (run : Run) (rows : Rows) (files : List File) → summary_of_works (works_of run rows files) ≡ summary_of run rows files
 summary_works run rows files =
@@ -265,6 +250,8 @@ pub finish_reported : (words : List Text) (f0 : Option Contents) (k0 : Option Le
     → WhereTold f0 k0 (λ m l. Planned words m l to header works) → Finishes to works f f' k k' status → Reported (report_of_works works) o o' status → ReportedOf words f0 k0 o o' status
 finish_reported words f0 k0 to header works f f' k k' o o' Done p a r = λ m l ef ek.
     let q = p m l ef ek in ok_and (run_of_words words m) q.run _ q.ready.is (r ∙ ap (λ t. writing t o) (report_works words m l to header works q))
+finish_reported words f0 k0 to header works f f' k k' o o' Refusals p a r = λ m l ef ek.
+    let q = p m l ef ek in ok_and (run_of_words words m) q.run _ q.ready.is (r ∙ ap (λ t. writing t o) (report_works words m l to header works q))
 finish_reported words f0 k0 to header works f f' k k' o o' OutputFault p a r = λ m l ef ek.
     let q = p m l ef ek in ok_and (run_of_words words m) q.run _ q.ready.is (subst (λ t. WritesFront t o o') (report_works words m l to header works q) r)
 finish_reported words f0 k0 to header works f f' k k' o o' Memory p a r = r
@@ -274,15 +261,18 @@ finish_reported words f0 k0 to header works f f' k k' o o' Usage p a r = absurd 
 finish_reported words f0 k0 to header works f f' k k' o o' (NestedRoots first second) p a r = absurd a
 finish_reported words f0 k0 to header works f f' k k' o o' (BadRules fault) p a r = absurd a
 finish_reported words f0 k0 to header works f f' k k' o o' (OtherRun kept wanted) p a r = absurd a
-finish_reported words f0 k0 to header works f f' k k' o o' (NotBuilt path) p a r = absurd a
+finish_reported words f0 k0 to header works f f' k k' o o' (Limit kind path) p a r = absurd a
+finish_reported words f0 k0 to header works f f' k k' o o' (PathClash first second) p a r = absurd a
 
 answer_reported : (words : List Text) (f0 : Option Contents) (k0 : Option Ledger) (o : Option Text) (status : Status) → is_answer status ≡ true → ReportedOf words f0 k0 o o status
 answer_reported words f0 k0 o Usage e = refl
 answer_reported words f0 k0 o (NestedRoots first second) e = refl
 answer_reported words f0 k0 o (BadRules fault) e = refl
 answer_reported words f0 k0 o (OtherRun kept wanted) e = refl
-answer_reported words f0 k0 o (NotBuilt path) e = refl
+answer_reported words f0 k0 o (Limit kind path) e = refl
+answer_reported words f0 k0 o (PathClash first second) e = refl
 answer_reported words f0 k0 o Done e = cc
+answer_reported words f0 k0 o Refusals e = cc
 answer_reported words f0 k0 o Memory e = refl
 answer_reported words f0 k0 o (FolderFault done) e = refl
 answer_reported words f0 k0 o (LedgerFault done) e = refl
@@ -299,8 +289,10 @@ answer_causes words Usage f f' k k' o o' e c = c
 answer_causes words (NestedRoots first second) f f' k k' o o' e c = c
 answer_causes words (BadRules fault) f f' k k' o o' e c = tt
 answer_causes words (OtherRun kept wanted) f f' k k' o o' e c = tt
-answer_causes words (NotBuilt path) f f' k k' o o' e c = tt
+answer_causes words (Limit kind path) f f' k k' o o' e c = tt
+answer_causes words (PathClash first second) f f' k k' o o' e c = tt
 answer_causes words Done f f' k k' o o' e c = tt
+answer_causes words Refusals f f' k k' o o' e c = tt
 answer_causes words Memory f f' k k' o o' e c = tt
 answer_causes words (FolderFault done) f f' k k' o o' e c = cc
 answer_causes words (LedgerFault done) f f' k k' o o' e c = cc
@@ -315,6 +307,7 @@ early_causes words f0 k0 k' a b c d o o' (halt.Answer status) s = answer_causes 
 pub finish_causes : (words : List Text) (to : Text) (works : List Work) (x x' : Option Contents) (y y' : Option Ledger) (f0 f1 f2 k0 k1 k2 o o' : ℕ) (status : Status) → f0 ≤ f1 → k0 ≤ k1 → Finishes to works x x' y y' status
     → HasCauses [] status f1 f2 k1 k2 o o' → HasCauses words status f0 f2 k0 k2 o o'
 finish_causes words to works x x' y y' f0 f1 f2 k0 k1 k2 o o' Done lf lk a c = tt
+finish_causes words to works x x' y y' f0 f1 f2 k0 k1 k2 o o' Refusals lf lk a c = tt
 finish_causes words to works x x' y y' f0 f1 f2 k0 k1 k2 o o' OutputFault lf lk a c = c
 finish_causes words to works x x' y y' f0 f1 f2 k0 k1 k2 o o' Memory lf lk a c = tt
 finish_causes words to works x x' y y' f0 f1 f2 k0 k1 k2 o o' (FolderFault done) lf lk a c = Rose-earlier f0 f1 f2 lf c
@@ -323,12 +316,14 @@ finish_causes words to works x x' y y' f0 f1 f2 k0 k1 k2 o o' Usage lf lk a c = 
 finish_causes words to works x x' y y' f0 f1 f2 k0 k1 k2 o o' (NestedRoots first second) lf lk a c = absurd a
 finish_causes words to works x x' y y' f0 f1 f2 k0 k1 k2 o o' (BadRules fault) lf lk a c = absurd a
 finish_causes words to works x x' y y' f0 f1 f2 k0 k1 k2 o o' (OtherRun kept wanted) lf lk a c = absurd a
-finish_causes words to works x x' y y' f0 f1 f2 k0 k1 k2 o o' (NotBuilt path) lf lk a c = absurd a
+finish_causes words to works x x' y y' f0 f1 f2 k0 k1 k2 o o' (Limit kind path) lf lk a c = absurd a
+finish_causes words to works x x' y y' f0 f1 f2 k0 k1 k2 o o' (PathClash first second) lf lk a c = absurd a
 
 pub finish_named : (words : List Text) (to : Text) (works : List Work) (x x' : Option Contents) (y y' : Option Ledger) (old mid new : Option Text) (status : Status) → IsAttached words mid → new ≡ mid → Finishes to works x x' y y' status → Named words old new status
 finish_named words to works x x' y y' old mid new status at same a = subst (NamedByRoots old new status) (sym at.are) (by status a) where
   by : (status : Status) → Finishes to works x x' y y' status → NamedBy old new at.roots.ledger status
   by Done a = same ∙ at.is
+  by Refusals a = same ∙ at.is
   by OutputFault a = same ∙ at.is
   by Memory a = inr (same ∙ at.is)
   by (FolderFault done) a = inr (same ∙ at.is)
@@ -337,4 +332,25 @@ finish_named words to works x x' y y' old mid new status at same a = subst (Name
   by (NestedRoots first second) a = absurd a
   by (BadRules fault) a = absurd a
   by (OtherRun kept wanted) a = absurd a
-  by (NotBuilt path) a = absurd a
+  by (Limit kind path) a = absurd a
+  by (PathClash first second) a = absurd a
+
+-- a run that completes ends as its works do
+counted_left : (run : Run) (rows : Rows) (files : List File) → list_any (λ (w : Work). leaves w.plan) (works_of run rows files) ≡ list_any (is_refused run rows) files
+counted_left run rows [] = refl
+counted_left run rows (file ∷ files) =
+    ap (λ b. b || list_any (λ (w : Work). leaves w.plan) (works_of run rows files)) (left_same (is_kept_file run rows file) _ (run.image file.path file.bytes))
+    ∙ ap (λ b. is_refused run rows file || b) (counted_left run rows files)
+
+planned_first : (words : List Text) (m0 : Contents) (l0 : Ledger) (to : Text) (header : Header) (works : List Work) → Planned words m0 l0 to header works → ending_of_works works ≡ first_answer words m0 l0
+planned_first words m0 l0 to header works p =
+    ap ending_of_works p.are
+    ∙ ap (λ b. if b then Refusals else Done) (counted_left p.run l0.rows (files_below p.run.from m0))
+    ∙ sym (ap (answer_of_run m0 l0) p.ready.is
+    ∙ ap (λ o. or_else o (or_else (other_run p.run.header l0.header) (ending p.run l0.rows (files_below p.run.from m0)))) p.ready.built
+    ∙ ap (λ o. or_else o (ending p.run l0.rows (files_below p.run.from m0))) p.other)
+
+-- a late answer is the first
+pub finish_first : (words : List Text) (m0 : Contents) (l0 : Ledger) (to : Text) (header : Header) (works : List Work) (status : Status) → Planned words m0 l0 to header works
+    → (is_final status ≡ true → status ≡ ending_of_works works) → is_final status ≡ true → status ≡ first_answer words m0 l0
+finish_first words m0 l0 to header works status p ends e = ends e ∙ planned_first words m0 l0 to header works p

@@ -1,16 +1,14 @@
 -- From what was gathered and planned to a run that is ready.
 use Rattle.std.proofs.Common.{◌≡◌, inl, inr, ℕ, ◌+◌, ◌<◌, ◌≤◌, ◌^◌, Bool, true, false, List, [], ◌∷◌, ◌++◌, length, Option, Some, None, refl, sym, ap, ◌∙◌, subst, cond, map, arith, Result, Ok, Err, IfOk, IfErr, IfSome, OnOk, is_some, zero-add, append_assoc}
-use Rattle.std.specs.Prelude.{◌&&◌, nat_le, if◌then◌else◌}
-use Rattle.std.specs.Str.{bytes_eq}
 use Rattle.std.proofs.lemmas.List.{length-map}
-use Rattle.std.proofs.lemmas.List.Sums.{sum_by-append}
-use Rattle.std.proofs.lemmas.Slice.Eq.{bytes_eq-Decides}
 use Rattle.desk_base.specs.Names.{Text}
-use Rattle.desk_folders.specs.Contents.{Contents, File, files_below}
+use Rattle.desk_clashes.specs.ClashLaws.{ApartFromAll, AllApart, all_apart}
+use Rattle.desk_clashes.specs.declared.Clash.{Clash}
+use Rattle.desk_folders.specs.Contents.{Contents, File, file_at, files_below, paths_below}
 use Rattle.desk_ledger.specs.declared.keeper.Header.{Header}
 use Rattle.desk_ledger.specs.Ledger.{Ledger, Rows}
 use Rattle.desk_report.specs.declared.status.Status.{Status}
-use Rattle.desk_report.specs.declared.status.Status.TheVariants.{Done, Memory, FolderFault, LedgerFault, OutputFault, Usage, NestedRoots, BadRules, OtherRun, NotBuilt}
+use Rattle.desk_report.specs.declared.status.Status.TheVariants.{Done, Refusals, Memory, FolderFault, LedgerFault, OutputFault, Usage, NestedRoots, BadRules, Limit, PathClash, OtherRun}
 use Rattle.desk_run.specs.declared.files.Input.{Input}
 use Rattle.desk_run.specs.declared.finish.Prepared.{Prepared}
 use Rattle.desk_run.specs.declared.planning.Work.{Work}
@@ -18,76 +16,45 @@ use Rattle.desk_words.specs.declared.roots.Roots.{Roots}
 use Rattle.desk_run.specs.declared.rules.Ruled.{Ruled}
 use Rattle.desk_run.specs.declared.stops.Halt.{Halt}
 use Rattle.desk_run.specs.declared.stops.Halt.TheVariants as halt
-use Rattle.desk_run.specs.declared.TheConstants.{SIZE}
 use Rattle.desk_words.specs.Roots.{roots_of_words}
 use Rattle.desk_run.specs.Meaning.{run_of, run_of_words}
 use Rattle.desk_words.specs.Roots.{AreRoots}
-use Rattle.desk_run.specs.Runs.{Run, AllRelative, AllApart, Misses, targets_of}
-use Rattle.desk_run.specs.Answers.{goers, is_short, is_built, first_unbuilt, some_answer, files_answer, or_else, other_run, first_answer, answer_of_run, is_answer, WordsCause}
+use Rattle.desk_run.specs.Runs.{Run, AllRelative, AllApart as Distinct, Misses, targets_of}
+use Rattle.desk_run.specs.Answers.{clash_status, clash_answer, first_of, files_answer, or_else, other_run, first_answer, answer_of_run, is_answer, WordsCause}
 use Rattle.desk_run.specs.Inputs.{input_of, work_of_input}
 use Rattle.desk_run.specs.Works.{work_of, works_of}
 use Rattle.desk_run.specs.Truth.{IsOurs}
 use Rattle.desk_run.specs.Stops.{status_of_halt}
+use Rattle.desk_run.specs.Reports.{ending}
 use Rattle.desk_run.specs.Halts.{HaltsGathering, HaltsPlan, LedgerOwn, NamedAtHalt, is_ledger_status, is_early_answer}
 use Rattle.desk_run.specs.Endings.{AreInputs, IsReady, Planned, WhereTold, LedgerEarly, HaltsEarly, NamedBy, NamedByRoots, NamedEarly}
-use Rattle.desk_run.proofs.Reading.{if_some, at_some}
+use Rattle.desk_run.proofs.Parts.{if_some, at_some}
 
--- how many go to a target, file by file
-goers_cons : (run : Run) (t : Text) (file : File) (files : List File) → goers run t (file ∷ files) ≡ cond (bytes_eq (run.target file.path) t) 1 0 + goers run t files
-goers_cons run t file files =
-    sum_by-append (λ (f : File). cond (bytes_eq (run.target f.path) t) 1 0) (file ∷ []) files
-    ∙ ap (λ n. n + goers run t files) (zero-add (cond (bytes_eq (run.target file.path) t) 1 0))
+misses_apart : (t : Text) (ts : List Text) → ApartFromAll t ts → Misses t ts
+misses_apart t [] h = tt
+misses_apart t (u ∷ us) h = (h.0.differ, misses_apart t us h.1)
 
-none_goes : (b : Bool) (n : ℕ) → cond b 1 0 + n ≡ 0 → (b ≡ false) × (n ≡ 0)
-none_goes true n e = absurd (omega arith)
-none_goes false n e = (refl, sym (zero-add n) ∙ e)
+distinct : (ts : List Text) → AllApart ts → Distinct ts
+distinct [] h = tt
+distinct (t ∷ ts) h = (misses_apart t ts h.0, distinct ts h.1)
 
-misses_from_none : (run : Run) (t : Text) (files : List File) → goers run t files ≡ 0 → Misses t (targets_of run files)
-misses_from_none run t [] e = tt
-misses_from_none run t (file ∷ files) e =
-    let n = none_goes (bytes_eq (run.target file.path) t) (goers run t files) (sym (goers_cons run t file files) ∙ e) in
-    ((λ same. let h = (bytes_eq-Decides (run.target file.path) t).1 (sym same) in let k : true ≡ false = sym h ∙ n.0 in cc), misses_from_none run t files n.1)
+-- where no two targets clash, they differ
+no_clash : (paths : List Text) (o : Option Clash) → clash_status paths o ≡ None → o ≡ None
+no_clash paths None e = refl
+no_clash paths (Some clash) e = cc
 
-goers_at : (run : Run) (before rest : List File) (file : File) → 1 + goers run (run.target file.path) rest ≤ goers run (run.target file.path) (before ++ file ∷ rest)
-goers_at run before rest file =
-    let t = run.target file.path in
-    let split = sum_by-append (λ (f : File). cond (bytes_eq (run.target f.path) t) 1 0) before (file ∷ rest) in
-    let head : goers run t (file ∷ rest) ≡ 1 + goers run t rest = goers_cons run t file rest ∙ ap (λ b. cond b 1 0 + goers run t rest) ((bytes_eq-Decides t t).1 refl) in
-    let whole : goers run t (before ++ file ∷ rest) ≡ goers run t before + (1 + goers run t rest) = split ∙ ap (λ n. goers run t before + n) head in
-    omega arith
+last_none : (a b : Option Status) → first_of a b ≡ None → b ≡ None
+last_none None b e = e
+last_none (Some status) b e = cc
 
-le_true : (a b : ℕ) → nat_le a b ≡ true → a ≤ b
-le_true a b e = grind arith
-
-if_none : {X : Type 0} (b : Bool) (o : Option X) (x : X) → (if b then o else Some x) ≡ None → (b ≡ true) × (o ≡ None)
-if_none true o x e = (refl, e)
-if_none false o x e = cc
-
-last_of : (a b c d e : Bool) → a && (b && (c && (d && e))) ≡ true → e ≡ true
-last_of true true true true e h = h
-last_of true true true false e h = cc
-last_of true true false d e h = cc
-last_of true false c d e h = cc
-last_of false b c d e h = cc
-
-apart_suffix : (run : Run) (all before files : List File) → all ≡ before ++ files → first_unbuilt run all files ≡ None → AllApart (targets_of run files)
-apart_suffix run all before [] e h = tt
-apart_suffix run all before (file ∷ files) e h =
-    let n = if_none (is_built run all file) (first_unbuilt run all files) file.path h in
-    let t = run.target file.path in
-    let one : goers run t all ≤ 1 = le_true _ _ (last_of (is_short file.path) (is_short t) (nat_le (length file.bytes) SIZE) (is_some (run.image file.path file.bytes)) _ n.0) in
-    let more : 1 + goers run t files ≤ goers run t all = subst (λ (fs : List File). 1 + goers run t files ≤ goers run t fs) (sym e) (goers_at run before files file) in
-    (misses_from_none run t files (omega arith), apart_suffix run all (before ++ file ∷ []) files (e ∙ sym (append_assoc before (file ∷ []) files)) n.1)
-
-no_answer : (o : Option Text) → some_answer o ≡ None → o ≡ None
-no_answer None e = refl
-no_answer (Some path) e = cc
-
-built_apart : (run : Run) (m : Contents) → files_answer run m ≡ None → AllApart (targets_of run (files_below run.from m))
-built_apart run m e = apart_suffix run (files_below run.from m) [] (files_below run.from m) refl (by _ e) where
-  by : (b : Bool) → (if b then Some (NotBuilt run.from) else some_answer (first_unbuilt run (files_below run.from m) (files_below run.from m))) ≡ None → first_unbuilt run (files_below run.from m) (files_below run.from m) ≡ None
-  by true f = cc
-  by false f = no_answer _ f
+built_apart : (run : Run) (m : Contents) → files_answer run m ≡ None → Distinct (targets_of run (files_below run.from m))
+built_apart run m e =
+    let paths = paths_below run.from m in
+    let clear : clash_answer run.target paths ≡ None = last_none _ _ (last_none _ _ e) in
+    subst Distinct (targets_paths run m paths) (distinct (map run.target paths) (all_apart (map run.target paths) (no_clash paths _ clear))) where
+      targets_paths : (run : Run) (m : Contents) (paths : List Text) → map run.target paths ≡ targets_of run (map (file_at run.from m) paths)
+      targets_paths run m [] = refl
+      targets_paths run m (path ∷ paths) = ap (λ ts. run.target path ∷ ts) (targets_paths run m paths)
 
 targets_inputs : (run : Run) (files : List File) → map (λ (i : Input). i.target) (map (input_of run) files) ≡ targets_of run files
 targets_inputs run [] = refl
@@ -146,8 +113,10 @@ own_early words names r header inputs f0 k0 k1 sound same is are rel (inr own) =
 ledger_status : (words : List Text) (status : Status) → is_ledger_status status ≡ true → (is_answer status ≡ true) × WordsCause words status
 ledger_status words (OtherRun kept wanted) e = (refl, tt)
 ledger_status words (BadRules fault) e = cc
-ledger_status words (NotBuilt path) e = cc
+ledger_status words (Limit kind path) e = cc
+ledger_status words (PathClash first second) e = cc
 ledger_status words Done e = cc
+ledger_status words Refusals e = cc
 ledger_status words Memory e = cc
 ledger_status words (FolderFault done) e = cc
 ledger_status words (LedgerFault done) e = cc
@@ -171,8 +140,8 @@ plan_early words names r header inputs f0 k0 k1 a b c d (halt.Answer status) sou
         first = λ m l ef ek.
             let run = run_of names r in
             ap (answer_of_run m l) (at_some (λ m. run_of_words words m ≡ Ok run) f0 m ef is)
-            ∙ ap (λ o. or_else o (or_else (other_run run.header l.header) Done)) (at_some (λ m. AreInputs run m inputs) f0 m ef are).built
-            ∙ ap (λ o. or_else o Done) (ap (λ h. other_run h l.header) (sym same) ∙ at_some (λ l. other_run header l.header ≡ Some status) k0 l ek g.2);
+            ∙ ap (λ o. or_else o (or_else (other_run run.header l.header) (ending run l.rows (files_below run.from m)))) (at_some (λ m. AreInputs run m inputs) f0 m ef are).built
+            ∙ ap (λ o. or_else o (ending run l.rows (files_below run.from m))) (ap (λ h. other_run h l.header) (sym same) ∙ at_some (λ l. other_run header l.header ≡ Some status) k0 l ek g.2);
       },
     )
 
@@ -180,8 +149,10 @@ early_status : (status : Status) → is_early_answer status ≡ true → is_answ
 early_status Usage e = refl
 early_status (NestedRoots first second) e = refl
 early_status (BadRules fault) e = refl
-early_status (NotBuilt path) e = refl
+early_status (Limit kind path) e = refl
+early_status (PathClash first second) e = refl
 early_status Done e = cc
+early_status Refusals e = cc
 early_status Memory e = cc
 early_status (FolderFault done) e = cc
 early_status (LedgerFault done) e = cc
@@ -206,8 +177,10 @@ early_named : (old : Option Text) (name : Text) (status : Status) → is_early_a
 early_named old name Usage e = refl
 early_named old name (NestedRoots first second) e = refl
 early_named old name (BadRules fault) e = refl
-early_named old name (NotBuilt path) e = refl
+early_named old name (Limit kind path) e = refl
+early_named old name (PathClash first second) e = refl
 early_named old name Done e = cc
+early_named old name Refusals e = cc
 early_named old name Memory e = cc
 early_named old name (FolderFault done) e = cc
 early_named old name (LedgerFault done) e = cc
@@ -228,8 +201,10 @@ other_named old new name (OtherRun kept wanted) e n = n
 other_named old new name Usage e n = cc
 other_named old new name (NestedRoots first second) e n = cc
 other_named old new name (BadRules fault) e n = cc
-other_named old new name (NotBuilt path) e n = cc
+other_named old new name (Limit kind path) e n = cc
+other_named old new name (PathClash first second) e n = cc
 other_named old new name Done e n = cc
+other_named old new name Refusals e n = cc
 other_named old new name Memory e n = cc
 other_named old new name (FolderFault done) e n = cc
 other_named old new name (LedgerFault done) e n = cc

@@ -8,7 +8,7 @@ use Rattle.desk_ledger.specs.declared.keeper.Header.{Header}
 use Rattle.desk_ledger.specs.Ledger.{Ledger, with_header}
 use Rattle.desk_report.specs.declared.sink.SinkFault.{SinkFault}
 use Rattle.desk_report.specs.declared.status.Status.{Status}
-use Rattle.desk_report.specs.declared.status.Status.TheVariants.{Done, Memory, FolderFault, LedgerFault, OutputFault, Usage, NestedRoots, BadRules, OtherRun, NotBuilt}
+use Rattle.desk_report.specs.declared.status.Status.TheVariants.{Done, Refusals, Memory, FolderFault, LedgerFault, OutputFault, Usage, NestedRoots, BadRules, Limit, PathClash, OtherRun}
 use Rattle.desk_report.specs.Texts.{fault_text}
 use Rattle.desk_report.specs.Written.{WritesFront, writing}
 use Rattle.desk_run.specs.declared.planning.Work.{Work}
@@ -58,6 +58,7 @@ pub files_clause : (words : List Text) (m0 : Contents) (l0 : Ledger) (f : Option
 files_clause words m0 l0 f k status t = record { m = t.m; l = t.l; folders = t.folders; ledger = t.ledger; holds = by status t.holds } where
   by : (status : Status) → StandsAfter words m0 l0 t.m t.l status → Files words m0 l0 t.m status
   by Done s = ok_and (run_of_words words m0) s.run (λ run. HoldsFiles run m0 l0 t.m) s.is (holds_files s.run m0 l0 t.m t.l s.stands)
+  by Refusals s = ok_and (run_of_words words m0) s.run (λ run. HoldsFiles run m0 l0 t.m) s.is (holds_files s.run m0 l0 t.m t.l s.stands)
   by Memory s = tt
   by OutputFault s = tt
   by (FolderFault done) s = tt
@@ -66,7 +67,8 @@ files_clause words m0 l0 f k status t = record { m = t.m; l = t.l; folders = t.f
   by (NestedRoots first second) s = tt
   by (BadRules fault) s = tt
   by (OtherRun kept wanted) s = tt
-  by (NotBuilt path) s = tt
+  by (Limit kind path) s = tt
+  by (PathClash first second) s = tt
 
 keeps_ledger : (words : List Text) (m0 : Contents) (l0 : Ledger) (m : Contents) (l : Ledger) (status : Status) → StandsAfter words m0 l0 m l status → KeepsLedger words m0 l0 m l status
 keeps_ledger words m0 l0 m l status s = record { stays = λ run is. truth status s run is; complete = rows status s } where
@@ -82,6 +84,7 @@ keeps_ledger words m0 l0 m l status s = record { stays = λ run is. truth status
 
   truth : (status : Status) → StandsAfter words m0 l0 m l status → (run : Run) → run_of_words words m0 ≡ Ok run → TrueLedger run m0 l0 → TrueLedger run m l
   truth Done s run is = all s run is
+  truth Refusals s run is = all s run is
   truth OutputFault s run is = all s run is
   truth Memory s run is = begun s.done run is s.stands
   truth (FolderFault done) s run is = begun done run is s
@@ -90,10 +93,12 @@ keeps_ledger words m0 l0 m l status s = record { stays = λ run is. truth status
   truth (NestedRoots first second) s run is = untouched s run
   truth (BadRules fault) s run is = untouched s run
   truth (OtherRun kept wanted) s run is = untouched s run
-  truth (NotBuilt path) s run is = untouched s run
+  truth (Limit kind path) s run is = untouched s run
+  truth (PathClash first second) s run is = untouched s run
 
   rows : (status : Status) → StandsAfter words m0 l0 m l status → CompleteRows words m0 l0 l status
   rows Done s = ok_and (run_of_words words m0) s.run (λ run. HoldsRows run m0 l0 l) s.is (holds_rows s.run m0 l0 m l s.stands)
+  rows Refusals s = ok_and (run_of_words words m0) s.run (λ run. HoldsRows run m0 l0 l) s.is (holds_rows s.run m0 l0 m l s.stands)
   rows Memory s = tt
   rows OutputFault s = tt
   rows (FolderFault done) s = tt
@@ -102,7 +107,8 @@ keeps_ledger words m0 l0 m l status s = record { stays = λ run is. truth status
   rows (NestedRoots first second) s = tt
   rows (BadRules fault) s = tt
   rows (OtherRun kept wanted) s = tt
-  rows (NotBuilt path) s = tt
+  rows (Limit kind path) s = tt
+  rows (PathClash first second) s = tt
 
 pub ledger_clause : (words : List Text) (f0 f : Option Contents) (k0 k : Option Ledger) (name0 name : Option Text) (status : Status)
     → WhereTold f0 k0 (λ m0 l0. Tells f k (λ m l. StandsAfter words m0 l0 m l status)) → Named words name0 name status → LedgerHolds words f0 f k0 k name0 name status
@@ -125,6 +131,7 @@ pub remains_clause : (words : List Text) (m0 : Contents) (l0 : Ledger) (f : Opti
 remains_clause words m0 l0 f k status t = record { m = t.m; l = t.l; folders = t.folders; ledger = t.ledger; holds = by status t.holds } where
   by : (status : Status) → StandsAfter words m0 l0 t.m t.l status → Left words m0 l0 t.m t.l status
   by Done s = tt
+  by Refusals s = tt
   by OutputFault s = ok_and (run_of_words words m0) s.run (λ run. HoldsFiles run m0 l0 t.m × HoldsRows run m0 l0 t.l) s.is (holds_files s.run m0 l0 t.m t.l s.stands, holds_rows s.run m0 l0 t.m t.l s.stands)
   by Memory s = record { done = s.done; remains = remains_at words m0 l0 t.m t.l s.done s.stands }
   by (FolderFault done) s = remains_at words m0 l0 t.m t.l done s
@@ -133,13 +140,15 @@ remains_clause words m0 l0 f k status t = record { m = t.m; l = t.l; folders = t
   by (NestedRoots first second) s = (s.folder, s.ledger)
   by (BadRules fault) s = (s.folder, s.ledger)
   by (OtherRun kept wanted) s = (s.folder, s.ledger)
-  by (NotBuilt path) s = (s.folder, s.ledger)
+  by (Limit kind path) s = (s.folder, s.ledger)
+  by (PathClash first second) s = (s.folder, s.ledger)
 
 -- what is final is the first answer, and what else is quiet is want of memory
 pub status_clause : (words : List Text) (first status : Status) (f f' k k' o o' : ℕ) → (is_final status ≡ true → status ≡ first) → HasCauses words status f f' k k' o o' → Exact first status f f' k k' o o'
 status_clause words first status f f' k k' o o' h c = record { final = h; quiet = by status h c } where
   by : (status : Status) → (is_final status ≡ true → status ≡ first) → HasCauses words status f f' k k' o o' → ¬ Rose f f' → ¬ Rose k k' → ¬ Rose o o' → (status ≡ first) ⊎ (status ≡ Memory)
   by Done h c a b d = inl (h refl)
+  by Refusals h c a b d = inl (h refl)
   by Memory h c a b d = inr refl
   by OutputFault h c a b d = absurd (d c)
   by (FolderFault done) h c a b d = absurd (a c)
@@ -148,7 +157,8 @@ status_clause words first status f f' k k' o o' h c = record { final = h; quiet 
   by (NestedRoots first second) h c a b d = inl (h refl)
   by (BadRules fault) h c a b d = inl (h refl)
   by (OtherRun kept wanted) h c a b d = inl (h refl)
-  by (NotBuilt path) h c a b d = inl (h refl)
+  by (Limit kind path) h c a b d = inl (h refl)
+  by (PathClash first second) h c a b d = inl (h refl)
 
 pub last_write : (line : Text) (old new : Option Text) (o o' : ℕ) (r : Result (Unit {0}) SinkFault) → OnOk r (new ≡ writing line old) → OnErr r (WritesFront line old new) → OnErr r (Rose o o')
     → (new ≡ writing line old) ⊎ (WritesFront line old new × Rose o o')
@@ -183,6 +193,7 @@ ok_map (Err e) P Q h p = p
 pub output_clause : (words : List Text) (f0 : Option Contents) (k0 : Option Ledger) (status : Status) (old mid new : Option Text) (o o1 o2 : ℕ) → o ≤ o1 → ReportedOf words f0 k0 old mid status
     → (new ≡ writing (fault_text status) mid) ⊎ (WritesFront (fault_text status) mid new × Rose o1 o2) → Output words f0 k0 old new o o2 status
 output_clause words f0 k0 Done old mid new o o1 o2 le r w = λ m l ef ek. ok_map (run_of_words words m) _ _ (λ run e. no_line mid new o1 o2 w ∙ e) (r m l ef ek)
+output_clause words f0 k0 Refusals old mid new o o1 o2 le r w = λ m l ef ek. ok_map (run_of_words words m) _ _ (λ run e. no_line mid new o1 o2 w ∙ e) (r m l ef ek)
 output_clause words f0 k0 OutputFault old mid new o o1 o2 le r w = λ m l ef ek.
     ok_map (run_of_words words m) _ _ (λ run e. record { mid = mid; report = e; fault = front_of_line (fault_text OutputFault) mid new o1 o2 w }) (r m l ef ek)
 output_clause words f0 k0 Memory old mid new o o1 o2 le r w = plain (fault_text Memory) old mid new o o1 o2 le r w
@@ -192,19 +203,22 @@ output_clause words f0 k0 Usage old mid new o o1 o2 le r w = plain (fault_text U
 output_clause words f0 k0 (NestedRoots first second) old mid new o o1 o2 le r w = plain (fault_text (NestedRoots first second)) old mid new o o1 o2 le r w
 output_clause words f0 k0 (BadRules fault) old mid new o o1 o2 le r w = plain (fault_text (BadRules fault)) old mid new o o1 o2 le r w
 output_clause words f0 k0 (OtherRun kept wanted) old mid new o o1 o2 le r w = plain (fault_text (OtherRun kept wanted)) old mid new o o1 o2 le r w
-output_clause words f0 k0 (NotBuilt path) old mid new o o1 o2 le r w = plain (fault_text (NotBuilt path)) old mid new o o1 o2 le r w
+output_clause words f0 k0 (Limit kind path) old mid new o o1 o2 le r w = plain (fault_text (Limit kind path)) old mid new o o1 o2 le r w
+output_clause words f0 k0 (PathClash first second) old mid new o o1 o2 le r w = plain (fault_text (PathClash first second)) old mid new o o1 o2 le r w
 
 pub causes_after : (words : List Text) (status : Status) (f f' k k' o o1 o2 : ℕ) → o1 ≤ o2 → HasCauses words status f f' k k' o o1 → HasCauses words status f f' k k' o o2
 causes_after words OutputFault f f' k k' o o1 o2 le c = Rose-later o o1 o2 c le
 causes_after words (FolderFault done) f f' k k' o o1 o2 le c = c
 causes_after words (LedgerFault done) f f' k k' o o1 o2 le c = c
 causes_after words Done f f' k k' o o1 o2 le c = c
+causes_after words Refusals f f' k k' o o1 o2 le c = c
 causes_after words Memory f f' k k' o o1 o2 le c = c
 causes_after words Usage f f' k k' o o1 o2 le c = c
 causes_after words (NestedRoots first second) f f' k k' o o1 o2 le c = c
 causes_after words (BadRules fault) f f' k k' o o1 o2 le c = c
 causes_after words (OtherRun kept wanted) f f' k k' o o1 o2 le c = c
-causes_after words (NotBuilt path) f f' k k' o o1 o2 le c = c
+causes_after words (Limit kind path) f f' k k' o o1 o2 le c = c
+causes_after words (PathClash first second) f f' k k' o o1 o2 le c = c
 
 -- where a run stands that was prepared and finished
 pub finish_told : (words : List Text) (f0 f1 f' : Option Contents) (k0 k1 k' : Option Ledger) (m : Contents) (l : Ledger) (to : Text) (header : Header) (works : List Work) (status : Status) → f0 ≡ Some m → k0 ≡ Some l

@@ -1,6 +1,6 @@
 -- What remains of a run that stands at some file.
-use Rattle.std.proofs.Common.{◌≡◌, ◌≢◌, ◌⊎◌, inl, inr, ℕ, ◌<◌, ◌≤◌, List, [], ◌∷◌, ◌++◌, Option, Some, None, refl, sym, ap, ◌∙◌, subst, true, false, Bool, cond, arith, append_assoc, is_some, map, length, length-append}
-use Rattle.std.specs.Prelude.{not, ◌&&◌, ◌==◌}
+use Rattle.std.proofs.Common.{◌≡◌, ◌≢◌, ◌⊎◌, inl, inr, ℕ, ◌<◌, ◌≤◌, List, [], ◌∷◌, ◌++◌, Option, Some, None, refl, sym, ap, ◌∙◌, subst, true, false, Bool, cond, arith, append_assoc, is_some, map, length, length-append, Result, Ok, Err}
+use Rattle.std.specs.Prelude.{not, ◌&&◌, ◌==◌, is_ok}
 use Rattle.std.specs.FinMap as fin
 use Rattle.std.specs.Cmp.Lexicographic.{pointwise}
 use Rattle.std.proofs.lemmas.List.{map-append}
@@ -11,7 +11,8 @@ use Rattle.desk_folders.specs.Contents.{Contents, File, setting, files_below}
 use Rattle.desk_ledger.specs.declared.keeper.Held.{Held}
 use Rattle.desk_ledger.specs.Ledger.{Ledger, Rows, with_header}
 use Rattle.desk_folders.specs.ContentsLaws.{get-insert-same, get-setting-other, get-remove-same}
-use Rattle.desk_run.specs.declared.image.Image.{Image}
+use Rattle.desk_file.specs.declared.images.Image.{Image}
+use Rattle.desk_report.specs.declared.lines.Reason.{Reason}
 use Rattle.desk_run.specs.declared.planning.Plan.TheVariants.{Keep}
 use Rattle.desk_run.specs.declared.planning.Work.{Work}
 use Rattle.desk_run.specs.Runs.{Run, TargetsApart, AllRelative, Misses, AllApart, held_of, is_kept, is_kept_file, is_fresh, targets_of}
@@ -36,10 +37,10 @@ kept_row (Some row) path digest e =
     λ i. Some (record { source = p i; digest = record { 0 = d i } })
 
 -- a file's work writes where it is fresh
-fresh_works : (kept found : Bool) (o : Option Image) → writes (cond kept Keep (fresh found o)) ≡ not kept && is_some o
+fresh_works : (kept found : Bool) (o : Result Image Reason) → writes (cond kept Keep (fresh found o)) ≡ not kept && is_ok o
 fresh_works true found o = refl
-fresh_works false found (Some image) = refl
-fresh_works false found None = refl
+fresh_works false found (Ok image) = refl
+fresh_works false found (Err reason) = refl
 
 targets_of_works : (run : Run) (rows : Rows) (files : List File) → map (λ (w : Work). w.target) (works_of run rows files) ≡ targets_of run files
 targets_of_works run rows [] = refl
@@ -92,30 +93,30 @@ rows_before : (run : Run) (rows : Rows) (l : Ledger) (target : List ℕ) (a : Li
 rows_before run rows l target a h = rows_spare target (works_of run rows a) l (spare_works run rows target a h)
 
 -- the target of an accepted file that is done
-written_or_kept : (run : Run) (m : Contents) (rows : Rows) (file : File) (image : Image) (kept found : Bool) (o : Option Image) → o ≡ Some image → (kept ≡ true → fin.get m (full run.to (run.target file.path)) ≡ Some image.bytes)
+written_or_kept : (run : Run) (m : Contents) (rows : Rows) (file : File) (image : Image) (kept found : Bool) (o : Result Image Reason) → o ≡ Ok image → (kept ≡ true → fin.get m (full run.to (run.target file.path)) ≡ Some image.bytes)
     → fin.get (wrote_plan (full run.to (run.target file.path)) (cond kept Keep (fresh found o)) m) (full run.to (run.target file.path)) ≡ Some image.bytes
 written_or_kept run m rows file image true found o e h = h refl
-written_or_kept run m rows file image false found (Some x) e h =
+written_or_kept run m rows file image false found (Ok x) e h =
     let same : x ≡ image = cc in get-insert-same m (full run.to (run.target file.path)) x.bytes ∙ ap (λ (y : Image). Some y.bytes) same
-written_or_kept run m rows file image false found None e h = cc
+written_or_kept run m rows file image false found (Err reason) e h = cc
 
-logged_or_kept : (run : Run) (l : Ledger) (file : File) (image : Image) (kept found : Bool) (o : Option Image) → o ≡ Some image → (kept ≡ true → fin.get l.rows (run.target file.path) ≡ Some (held_of file))
+logged_or_kept : (run : Run) (l : Ledger) (file : File) (image : Image) (kept found : Bool) (o : Result Image Reason) → o ≡ Ok image → (kept ≡ true → fin.get l.rows (run.target file.path) ≡ Some (held_of file))
     → fin.get (logged_plan (run.target file.path) (held_of file) (cond kept Keep (fresh found o)) l).rows (run.target file.path) ≡ Some (held_of file)
 logged_or_kept run l file image true found o e h = h refl
-logged_or_kept run l file image false found (Some x) e h = get-insert-same l.rows (run.target file.path) (held_of file)
-logged_or_kept run l file image false found None e h = cc
+logged_or_kept run l file image false found (Ok x) e h = get-insert-same l.rows (run.target file.path) (held_of file)
+logged_or_kept run l file image false found (Err reason) e h = cc
 
 -- a kept file's target holds its image, where the rows are true
 kept_image : (run : Run) (m : Contents) (rows : Rows) (file : File) (image : Image) → TrueRows run m rows → IsThere run.from m file
-    → run.image file.path file.bytes ≡ Some image → is_kept_file run rows file ≡ true → fin.get m (full run.to (run.target file.path)) ≡ Some image.bytes
+    → run.image file.path file.bytes ≡ Ok image → is_kept_file run rows file ≡ true → fin.get m (full run.to (run.target file.path)) ≡ Some image.bytes
 kept_image run m rows file image truth there is kept =
     let has = truth (run.target file.path) (held_of file) file.bytes (kept_row _ _ _ kept) there.relative there.held refl in
-    let same : ◌≡◌ {A = Option Image} (Some has.image) (Some image) = sym has.is ∙ is in
+    let same : ◌≡◌ {A = Result Image Reason} (Ok has.image) (Ok image) = sym has.is ∙ is in
     let at : has.image ≡ image = cc in
     has.held ∙ ap (λ (y : Image). Some y.bytes) at
 
 kept_or_not : (run : Run) (m : Contents) (rows : Rows) (file : File) (image : Image) → TrueRows run m rows ⊎ (is_kept_file run rows file ≡ false) → IsThere run.from m file
-    → run.image file.path file.bytes ≡ Some image → is_kept_file run rows file ≡ true → fin.get m (full run.to (run.target file.path)) ≡ Some image.bytes
+    → run.image file.path file.bytes ≡ Ok image → is_kept_file run rows file ≡ true → fin.get m (full run.to (run.target file.path)) ≡ Some image.bytes
 kept_or_not run m rows file image (inl truth) there is kept = kept_image run m rows file image truth there is kept
 kept_or_not run m rows file image (inr fresh) there is kept = cc
 
@@ -125,7 +126,7 @@ true_here run m l file ours (inr fresh) = inr fresh
 
 -- images and rows of the files before
 front_image : (run : Run) (m0 : Contents) (l0 : Ledger) (before rest a b : List File) (file : File) (image : Image) → TargetsApart run m0 → TrueRows run m0 l0.rows ⊎ (is_kept_file run l0.rows file ≡ false)
-    → files_below run.from m0 ≡ before ++ rest → files_below run.from m0 ≡ a ++ file ∷ b → length a < length before → run.image file.path file.bytes ≡ Some image
+    → files_below run.from m0 ≡ before ++ rest → files_below run.from m0 ≡ a ++ file ∷ b → length a < length before → run.image file.path file.bytes ≡ Ok image
     → fin.get (files_after run.to (works_of run l0.rows before) m0) (full run.to (run.target file.path)) ≡ Some image.bytes
 front_image run m0 l0 before rest a b file image given truth split e lt is =
     let c = covered before rest a file b (sym split ∙ e) lt in
@@ -142,7 +143,7 @@ front_image run m0 l0 before rest a b file image given truth split e lt is =
     (λ kept. folder_before run l0.rows m0 (run.target file.path) a r.before ∙ kept_or_not run m0 l0.rows file image truth there is kept)
 
 front_row : (run : Run) (m0 : Contents) (l0 : Ledger) (before rest a b : List File) (file : File) (image : Image) → TargetsApart run m0
-    → files_below run.from m0 ≡ before ++ rest → files_below run.from m0 ≡ a ++ file ∷ b → length a < length before → run.image file.path file.bytes ≡ Some image
+    → files_below run.from m0 ≡ before ++ rest → files_below run.from m0 ≡ a ++ file ∷ b → length a < length before → run.image file.path file.bytes ≡ Ok image
     → fin.get (ledger_after (works_of run l0.rows before) (with_header run.header l0)).rows (run.target file.path) ≡ Some (held_of file)
 front_row run m0 l0 before rest a b file image given split e lt is =
     let c = covered before rest a file b (sym split ∙ e) lt in
@@ -220,12 +221,12 @@ remains_between run m0 l0 m l done given s = record {
 }
 
 -- once the row of a fresh file is forgotten, there is none
-gone_plan : (target : Text) (row : Option Held) (kept : Bool) (o : Option Image) (l : Ledger) → writes (cond kept Keep (fresh (is_some row) o)) ≡ true → fin.get l.rows target ≡ row
+gone_plan : (target : Text) (row : Option Held) (kept : Bool) (o : Result Image Reason) (l : Ledger) → writes (cond kept Keep (fresh (is_some row) o)) ≡ true → fin.get l.rows target ≡ row
     → fin.get (cleared_plan target (cond kept Keep (fresh (is_some row) o)) l).rows target ≡ None
 gone_plan target row true o l w e = cc
-gone_plan target row false None l w e = cc
-gone_plan target None false (Some image) l w e = e
-gone_plan target (Some held) false (Some image) l w e = get-remove-same l.rows target
+gone_plan target row false (Err reason) l w e = cc
+gone_plan target None false (Ok image) l w e = e
+gone_plan target (Some held) false (Ok image) l w e = get-remove-same l.rows target
 
 row_gone : (run : Run) (m0 : Contents) (l0 : Ledger) (m : Contents) (l : Ledger) (done : ℕ) → TargetsApart run m0 → (s : Within run m0 l0 m l done) → fin.get l.rows (run.target s.file.path) ≡ None
 row_gone run m0 l0 m l done given s =

@@ -1,5 +1,5 @@
 -- A true ledger stays true, whatever is done or left undone.
-use Rattle.std.proofs.Common.{◌≡◌, ◌≢◌, ◌⊎◌, inl, inr, List, [], ◌∷◌, ◌++◌, Option, Some, None, refl, sym, ap, ◌∙◌, true, false, Bool, cond, unwrap_or, append_assoc, is_some, map, eqb, arith}
+use Rattle.std.proofs.Common.{◌≡◌, ◌≢◌, ◌⊎◌, inl, inr, List, [], ◌∷◌, ◌++◌, Option, Some, None, refl, sym, ap, ◌∙◌, true, false, Bool, cond, unwrap_or, append_assoc, is_some, map, eqb, arith, Result, Ok, Err}
 use Rattle.std.specs.Prelude.{option_and_then, if◌then◌else◌}
 use Rattle.std.specs.FinMap as fin
 use Rattle.std.specs.Ordering.{nat_cmp, eq_by_cmp}
@@ -16,7 +16,8 @@ use Rattle.desk_folders.specs.Contents.{Contents, File, behind, below, relative,
 use Rattle.desk_folders.specs.ContentsLaws.{get-insert-same, get-insert-other, get-setting-other}
 use Rattle.desk_ledger.specs.declared.keeper.Held.{Held}
 use Rattle.desk_ledger.specs.Ledger.{Ledger, Rows}
-use Rattle.desk_run.specs.declared.image.Image.{Image}
+use Rattle.desk_file.specs.declared.images.Image.{Image}
+use Rattle.desk_report.specs.declared.lines.Reason.{Reason}
 use Rattle.desk_run.specs.declared.planning.Plan.{Plan}
 use Rattle.desk_run.specs.declared.planning.Plan.TheVariants.{Keep}
 use Rattle.desk_words.specs.Roots.{RootsApart}
@@ -106,7 +107,7 @@ there_after from to target plan m (file ∷ files) apart rel h = (
   there_after from to target plan m files apart rel h.1,
 )
 
-true_write : (run : Run) (m : Contents) (rows : Rows) (file : File) (image : Image) → RootsApart run.from run.to → is_relative_path (run.target file.path) ≡ true → run.image file.path file.bytes ≡ Some image
+true_write : (run : Run) (m : Contents) (rows : Rows) (file : File) (image : Image) → RootsApart run.from run.to → is_relative_path (run.target file.path) ≡ true → run.image file.path file.bytes ≡ Ok image
     → IsThere run.from m file → TrueRows run m rows → TrueRows run (fin.insert m (full run.to (run.target file.path)) image.bytes) (fin.insert rows (run.target file.path) (held_of file))
 true_write run m rows file image apart rel is there was_true t row now at here_rel here dig =
     let goes = run.target file.path in
@@ -134,12 +135,12 @@ true_write run m rows file image apart rel is there was_true t row now at here_r
     ]
 
 -- one work leaves a true ledger true
-true_step : (run : Run) (m : Contents) (l : Ledger) (file : File) (kept found : Bool) (o : Option Image) → run.image file.path file.bytes ≡ o → RootsApart run.from run.to → is_relative_path (run.target file.path) ≡ true
+true_step : (run : Run) (m : Contents) (l : Ledger) (file : File) (kept found : Bool) (o : Result Image Reason) → run.image file.path file.bytes ≡ o → RootsApart run.from run.to → is_relative_path (run.target file.path) ≡ true
     → IsThere run.from m file → TrueRows run m l.rows
     → TrueRows run (wrote_plan (full run.to (run.target file.path)) (cond kept Keep (fresh found o)) m) (logged_plan (run.target file.path) (held_of file) (cond kept Keep (fresh found o)) l).rows
 true_step run m l file true found o is apart rel there true_before = true_before
-true_step run m l file false found (Some image) is apart rel there true_before = true_write run m l.rows file image apart rel is there true_before
-true_step run m l file false found None is apart rel there true_before = true_before
+true_step run m l file false found (Ok image) is apart rel there true_before = true_write run m l.rows file image apart rel is there true_before
+true_step run m l file false found (Err reason) is apart rel there true_before = true_before
 
 -- these works leave a true ledger true
 pub true_after : (run : Run) (rows0 : Rows) (files : List File) (m : Contents) (l : Ledger) → RootsApart run.from run.to → AllRelative (targets_of run files) → AllThere run.from m files

@@ -1,50 +1,39 @@
 -- The first answer that stands.
-use Rattle.std.specs.Prelude.{◌≡◌, ℕ, ◌==◌, ◌&&◌, nat_lt, nat_le, List, [], ◌∷◌, length, Option, Some, None, Bool, true, false, Result, Ok, Err, is_some, cond, count_by, if◌then◌else◌}
+use Rattle.std.specs.Prelude.{◌≡◌, ◌==◌, ◌&&◌, List, [], Option, Some, None, Bool, true, false, Result, Ok, Err, cond, map, slice_index_or}
 use Rattle.std.specs.Cmp.Lexicographic.{pointwise}
-use Rattle.std.specs.Str.{bytes_eq}
 use Rattle.desk_base.specs.Names.{Text}
-use Rattle.desk_folders.specs.Contents.{Contents, File, files_below, paths_below}
+use Rattle.desk_clashes.specs.Clashes.{first_clash}
+use Rattle.desk_clashes.specs.declared.Clash.{Clash}
+use Rattle.desk_folders.specs.Contents.{Contents, files_below, paths_below}
 use Rattle.desk_ledger.specs.declared.keeper.Header.{Header}
 use Rattle.desk_ledger.specs.Ledger.{Ledger}
 use Rattle.desk_report.specs.declared.status.Status.{Status}
-use Rattle.desk_report.specs.declared.status.Status.TheVariants.{Done, Usage, NestedRoots, BadRules, OtherRun, NotBuilt}
-use Rattle.desk_run.specs.declared.TheConstants.{MOST, SIZE, LENGTH}
+use Rattle.desk_report.specs.declared.status.Status.TheVariants.{Usage, NestedRoots, BadRules, Limit, PathClash, OtherRun}
+use Rattle.desk_run.specs.Limits.{paths_answer, size_answer}
+use Rattle.desk_run.specs.Reports.{ending}
 use Rattle.desk_run.specs.Runs.{Run}
 use Rattle.desk_words.specs.Roots.{roots_of_words}
 use Rattle.desk_run.specs.Meaning.{run_of_words}
 
--- how many of the files go to a target
-abbrev pub goers : Run → Text → List File → ℕ
-goers run target files = count_by (λ file. bytes_eq (run.target file.path) target) files
+-- the first of two that stands
+abbrev pub first_of : Option Status → Option Status → Option Status
+first_of None later = later
+first_of (Some status) later = Some status
 
-abbrev pub is_short : Text → Bool
-is_short text = nat_le (length text) LENGTH
+abbrev pub clash_status : List Text → Option Clash → Option Status
+clash_status paths None = None
+clash_status paths (Some clash) = Some (PathClash (slice_index_or paths clash.first []) (slice_index_or paths clash.second []))
 
--- a file of a form that is built: path and target are short, its bytes are no more than the limit and
--- have an image, and no other file goes to its target
-abbrev pub is_built : Run → List File → File → Bool
-is_built run files file =
-    is_short file.path
-    && (is_short (run.target file.path)
-    && (nat_le (length file.bytes) SIZE
-    && (is_some (run.image file.path file.bytes)
-    && nat_le (goers run (run.target file.path) files) 1)))
+-- two of these paths, of which one's target equals the other's or is a folder of it
+abbrev pub clash_answer : (Text → Text) → List Text → Option Status
+clash_answer target paths = clash_status paths (first_clash (map target paths))
 
--- the path of the first file that isn't built
-abbrev pub first_unbuilt : Run → List File → List File → Option Text
-first_unbuilt run all [] = None
-first_unbuilt run all (file ∷ files) = if is_built run all file then first_unbuilt run all files else Some file.path
-
-abbrev pub some_answer : Option Text → Option Status
-some_answer None = None
-some_answer (Some path) = Some (NotBuilt path)
-
--- what stands against the files of a run: that they are too many, or that one isn't built
+-- what stands against the files of a run: that they are too many, that a path is too long, that they have
+-- too many bytes, or that two targets clash
 abbrev pub files_answer : Run → Contents → Option Status
 files_answer run m =
-    if nat_lt MOST (length (paths_below run.from m))
-    then Some (NotBuilt run.from)
-    else some_answer (first_unbuilt run (files_below run.from m) (files_below run.from m))
+    first_of (paths_answer run.from run.target (paths_below run.from m))
+    (first_of (size_answer 0 (files_below run.from m)) (clash_answer run.target (paths_below run.from m)))
 
 abbrev pub same_header : Header → Header → Bool
 same_header a b = pointwise ◌==◌ a.from b.from && (pointwise ◌==◌ a.to b.to && pointwise ◌==◌ a.rules.0 b.rules.0)
@@ -60,10 +49,11 @@ or_else (Some first) status = first
 
 abbrev pub answer_of_run : Contents → Ledger → Result Run Status → Status
 answer_of_run m l (Err status) = status
-answer_of_run m l (Ok run) = or_else (files_answer run m) (or_else (other_run run.header l.header) Done)
+answer_of_run m l (Ok run) = or_else (files_answer run m) (or_else (other_run run.header l.header) (ending run l.rows (files_below run.from m)))
 
--- the first that stands of: words without a task; nested roots; a rule folder that isn't built; bad
--- rules; too many files; a file that isn't built; another run's ledger; and else that all is done
+-- the first that stands of: words without a task; nested roots; too many rule files; a rule file that is
+-- too large; bad rules; too many files; a path that is too long; files that are too large; two targets that
+-- clash; another run's ledger; files that are refused; and else that all is done
 abbrev pub first_answer : List Text → Contents → Ledger → Status
 first_answer words m l = answer_of_run m l (run_of_words words m)
 
@@ -78,6 +68,7 @@ abbrev pub is_answer : Status → Bool
 is_answer Usage = true
 is_answer (NestedRoots first second) = true
 is_answer (BadRules fault) = true
+is_answer (Limit kind path) = true
+is_answer (PathClash first second) = true
 is_answer (OtherRun kept wanted) = true
-is_answer (NotBuilt path) = true
 is_answer _ = false

@@ -6,10 +6,10 @@ use Rattle.desk_base.specs.Paths.{full}
 use Rattle.desk_folders.specs.Contents.{Contents, File, Rose, files_below}
 use Rattle.desk_ledger.specs.Ledger.{Ledger}
 use Rattle.desk_report.specs.declared.status.Status.{Status}
-use Rattle.desk_report.specs.declared.status.Status.TheVariants.{Done, Memory, FolderFault, LedgerFault, OutputFault}
+use Rattle.desk_report.specs.declared.status.Status.TheVariants.{Done, Refusals, Memory, FolderFault, LedgerFault, OutputFault}
 use Rattle.desk_report.specs.Texts.{fault_text}
 use Rattle.desk_report.specs.Written.{WritesFront, writing}
-use Rattle.desk_run.specs.declared.image.Image.{Image}
+use Rattle.desk_file.specs.declared.images.Image.{Image}
 use Rattle.desk_run.specs.Runs.{Run, held_of, is_kept_file, is_fresh}
 use Rattle.desk_run.specs.Truth.{TrueLedger}
 use Rattle.desk_run.specs.Stands.{Unchanged, Remains}
@@ -21,7 +21,7 @@ use Rattle.desk_run.specs.Endings.{WhereTold, Tells, Named, is_final}
 -- that is no target of a file that was written holds what it held
 pub record HoldsFiles (run : Run) (m0 : Contents) (l0 : Ledger) (m : Contents) : Type 0 where
   pub images : (before rest : List File) (file : File) (image : Image) → files_below run.from m0 ≡ before ++ file ∷ rest
-      → run.image file.path file.bytes ≡ Some image → TrueLedger run m0 l0 ⊎ (is_kept_file run l0.rows file ≡ false)
+      → run.image file.path file.bytes ≡ Ok image → TrueLedger run m0 l0 ⊎ (is_kept_file run l0.rows file ≡ false)
       → fin.get m (full run.to (run.target file.path)) ≡ Some image.bytes
   pub paths : (path : Text) → ((before rest : List File) (file : File) → files_below run.from m0 ≡ before ++ file ∷ rest → is_fresh run l0.rows file ≡ true
       → full run.to (run.target file.path) ≢ path) → fin.get m path ≡ fin.get m0 path
@@ -30,17 +30,19 @@ pub record HoldsFiles (run : Run) (m0 : Contents) (l0 : Ledger) (m : Contents) :
 pub record HoldsRows (run : Run) (m0 : Contents) (l0 l : Ledger) : Type 0 where
   pub header : l.header ≡ Some run.header
   pub rows : (before rest : List File) (file : File) (image : Image) → files_below run.from m0 ≡ before ++ file ∷ rest
-      → run.image file.path file.bytes ≡ Some image → fin.get l.rows (run.target file.path) ≡ Some (held_of file)
+      → run.image file.path file.bytes ≡ Ok image → fin.get l.rows (run.target file.path) ≡ Some (held_of file)
   pub others : (target : Text) → ((before rest : List File) (file : File) → files_below run.from m0 ≡ before ++ file ∷ rest → is_fresh run l0.rows file ≡ true
       → run.target file.path ≢ target) → fin.get l.rows target ≡ fin.get l0.rows target
 
 -- files: after a run that completes
 abbrev pub Files : List Text → Contents → Ledger → Contents → Status → Type 0
 Files words m0 l0 m Done = IsOkAnd (run_of_words words m0) (λ run. HoldsFiles run m0 l0 m)
+Files words m0 l0 m Refusals = IsOkAnd (run_of_words words m0) (λ run. HoldsFiles run m0 l0 m)
 Files words m0 l0 m _ = Unit {0}
 
 abbrev pub CompleteRows : List Text → Contents → Ledger → Ledger → Status → Type 0
 CompleteRows words m0 l0 l Done = IsOkAnd (run_of_words words m0) (λ run. HoldsRows run m0 l0 l)
+CompleteRows words m0 l0 l Refusals = IsOkAnd (run_of_words words m0) (λ run. HoldsRows run m0 l0 l)
 CompleteRows words m0 l0 l _ = Unit {0}
 
 -- a true ledger is true at exit, and has all rows after a run that completes
@@ -62,6 +64,7 @@ pub record TwoFronts (text line : Text) (old new : Option Text) : Type 0 where
 -- output
 abbrev pub Output : List Text → Option Contents → Option Ledger → Option Text → Option Text → ℕ → ℕ → Status → Type 0
 Output words f0 k0 old new o o' Done = WhereTold f0 k0 (λ m l. IsOkAnd (run_of_words words m) (λ run. new ≡ writing (report run l.rows (files_below run.from m)) old))
+Output words f0 k0 old new o o' Refusals = WhereTold f0 k0 (λ m l. IsOkAnd (run_of_words words m) (λ run. new ≡ writing (report run l.rows (files_below run.from m)) old))
 Output words f0 k0 old new o o' OutputFault = WhereTold f0 k0 (λ m l. IsOkAnd (run_of_words words m) (λ run. TwoFronts (report run l.rows (files_below run.from m)) (fault_text OutputFault) old new))
 Output words f0 k0 old new o o' status = (new ≡ writing (fault_text status) old) ⊎ (WritesFront (fault_text status) old new × Rose o o')
 
@@ -81,6 +84,7 @@ pub record RemainsSomewhere (words : List Text) (m0 : Contents) (l0 : Ledger) (m
 -- remains: what stands after the other statuses
 abbrev pub Left : List Text → Contents → Ledger → Contents → Ledger → Status → Type 0
 Left words m0 l0 m l Done = Unit {0}
+Left words m0 l0 m l Refusals = Unit {0}
 Left words m0 l0 m l OutputFault = IsOkAnd (run_of_words words m0) (λ run. HoldsFiles run m0 l0 m × HoldsRows run m0 l0 l)
 Left words m0 l0 m l Memory = RemainsSomewhere words m0 l0 m l
 Left words m0 l0 m l (FolderFault done) = RemainsAt words m0 l0 m l done

@@ -5,7 +5,7 @@ use Rattle.desk_folders.specs.Contents.{Contents, Rose, files_below}
 use Rattle.desk_ledger.specs.declared.keeper.Header.{Header}
 use Rattle.desk_ledger.specs.Ledger.{Ledger, with_header}
 use Rattle.desk_report.specs.declared.status.Status.{Status}
-use Rattle.desk_report.specs.declared.status.Status.TheVariants.{Done, Memory, FolderFault, LedgerFault, OutputFault, OtherRun}
+use Rattle.desk_report.specs.declared.status.Status.TheVariants.{Done, Refusals, Memory, FolderFault, LedgerFault, OutputFault, OtherRun}
 use Rattle.desk_report.specs.Written.{WritesFront, writing}
 use Rattle.desk_run.specs.declared.planning.Work.{Work}
 use Rattle.desk_words.specs.declared.roots.Roots.{Roots}
@@ -91,6 +91,7 @@ pub record SomeWritten (to : Text) (works : List Work) (f f' : Option Contents) 
 -- what the writing leaves
 abbrev pub Finishes : Text → List Work → Option Contents → Option Contents → Option Ledger → Option Ledger → Status → Type 0
 Finishes to works f f' k k' Done = AllWritten to works f f' k k'
+Finishes to works f f' k k' Refusals = AllWritten to works f f' k k'
 Finishes to works f f' k k' OutputFault = AllWritten to works f f' k k'
 Finishes to works f f' k k' Memory = SomeWritten to works f f' k k'
 Finishes to works f f' k k' (FolderFault done) = StoppedAt to works done f f' k k'
@@ -100,12 +101,14 @@ Finishes to works f f' k k' _ = ⊥
 -- what was written of a report
 abbrev pub Reported : Text → Option Text → Option Text → Status → Type 0
 Reported text o o' Done = o' ≡ writing text o
+Reported text o o' Refusals = o' ≡ writing text o
 Reported text o o' OutputFault = WritesFront text o o'
 Reported text o o' _ = o' ≡ o
 
 -- what was written of the report of a run of these words; nothing of it at any other status
 abbrev pub ReportedOf : List Text → Option Contents → Option Ledger → Option Text → Option Text → Status → Type 0
 ReportedOf words f k o o' Done = WhereTold f k (λ m l. IsOkAnd (run_of_words words m) (λ run. o' ≡ writing (report run l.rows (files_below run.from m)) o))
+ReportedOf words f k o o' Refusals = WhereTold f k (λ m l. IsOkAnd (run_of_words words m) (λ run. o' ≡ writing (report run l.rows (files_below run.from m)) o))
 ReportedOf words f k o o' OutputFault = WhereTold f k (λ m l. IsOkAnd (run_of_words words m) (λ run. WritesFront (report run l.rows (files_below run.from m)) o o'))
 ReportedOf words f k o o' _ = o' ≡ o
 
@@ -138,6 +141,7 @@ pub record IsDone (words : List Text) (m0 : Contents) (l0 : Ledger) (m : Content
 -- where a run stands at its end
 abbrev pub StandsAfter : List Text → Contents → Ledger → Contents → Ledger → Status → Type 0
 StandsAfter words m0 l0 m l Done = IsDone words m0 l0 m l
+StandsAfter words m0 l0 m l Refusals = IsDone words m0 l0 m l
 StandsAfter words m0 l0 m l OutputFault = IsDone words m0 l0 m l
 StandsAfter words m0 l0 m l Memory = StandsSomewhere words m0 l0 m l
 StandsAfter words m0 l0 m l (FolderFault done) = StandsAt words m0 l0 m l done
@@ -155,12 +159,14 @@ is_final _ = true
 -- a status that the report ends with
 abbrev pub IsTold : Status → Type 0
 IsTold Done = Unit {0}
+IsTold Refusals = Unit {0}
 IsTold OutputFault = Unit {0}
 IsTold _ = ⊥
 
 -- the name that is attached in the end, of a ledger of this name
 abbrev pub NamedBy : Option Text → Option Text → Text → Status → Type 0
 NamedBy old new name Done = new ≡ Some name
+NamedBy old new name Refusals = new ≡ Some name
 NamedBy old new name OutputFault = new ≡ Some name
 NamedBy old new name (OtherRun kept wanted) = new ≡ Some name
 NamedBy old new name Memory = (new ≡ old) ⊎ (new ≡ Some name)

@@ -1,26 +1,26 @@
 -- Where the steps before the first write may halt.
-use Rattle.std.specs.Prelude.{◌≡◌, ◌⊎◌, ◌<◌, ℕ, List, length, Option, Some, Bool, true, false, Result, Ok, Err, IfSome, option_map}
+use Rattle.std.specs.Prelude.{◌≡◌, ◌⊎◌, ℕ, List, ◌∷◌, Option, Some, Bool, true, false, Result, Ok, Err, IfSome, option_map, map}
 use Rattle.desk_base.specs.Names.{Text}
-use Rattle.desk_folders.specs.Contents.{Contents, File, Rose, files_below, paths_below}
+use Rattle.desk_clashes.specs.Clashes.{first_clash}
+use Rattle.desk_folders.specs.Contents.{Contents, File, Rose, file_at, files_below}
 use Rattle.desk_ledger.specs.declared.keeper.Header.{Header}
 use Rattle.desk_ledger.specs.Ledger.{Ledger, with_header}
+use Rattle.desk_report.specs.declared.status.LimitKind.{LimitKind}
 use Rattle.desk_report.specs.declared.status.Status.{Status}
-use Rattle.desk_report.specs.declared.status.Status.TheVariants.{Usage, NestedRoots, BadRules, NotBuilt, OtherRun}
+use Rattle.desk_report.specs.declared.status.Status.TheVariants.{Usage, NestedRoots, BadRules, Limit, PathClash, OtherRun}
 use Rattle.desk_rules.specs.Rules.{Rules}
 use Rattle.desk_rules.specs.declared.RuleFault.{RuleFault}
-use Rattle.desk_run.specs.declared.image.Image.{Image}
-use Rattle.desk_run.specs.declared.files.Source.{Source}
+use Rattle.desk_words.specs.declared.roots.Roots.{Roots}
+use Rattle.desk_words.specs.Roots.{roots_of_words}
+use Rattle.desk_run.specs.declared.files.Input.{Input}
 use Rattle.desk_run.specs.declared.stops.Halt.{Halt}
 use Rattle.desk_run.specs.declared.stops.Halt.TheVariants.{Memory, Folders, Ledger as LedgerHalt, Answer}
-use Rattle.desk_words.specs.declared.roots.Roots.{Roots}
 use Rattle.desk_run.specs.declared.rules.Ruled.{Ruled}
-use Rattle.desk_run.specs.declared.TheConstants.{MOST}
 use Rattle.desk_run.specs.Runs.{Run}
-use Rattle.desk_words.specs.Roots.{roots_of_words}
+use Rattle.desk_run.specs.Limits.{first_long, long_answer, paths_answer, size_answer, rule_size_answer}
 use Rattle.desk_run.specs.Meaning.{ruled, run_of}
-use Rattle.desk_run.specs.Answers.{files_answer, first_answer, other_run, some_answer, WordsCause}
+use Rattle.desk_run.specs.Answers.{clash_status, files_answer, first_answer, other_run, WordsCause}
 use Rattle.desk_run.specs.Truth.{IsOurs}
-use Rattle.desk_run.specs.Sources.{is_fit, first_unfit}
 
 -- at the words
 abbrev pub HaltsAtWords : List Text → Halt → Type 0
@@ -28,10 +28,14 @@ HaltsAtWords words Memory = Unit {0}
 HaltsAtWords words (Answer status) = roots_of_words words ≡ Err status
 HaltsAtWords words _ = ⊥
 
+-- the answer that this path passes a limit
+abbrev pub IsLimit : LimitKind → Text → Halt → Type 0
+IsLimit kind path halt = (halt ≡ Memory) ⊎ (halt ≡ Answer (Limit kind path))
+
 -- a status of the rule folder
 abbrev pub is_rules_status : Status → Bool
 is_rules_status (BadRules fault) = true
-is_rules_status (NotBuilt path) = true
+is_rules_status (Limit kind path) = true
 is_rules_status _ = false
 
 -- at the rules below a root
@@ -41,46 +45,20 @@ HaltsAtRules root told f f' Folders = Rose f f'
 HaltsAtRules root told f f' (Answer status) = (is_rules_status status ≡ true) × IfSome told (λ m. ruled root (files_below root m) ≡ Err status)
 HaltsAtRules root told f f' _ = ⊥
 
--- a status of the files
-abbrev pub is_files_status : Status → Bool
-is_files_status (NotBuilt path) = true
-is_files_status _ = false
+-- where rule files are read: one of them has too many bytes
+abbrev pub HaltsTaking : Text → Option Contents → ℕ → ℕ → Halt → Type 0
+HaltsTaking root told f f' Memory = Unit {0}
+HaltsTaking root told f f' Folders = Rose f f'
+HaltsTaking root told f f' (Answer status) = (is_rules_status status ≡ true) × IfSome told (λ m. rule_size_answer (files_below root m) ≡ Some status)
+HaltsTaking root told f f' _ = ⊥
 
--- at the files of a run
-abbrev pub HaltsAtFiles : Run → Option Contents → ℕ → ℕ → Halt → Type 0
-HaltsAtFiles run told f f' Memory = Unit {0}
-HaltsAtFiles run told f f' Folders = Rose f f'
-HaltsAtFiles run told f f' (Answer status) = (is_files_status status ≡ true) × IfSome told (λ m. files_answer run m ≡ Some status)
-HaltsAtFiles run told f f' _ = ⊥
-
--- where files are read
-abbrev pub HaltsReading : ℕ → ℕ → Halt → Type 0
-HaltsReading f f' Memory = Unit {0}
-HaltsReading f f' Folders = Rose f f'
-HaltsReading f f' _ = ⊥
-
--- where the files below a root are read, of which there may be too many
-abbrev pub HaltsAtSources : Text → Option Contents → ℕ → ℕ → Halt → Type 0
-HaltsAtSources from told f f' Memory = Unit {0}
-HaltsAtSources from told f f' Folders = Rose f f'
-HaltsAtSources from told f f' (Answer status) = (status ≡ NotBuilt from) × IfSome told (λ m. MOST < length (paths_below from m))
-HaltsAtSources from told f f' _ = ⊥
-
--- the answer that this path is of a form that isn't built
-abbrev pub IsNotBuilt : Text → Halt → Type 0
-IsNotBuilt path halt = (halt ≡ Memory) ⊎ (halt ≡ Answer (NotBuilt path))
-
--- at a file that isn't built
-abbrev pub HaltsAtUnfit : (Text → Text → Option Image) → List Source → Source → Halt → Type 0
-HaltsAtUnfit image all source Memory = Unit {0}
-HaltsAtUnfit image all source (Answer status) = (is_fit image all source ≡ false) × (status ≡ NotBuilt source.path)
-HaltsAtUnfit image all source _ = ⊥
-
--- at the first of them
-abbrev pub HaltsAtCheck : (Text → Text → Option Image) → List Source → Halt → Type 0
-HaltsAtCheck image all Memory = Unit {0}
-HaltsAtCheck image all (Answer status) = (is_files_status status ≡ true) × (some_answer (first_unfit image all all) ≡ Some status)
-HaltsAtCheck image all _ = ⊥
+-- where one rule file is read
+abbrev pub HaltsTakingOne : Text → Text → Option Contents → ℕ → ℕ → Halt → Type 0
+HaltsTakingOne root path told f f' Memory = Unit {0}
+HaltsTakingOne root path told f f' Folders = Rose f f'
+HaltsTakingOne root path told f f' (Answer status) = (is_rules_status status ≡ true)
+    × IfSome told (λ m. (more : List File) → rule_size_answer (file_at root m path ∷ more) ≡ Some status)
+HaltsTakingOne root path told f f' _ = ⊥
 
 -- where the rules of files are built
 abbrev pub HaltsBuilding : Result Rules RuleFault → Halt → Type 0
@@ -88,11 +66,46 @@ HaltsBuilding rules Memory = Unit {0}
 HaltsBuilding rules (Answer (BadRules fault)) = rules ≡ Err fault
 HaltsBuilding rules _ = ⊥
 
--- where the rules of these files are made, below a root
-abbrev pub HaltsRuled : Text → List File → Halt → Type 0
-HaltsRuled root files Memory = Unit {0}
-HaltsRuled root files (Answer status) = (is_rules_status status ≡ true) × (ruled root files ≡ Err status)
-HaltsRuled root files _ = ⊥
+-- a status of the files
+abbrev pub is_files_status : Status → Bool
+is_files_status (Limit kind path) = true
+is_files_status (PathClash first second) = true
+is_files_status _ = false
+
+-- at what stands against the files, as an answer tells
+abbrev pub HaltsWith : (Contents → Option Status) → Option Contents → ℕ → ℕ → Halt → Type 0
+HaltsWith answer told f f' Memory = Unit {0}
+HaltsWith answer told f f' Folders = Rose f f'
+HaltsWith answer told f f' (Answer status) = (is_files_status status ≡ true) × IfSome told (λ m. answer m ≡ Some status)
+HaltsWith answer told f f' _ = ⊥
+
+-- at the files of a run
+abbrev pub HaltsAtFiles : Run → Option Contents → ℕ → ℕ → Halt → Type 0
+HaltsAtFiles run = HaltsWith (files_answer run)
+
+-- at the first path that is too long
+abbrev pub HaltsPlacing : (Text → Text) → List Text → Halt → Type 0
+HaltsPlacing target paths Memory = Unit {0}
+HaltsPlacing target paths (Answer status) = (is_files_status status ≡ true) × (long_answer (first_long target paths) ≡ Some status)
+HaltsPlacing target paths _ = ⊥
+
+-- where one file is read, with so many bytes before it
+abbrev pub HaltsReadingOne : Text → ℕ → Text → Option Contents → ℕ → ℕ → Halt → Type 0
+HaltsReadingOne from sum path told f f' Memory = Unit {0}
+HaltsReadingOne from sum path told f f' Folders = Rose f f'
+HaltsReadingOne from sum path told f f' (Answer status) = (is_files_status status ≡ true)
+    × IfSome told (λ m. (more : List File) → size_answer sum (file_at from m path ∷ more) ≡ Some status)
+HaltsReadingOne from sum path told f f' _ = ⊥
+
+-- what stands against files that were read, by their targets
+abbrev pub clash_of : List Input → Option Status
+clash_of inputs = clash_status (map (λ input. input.path) inputs) (first_clash (map (λ input. input.target) inputs))
+
+-- at two of them that clash
+abbrev pub HaltsClashing : List Input → Halt → Type 0
+HaltsClashing inputs Memory = Unit {0}
+HaltsClashing inputs (Answer status) = (is_files_status status ≡ true) × (clash_of inputs ≡ Some status)
+HaltsClashing inputs _ = ⊥
 
 -- where works are planned
 abbrev pub HaltsPlanning : ℕ → ℕ → Halt → Type 0
@@ -126,11 +139,18 @@ abbrev pub reading_answer : Roots → Contents → Result Ruled Status → Optio
 reading_answer names m (Err status) = Some status
 reading_answer names m (Ok ruled) = files_answer (run_of names ruled) m
 
+-- a status of the rule folder or of the files
+abbrev pub is_read_status : Status → Bool
+is_read_status (BadRules fault) = true
+is_read_status (Limit kind path) = true
+is_read_status (PathClash first second) = true
+is_read_status _ = false
+
 -- where rules and files are read
 abbrev pub HaltsReadingAll : Roots → Option Contents → ℕ → ℕ → Halt → Type 0
 HaltsReadingAll names told f f' Memory = Unit {0}
 HaltsReadingAll names told f f' Folders = Rose f f'
-HaltsReadingAll names told f f' (Answer status) = (is_rules_status status ≡ true) × IfSome told (λ m. reading_answer names m (ruled names.rules (files_below names.rules m)) ≡ Some status)
+HaltsReadingAll names told f f' (Answer status) = (is_read_status status ≡ true) × IfSome told (λ m. reading_answer names m (ruled names.rules (files_below names.rules m)) ≡ Some status)
 HaltsReadingAll names told f f' _ = ⊥
 
 -- a status with which words or folders stand against a run
@@ -138,7 +158,8 @@ abbrev pub is_early_answer : Status → Bool
 is_early_answer Usage = true
 is_early_answer (NestedRoots first second) = true
 is_early_answer (BadRules fault) = true
-is_early_answer (NotBuilt path) = true
+is_early_answer (Limit kind path) = true
+is_early_answer (PathClash first second) = true
 is_early_answer _ = false
 
 -- before the ledger is opened

@@ -1,15 +1,14 @@
 pub mod Runs
 pub mod Works
-pub mod Sources
-pub mod Tallies
 pub mod Inputs
+pub mod Limits
 pub mod Truth
 pub mod Stands
 pub mod Stops
 pub mod Reports
-pub mod Images
 pub mod Meaning
 pub mod Answers
 pub mod Halts
+pub mod RuleFolders
 pub mod Endings
 pub mod Clauses

@@ -1,33 +1,32 @@
 -- What words and folders mean: a run, or the answer that stands before it.
-use Rattle.std.specs.Prelude.{Bool, not, ◌||◌, ◌++◌, nat_lt, List, [], ◌∷◌, length, Result, Ok, Err, if◌then◌else◌}
-use Rattle.std.specs.List.{list_any, flat_map}
+use Rattle.std.specs.Prelude.{◌++◌, List, [], ◌∷◌, length, Option, Some, None, Result, Ok, Err}
+use Rattle.std.specs.List.{flat_map}
 use Rattle.std.specs.Int.{w32, w64, to_be_bytes}
-use Rattle.std.specs.Str.{bytes_eq}
 use Rattle.std.specs.FinMap as fin
 use Rattle.desk_base.specs.Names.{Text}
+use Rattle.desk_file.specs.Images.{target, image}
 use Rattle.desk_folders.specs.Contents.{Contents, File, files_below}
 use Rattle.desk_ledger.specs.Digests.{digest}
 use Rattle.desk_report.specs.declared.status.Status.{Status}
-use Rattle.desk_report.specs.declared.status.Status.TheVariants.{NotBuilt, BadRules}
-use Rattle.desk_rules.specs.Files.{Files, renames_name}
+use Rattle.desk_report.specs.declared.status.Status.TheVariants.{BadRules}
+use Rattle.desk_rules.specs.Files.{Files}
 use Rattle.desk_rules.specs.Rules.{Rules}
 use Rattle.desk_rules.specs.RuleFiles.{rules_of_files}
 use Rattle.desk_rules.specs.declared.RuleFault.{RuleFault}
 use Rattle.desk_words.specs.declared.roots.Roots.{Roots}
 use Rattle.desk_run.specs.declared.rules.Ruled.{Ruled}
-use Rattle.desk_run.specs.declared.TheConstants.{SIZE}
 use Rattle.desk_words.specs.Roots.{roots_of_words}
-use Rattle.desk_run.specs.Images.{target, image}
+use Rattle.desk_run.specs.Limits.{rule_files_answer}
 use Rattle.desk_run.specs.Runs.{Run}
 
--- a file that isn't the one of the renames, or is too large
-abbrev pub is_other : File → Bool
-is_other file = not (bytes_eq file.path renames_name) || nat_lt SIZE (length file.bytes)
+-- files with these added in their order, each under its name
+abbrev pub adding_files : Files → List File → Files
+adding_files files [] = files
+adding_files files (file ∷ more) = adding_files (fin.insert files file.path file.bytes) more
 
 -- files by their names
 abbrev pub named_files : List File → Files
-named_files [] = fin.empty
-named_files (file ∷ files) = fin.insert (named_files files) file.path file.bytes
+named_files = adding_files fin.empty
 
 -- a rule file in what the digest of the rules is taken of: its name and its content, each behind its
 -- length, which has eight bytes and four, big-endian
@@ -39,12 +38,13 @@ abbrev pub with_digest : Text → Result Rules RuleFault → Result Ruled Status
 with_digest taken (Ok rules) = Ok (record { rules = rules; digest = digest taken })
 with_digest taken (Err fault) = Err (BadRules fault)
 
--- the rules of the files of a rule folder, which holds the one file of the renames
+abbrev pub ruled_by : Option Status → List File → Result Ruled Status
+ruled_by (Some status) files = Err status
+ruled_by None files = with_digest (flat_map digest_entry files) (rules_of_files (named_files files))
+
+-- the rules of the files of a rule folder, in byte order of their names
 abbrev pub ruled : Text → List File → Result Ruled Status
-ruled root files =
-    if nat_lt 1 (length files) || list_any is_other files
-    then Err (NotBuilt root)
-    else with_digest (flat_map digest_entry files) (rules_of_files (named_files files))
+ruled root files = ruled_by (rule_files_answer root files) files
 
 abbrev pub run_of : Roots → Ruled → Run
 run_of roots r = record {

@@ -1,31 +1,30 @@
 -- The report of a run that completes.
-use Rattle.std.specs.Prelude.{◌++◌, List, [], Option, Some, None, Bool, true, false, not, ◌&&◌, length, count_by, is_none}
-use Rattle.std.specs.List.{flat_map}
+use Rattle.std.specs.Prelude.{◌++◌, List, Bool, true, false, Result, Ok, Err, length, count_by, if◌then◌else◌}
+use Rattle.std.specs.List.{flat_map, list_any}
 use Rattle.desk_base.specs.Names.{Text}
 use Rattle.desk_folders.specs.Contents.{File}
 use Rattle.desk_ledger.specs.Ledger.{Rows}
-use Rattle.desk_report.specs.declared.lines.Line.TheVariants.{Written, Kept}
+use Rattle.desk_report.specs.declared.lines.Line.TheVariants.{Written, Kept, Refused}
 use Rattle.desk_report.specs.declared.lines.Summary.{Summary}
+use Rattle.desk_report.specs.declared.status.Status.{Status}
+use Rattle.desk_report.specs.declared.status.Status.TheVariants.{Done, Refusals}
 use Rattle.desk_report.specs.Texts.{line_text, summary_text}
-use Rattle.desk_run.specs.declared.image.Image.{Image}
+use Rattle.desk_file.specs.declared.images.Image.{Image}
+use Rattle.desk_report.specs.declared.lines.Reason.{Reason}
 use Rattle.desk_run.specs.declared.planning.Plan.{Plan}
 use Rattle.desk_run.specs.declared.planning.Plan.TheVariants.{Keep, Leave, Write}
 use Rattle.desk_run.specs.declared.planning.Work.{Work}
-use Rattle.desk_run.specs.Runs.{Run, is_kept_file, is_fresh}
+use Rattle.desk_run.specs.Runs.{Run, is_kept_file, is_fresh, is_refused}
 use Rattle.desk_run.specs.Works.{writes, keeps, leaves}
 
--- the line of a file: kept, or written with what its image is made of; one without an image has none
-abbrev pub file_line : Text → Text → Bool → Option Image → Text
+-- the line of a file: kept, or written with what its image is made of, or why it was refused
+abbrev pub file_line : Text → Text → Bool → Result Image Reason → Text
 file_line path target true image = line_text (Kept path target)
-file_line path target false (Some image) = line_text (Written path target image.detail)
-file_line path target false None = []
+file_line path target false (Ok image) = line_text (Written path target image.detail)
+file_line path target false (Err reason) = line_text (Refused path reason)
 
 abbrev pub line_of : Run → Rows → File → Text
 line_of run rows file = file_line file.path (run.target file.path) (is_kept_file run rows file) (run.image file.path file.bytes)
-
--- a file that is neither kept nor accepted
-abbrev pub is_refused : Run → Rows → File → Bool
-is_refused run rows file = not (is_kept_file run rows file) && is_none (run.image file.path file.bytes)
 
 abbrev pub summary_of : Run → Rows → List File → Summary
 summary_of run rows files = record {
@@ -41,10 +40,14 @@ summary_of run rows files = record {
 abbrev pub report : Run → Rows → List File → Text
 report run rows files = flat_map (line_of run rows) files ++ summary_text (summary_of run rows files)
 
+-- how a run that completes ends: with refusals where some file is neither kept nor accepted
+abbrev pub ending : Run → Rows → List File → Status
+ending run rows files = if list_any (is_refused run rows) files then Refusals else Done
+
 -- the line of a work
 abbrev pub plan_line : Text → Text → Plan → Text
 plan_line path target Keep = line_text (Kept path target)
-plan_line path target Leave = []
+plan_line path target (Leave reason) = line_text (Refused path reason)
 plan_line path target (Write found image) = line_text (Written path target image.detail)
 
 abbrev pub line_of_work : Work → Text
@@ -63,3 +66,7 @@ summary_of_works works = record {
 
 abbrev pub report_of_works : List Work → Text
 report_of_works works = flat_map line_of_work works ++ summary_text (summary_of_works works)
+
+-- how a run ends once its works are done
+abbrev pub ending_of_works : List Work → Status
+ending_of_works works = if list_any (λ work. leaves work.plan) works then Refusals else Done

@@ -1,5 +1,5 @@
 -- What a run goes by, and what is said of its files one by one.
-use Rattle.std.specs.Prelude.{◌≡◌, ◌≢◌, Bool, true, false, not, ◌&&◌, ◌==◌, List, [], ◌∷◌, Option, Some, None, is_some, map}
+use Rattle.std.specs.Prelude.{◌≡◌, ◌≢◌, Bool, true, false, not, ◌&&◌, ◌==◌, List, [], ◌∷◌, Option, Some, None, Result, is_ok, is_err, map}
 use Rattle.std.specs.Cmp.Lexicographic.{pointwise}
 use Rattle.std.specs.FinMap as fin
 use Rattle.sha2.specs.Sha256.{sha256}
@@ -10,17 +10,18 @@ use Rattle.desk_ledger.specs.declared.keeper.Header.{Header}
 use Rattle.desk_ledger.specs.declared.keeper.Held.{Held}
 use Rattle.desk_ledger.specs.Ledger.{Rows}
 use Rattle.desk_words.specs.Roots.{RootsApart}
-use Rattle.desk_run.specs.declared.image.Image.{Image}
+use Rattle.desk_file.specs.declared.images.Image.{Image}
+use Rattle.desk_report.specs.declared.lines.Reason.{Reason}
 
 -- the roots of source, target and ledger as they are written, the header, and for each path its target
--- and the image of bytes at it, if they have one
+-- and the image of bytes at it, or why they have none
 pub record Run : Type 0 where
   pub from : Text
   pub to : Text
   pub ledger : Text
   pub header : Header
   pub target : Text → Text
-  pub image : Text → Text → Option Image
+  pub image : Text → Text → Result Image Reason
 
 -- the row at a file's target has its path and the digest of its bytes
 abbrev pub is_kept : Option Held → Text → Text → Bool
@@ -33,7 +34,11 @@ is_kept_file run rows file = is_kept (fin.get rows (run.target file.path)) file.
 
 -- a file that has an image and isn't kept
 abbrev pub is_fresh : Run → Rows → File → Bool
-is_fresh run rows file = not (is_kept_file run rows file) && is_some (run.image file.path file.bytes)
+is_fresh run rows file = not (is_kept_file run rows file) && is_ok (run.image file.path file.bytes)
+
+-- a file that is neither kept nor accepted
+abbrev pub is_refused : Run → Rows → File → Bool
+is_refused run rows file = not (is_kept_file run rows file) && is_err (run.image file.path file.bytes)
 
 -- what a row says of this file
 abbrev pub held_of : File → Held

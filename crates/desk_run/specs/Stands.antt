@@ -1,11 +1,11 @@
 -- Where a run stands: how many files are done, and what that leaves.
-use Rattle.std.specs.Prelude.{◌≡◌, ◌≢◌, ◌⊎◌, ℕ, ◌<◌, ◌≤◌, ◌++◌, List, ◌∷◌, length, Some, None, true, false}
+use Rattle.std.specs.Prelude.{◌≡◌, ◌≢◌, ◌⊎◌, ℕ, ◌<◌, ◌≤◌, ◌++◌, List, ◌∷◌, length, Some, None, true, false, Ok}
 use Rattle.std.specs.FinMap as fin
 use Rattle.desk_base.specs.Names.{Text}
 use Rattle.desk_base.specs.Paths.{full}
 use Rattle.desk_folders.specs.Contents.{Contents, File, ChangesOnly, files_below}
 use Rattle.desk_ledger.specs.Ledger.{Ledger, with_header}
-use Rattle.desk_run.specs.declared.image.Image.{Image}
+use Rattle.desk_file.specs.declared.images.Image.{Image}
 use Rattle.desk_run.specs.Runs.{Run, TargetsApart, held_of, is_fresh, is_kept_file}
 use Rattle.desk_run.specs.Works.{work_of, works_of, files_after, ledger_after, cleared, writes}
 use Rattle.desk_run.specs.Truth.{IsOurs, TrueLedger}
@@ -47,10 +47,10 @@ Stands run m0 l0 m l done = Unchanged m0 l0 m l done ⊎ (Between run m0 l0 m l 
 pub record Remains (run : Run) (m0 : Contents) (l0 : Ledger) (m : Contents) (l : Ledger) (done : ℕ) : Type 0 where
   -- each accepted file before has its image at its target; a kept one where the ledger was true
   pub images : (before rest : List File) (file : File) (image : Image) → files_below run.from m0 ≡ before ++ file ∷ rest → length before < done
-      → run.image file.path file.bytes ≡ Some image → TrueLedger run m0 l0 ⊎ (is_kept_file run l0.rows file ≡ false) → fin.get m (full run.to (run.target file.path)) ≡ Some image.bytes
+      → run.image file.path file.bytes ≡ Ok image → TrueLedger run m0 l0 ⊎ (is_kept_file run l0.rows file ≡ false) → fin.get m (full run.to (run.target file.path)) ≡ Some image.bytes
   -- and its row
   pub rows : (before rest : List File) (file : File) (image : Image) → files_below run.from m0 ≡ before ++ file ∷ rest → length before < done
-      → run.image file.path file.bytes ≡ Some image → fin.get l.rows (run.target file.path) ≡ Some (held_of file)
+      → run.image file.path file.bytes ≡ Ok image → fin.get l.rows (run.target file.path) ≡ Some (held_of file)
   -- the next file's row is missing, or it is as at entry, and then its target is as at entry
   pub next : (before rest : List File) (file : File) → files_below run.from m0 ≡ before ++ file ∷ rest → length before ≡ done
       → (fin.get l.rows (run.target file.path) ≡ None)

@@ -1,5 +1,5 @@
 -- A ledger is true of a folder.
-use Rattle.std.specs.Prelude.{◌≡◌, Option, Some, None, true}
+use Rattle.std.specs.Prelude.{◌≡◌, Option, Some, None, true, Ok}
 use Rattle.std.specs.FinMap as fin
 use Rattle.sha2.specs.Sha256.{sha256}
 use Rattle.desk_base.specs.Names.{Text}
@@ -8,7 +8,7 @@ use Rattle.desk_folders.specs.Contents.{Contents}
 use Rattle.desk_ledger.specs.declared.keeper.Header.{Header}
 use Rattle.desk_ledger.specs.declared.keeper.Held.{Held}
 use Rattle.desk_ledger.specs.Ledger.{Ledger, Rows}
-use Rattle.desk_run.specs.declared.image.Image.{Image}
+use Rattle.desk_file.specs.declared.images.Image.{Image}
 use Rattle.desk_run.specs.Runs.{Run}
 
 -- no header, or this run's
@@ -19,7 +19,7 @@ IsOurs ours (Some header) = header ≡ ours
 -- the image of these bytes goes to this target, which holds exactly its bytes
 pub record HasImage (run : Run) (m : Contents) (target path bytes : Text) : Type 0 where
   pub image : Image
-  pub is : run.image path bytes ≡ Some image
+  pub is : run.image path bytes ≡ Ok image
   pub goes : run.target path ≡ target
   pub held : fin.get m (full run.to target) ≡ Some image.bytes
 

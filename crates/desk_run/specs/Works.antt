@@ -1,5 +1,5 @@
 -- What a run is to do with each file, and what has been done after some of them.
-use Rattle.std.specs.Prelude.{List, [], ◌∷◌, Option, Some, None, Bool, true, false, cond, is_some, map}
+use Rattle.std.specs.Prelude.{List, [], ◌∷◌, Some, Bool, true, false, Result, Ok, Err, cond, is_some, map}
 use Rattle.std.specs.FinMap as fin
 use Rattle.sha2.specs.Sha256.{sha256}
 use Rattle.desk_base.specs.Names.{Text}
@@ -7,16 +7,17 @@ use Rattle.desk_base.specs.Paths.{full}
 use Rattle.desk_folders.specs.Contents.{Contents, File, setting}
 use Rattle.desk_ledger.specs.declared.keeper.Held.{Held}
 use Rattle.desk_ledger.specs.Ledger.{Ledger, Rows, row_at, with_row, without_row}
-use Rattle.desk_run.specs.declared.image.Image.{Image}
+use Rattle.desk_file.specs.declared.images.Image.{Image}
+use Rattle.desk_report.specs.declared.lines.Reason.{Reason}
 use Rattle.desk_run.specs.declared.planning.Plan.{Plan}
 use Rattle.desk_run.specs.declared.planning.Plan.TheVariants.{Keep, Leave, Write}
 use Rattle.desk_run.specs.declared.planning.Work.{Work}
 use Rattle.desk_run.specs.Runs.{Run, is_kept_file}
 
 -- what is done with a file that isn't kept
-abbrev pub fresh : Bool → Option Image → Plan
-fresh found (Some image) = Write found image
-fresh found None = Leave
+abbrev pub fresh : Bool → Result Image Reason → Plan
+fresh found (Ok image) = Write found image
+fresh found (Err reason) = Leave reason
 
 abbrev pub work_of : Run → Rows → File → Work
 work_of run rows file = record {
@@ -31,7 +32,7 @@ works_of run rows = map (work_of run rows)
 
 abbrev pub wrote_plan : Text → Plan → Contents → Contents
 wrote_plan path Keep m = m
-wrote_plan path Leave m = m
+wrote_plan path (Leave reason) m = m
 wrote_plan path (Write found image) m = setting path (Some image.bytes) m
 
 -- the folder after this work
@@ -40,7 +41,7 @@ wrote to work = wrote_plan (full to work.target) work.plan
 
 abbrev pub logged_plan : Text → Held → Plan → Ledger → Ledger
 logged_plan target held Keep l = l
-logged_plan target held Leave l = l
+logged_plan target held (Leave reason) l = l
 logged_plan target held (Write found image) l = with_row (row_at target held) l
 
 abbrev pub held_of_work : Work → Held
@@ -55,7 +56,7 @@ forgot found target l = cond found (without_row target l) l
 
 abbrev pub cleared_plan : Text → Plan → Ledger → Ledger
 cleared_plan target Keep l = l
-cleared_plan target Leave l = l
+cleared_plan target (Leave reason) l = l
 cleared_plan target (Write found image) l = forgot found target l
 
 -- the ledger once this work's row is forgotten
@@ -64,17 +65,17 @@ cleared work = cleared_plan work.target work.plan
 
 abbrev pub writes : Plan → Bool
 writes Keep = false
-writes Leave = false
+writes (Leave reason) = false
 writes (Write found image) = true
 
 abbrev pub keeps : Plan → Bool
 keeps Keep = true
-keeps Leave = false
+keeps (Leave reason) = false
 keeps (Write found image) = false
 
 abbrev pub leaves : Plan → Bool
 leaves Keep = false
-leaves Leave = true
+leaves (Leave reason) = true
 leaves (Write found image) = false
 
 -- the folder after these works

@@ -1,4 +1,4 @@
-//! Files of the source: as they were read, and as they are when they are built.
+//! Files of the source: as they are listed, and as they were read.
 
 ghost use Rattle.std.specs.Prelude.{◌≡◌, ◌≤◌, length};
 
@@ -50,15 +50,14 @@ impl Content {
     }
 }
 
-/// A file that was read: its path and target, and its bytes unless they are more than the limit.
+/// A path of the source, and its target.
 #[derive(Debug, Drop)]
-pub struct Source {
+pub struct Place {
     pub path: Text,
     pub target: Text,
-    pub bytes: Option<Content>,
 }
 
-/// A file of a form that is built: its path and target, and its bytes.
+/// A file that was read: its path and target, and its bytes.
 #[derive(Debug, Drop)]
 pub struct Input {
     pub path: Text,

@@ -1,15 +1,17 @@
 //! The two halves of a run: up to the plan, and from it on.
 
-ghost use Rattle.std.specs.Prelude.{◌≡◌, ◌≤◌, ◌<◌, ◌^◌, [], None, Some, IfOk, OnOk, IfErr, IfSome, option_map, IsSome, length, map};
+ghost use Rattle.std.specs.Prelude.{◌≡◌, ◌≤◌, ◌<◌, ◌^◌, [], true, None, Some, IfOk, OnOk, IfErr, IfSome, option_map, IsSome, length, map};
+ghost use Rattle.std.specs.List.{list_any};
 ghost use Rattle.desk_folders.specs.Contents.{Rose};
 ghost use Rattle.desk_ledger.specs.Ledger.{with_header};
-ghost use Rattle.desk_run.specs.Endings.{Finishes, HaltsEarly, HasCauses, IsAttached, IsTold, NamedEarly, Planned, Reported, WhereTold};
+ghost use Rattle.desk_run.specs.Endings.{Finishes, HaltsEarly, HasCauses, IsAttached, IsTold, NamedEarly, Planned, Reported, WhereTold, is_final};
 ghost use Rattle.desk_run.specs.Halts.{HaltsPlan, NamedAtHalt};
-ghost use Rattle.desk_run.specs.Images.{image};
+ghost use Rattle.desk_file.specs.Images.{image};
 ghost use Rattle.desk_run.specs.Inputs.{work_of_input};
-ghost use Rattle.desk_run.specs.Reports.{report_of_works};
+ghost use Rattle.desk_run.specs.Reports.{ending_of_works, report_of_works};
 ghost use Rattle.desk_words.specs.Roots.{AreRoots, IsPathRoot};
 ghost use Rattle.desk_run.specs.Runs.{AllRelative};
+ghost use Rattle.desk_run.specs.Works.{leaves};
 ghost use Rattle.desk_run.specs.Truth.{IsOurs};
 ghost use Rattle.desk_run.specs.Answers.{other_run};
 
@@ -88,15 +90,25 @@ pub(crate) fn prepare<F: Folders, K: Keeper>(
     }
 }
 
+/// Whether a file is left alone.
+fn has_left(works: &[Work]) -> bool
+    ensures { result ≡ list_any (λ work. leaves work.plan) works.now }
+{
+    works.iter().any(|work| work.plan.leaves())
+}
+
 /// Reports what was done.
 fn tell<O: Sink>(out: &mut O, works: Vec<Work>) -> Status
     requires { length works.items < 2 ^ 32 }
     ensures output { Reported (report_of_works works.items) (O.told out.old) (O.told out.new) result }
     ensures only { IsTold result }
+    ensures ends { is_final result ≡ true → result ≡ ending_of_works works.items }
     ensures cause { HasCauses [] result 0 0 0 0 (O.faults out.old) (O.faults out.new) }
     ensures counts { O.faults out.old ≤ O.faults out.new }
 {
+    let left = has_left(&works);
     match write_report(out, works) {
+        Ok(()) if left => Status::Refusals,
         Ok(()) => Status::Done,
         Err(_) => Status::OutputFault,
     }
@@ -115,6 +127,7 @@ pub(crate) fn finish<F: Folders, K: Keeper, O: Sink>(
     requires relative { AllRelative (map (λ work. work.target) prepared.works.items) }
     requires few { length prepared.works.items < 2 ^ 32 }
     ensures finishes { Finishes prepared.to prepared.works.items (F.told folders.old) (F.told folders.new) (K.told keeper.old) (K.told keeper.new) result }
+    ensures ends { is_final result ≡ true → result ≡ ending_of_works prepared.works.items }
     ensures output { Reported (report_of_works prepared.works.items) (O.told out.old) (O.told out.new) result }
     ensures attached { K.attached keeper.new ≡ K.attached keeper.old }
     ensures causes { HasCauses [] result (F.faults folders.old) (F.faults folders.new) (K.faults keeper.old) (K.faults keeper.new) (O.faults out.old) (O.faults out.new) }

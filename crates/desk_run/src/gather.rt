@@ -8,10 +8,12 @@ ghost use Rattle.desk_run.specs.Meaning.{ruled, run_of, run_of_words};
 ghost use Rattle.desk_words.specs.Roots.{AreRoots, roots_of_words};
 ghost use Rattle.desk_run.specs.Runs.{AllRelative};
 
-use crate::check::check_all;
+use crate::clash::refuse_clash;
 use crate::files::Input;
+use crate::listing::list_places;
+use crate::reading::read_all;
 use crate::rules::{Ruled, read_rules};
-use crate::sources::{copy_of, read_sources};
+use crate::sources::copy_of;
 use crate::stops::{Halt, halt_of_words};
 use desk_base::{Memory, Text};
 use desk_folders::Folders;
@@ -41,7 +43,7 @@ fn header_of(alloc: Global, names: &Roots, ruled: &Ruled) -> Result<Header, Memo
     })
 }
 
-/// Reads the files of a run, and checks that each is built.
+/// Reads the files of a run, or finds what stands against them.
 fn read_inputs<F: Folders>(
     alloc: Global,
     folders: &mut F,
@@ -56,8 +58,16 @@ fn read_inputs<F: Folders>(
     ensures err { IfErr result (HaltsAtFiles (run_of names.now ruled.now) (F.told folders.old) (F.faults folders.old) (F.faults folders.new)) }
     ensures counts { F.faults folders.old ≤ F.faults folders.new }
 {
-    match read_sources(alloc, folders, names, ruled) {
-        Ok(sources) => check_all(alloc, &ruled.rules, sources),
+    let places = match list_places(alloc, folders, &ruled.rules, &names.from) {
+        Ok(places) => places,
+        Err(halt) => return Err(halt),
+    };
+    let inputs = match read_all(alloc, folders, &names.from, places) {
+        Ok(inputs) => inputs,
+        Err(halt) => return Err(halt),
+    };
+    match refuse_clash(alloc, &inputs) {
+        Ok(()) => Ok(inputs),
         Err(halt) => Err(halt),
     }
 }

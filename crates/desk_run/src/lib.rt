@@ -6,18 +6,18 @@ ghost use Rattle.desk_run.specs.Answers.{first_answer};
 ghost use Rattle.desk_run.specs.Clauses.{Exact, Files, LedgerHolds, Left, Output};
 ghost use Rattle.desk_run.specs.Endings.{HasCauses, Named, ReportedOf, StandsAfter, Tells, WhereTold, is_final};
 
-mod check;
+mod clash;
 mod files;
 mod finish;
 mod gather;
-mod image;
+mod listing;
 mod opening;
 mod planning;
+mod reading;
 mod report;
 mod rules;
 mod sources;
 mod stops;
-mod tally;
 mod write;
 
 use desk_base::Text;
@@ -29,14 +29,23 @@ use finish::{finish, prepare};
 use std::alloc::Global;
 use stops::status_of_halt;
 
-/// How many files a run takes.
-pub const MOST: u32 = 1000;
+/// How many files of the source a run takes.
+pub const FILES: u32 = 200_000;
+
+/// How many bytes a relative path or its target may have.
+pub const LENGTH: usize = 1024;
 
 /// How many bytes a file may have.
-pub const SIZE: usize = 1_048_576;
+pub const SIZE: usize = 67_108_864;
 
-/// How many bytes a path or a target may have.
-pub const LENGTH: usize = 1024;
+/// How many bytes all files of the source may have together.
+pub const SUM: u64 = 1_073_741_824;
+
+/// How many files the rule folder may have.
+pub const RULE_FILES: u32 = 1000;
+
+/// How many bytes a rule file may have.
+pub const RULE_SIZE: usize = 1_048_576;
 
 /// A run up to its end, without the line of a fault.
 fn run_words<F: Folders, K: Keeper, O: Sink>(
@@ -62,15 +71,15 @@ fn run_words<F: Folders, K: Keeper, O: Sink>(
 }
 
 /// Migrates the application that words name: reads the rules and the source, opens the ledger, writes
-/// each file that isn't kept from an earlier run, and then the report; or the line of what stands
-/// against it.
+/// each file that has an image and isn't kept from an earlier run, and then the report; or the line of
+/// what stands against it.
 ///
-/// The words are `run --rules R --from A --to B --ledger L`. The statuses, of which the first that
-/// stands is the answer:
-/// `Usage` (other words), `NestedRoots` (a root lies in another that is written to or holds the ledger),
-/// `NotBuilt` with the rules' root (a rule folder of another form), `BadRules`, `NotBuilt` with the
-/// source's root (more than 1,000 files) or with the least path of a file that isn't built,
-/// `OtherRun` (the ledger's header isn't this run's), `Done`.
+/// The words are `run` and its options. The statuses, of which the first that stands is the answer:
+/// `Usage` (words without a task), `NestedRoots` (a root lies in another that is written to or holds the
+/// ledger), `Limit` of `RuleFiles` or `RuleSize`, `BadRules`, `Limit` of `Files`, of `PathLength` with the
+/// least such path, of `FileSize` or `Sum` with the first such file, `PathClash` with the first two files
+/// of which one's target equals the other's or is a folder of it, `OtherRun` (the ledger's header isn't
+/// this run's), `Refusals` (a file is neither kept nor has an image), `Done`.
 /// `FolderFault`, `LedgerFault` and `OutputFault` come only where the count of faults of that object rose
 /// in this call; `Memory` may come at any step.
 pub fn desk<F: Folders, K: Keeper, O: Sink>(

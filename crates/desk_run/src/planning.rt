@@ -2,7 +2,7 @@
 
 ghost use Rattle.std.specs.Prelude.{◌≡◌, ◌≤◌, IfOk, IfSome, IfErr, IsSome, option_map, is_some, cond, length, map};
 ghost use Rattle.desk_ledger.specs.Ledger.{held_in};
-ghost use Rattle.desk_run.specs.Images.{image};
+ghost use Rattle.desk_file.specs.Images.{image};
 ghost use Rattle.desk_run.specs.Inputs.{work_of_input};
 ghost use Rattle.desk_run.specs.Runs.{is_kept};
 ghost use Rattle.desk_run.specs.Works.{fresh, writes, keeps, leaves};
@@ -10,10 +10,11 @@ ghost use Rattle.desk_run.specs.declared.planning.Plan.TheVariants.{Keep};
 ghost use Rattle.desk_run.specs.Halts.{HaltsPlanning};
 
 use crate::files::{Content, Input};
-use crate::image::{Image, image_of};
 use crate::stops::Halt;
 use desk_base::{Memory, Text};
+use desk_file::{FileFault, Image, image_of};
 use desk_ledger::{Digest, Keeper, Row, digest_of};
+use desk_report::Reason;
 use desk_rules::RuleSet;
 use std::alloc::Global;
 
@@ -22,8 +23,8 @@ use std::alloc::Global;
 pub enum Plan {
     /// It is kept: its target stands from an earlier run.
     Keep,
-    /// It has no image, and is left alone.
-    Leave,
+    /// It has no image, for this reason, and is left alone.
+    Leave { reason: Reason },
     /// Its image is written; whether the ledger has a row of its target, which is forgotten first.
     Write { found: bool, image: Image },
 }
@@ -47,7 +48,7 @@ impl Plan {
     pub(crate) fn leaves(&self) -> bool
         ensures { result ≡ leaves self.now }
     {
-        matches!(self, Plan::Leave)
+        matches!(self, Plan::Leave { .. })
     }
 }
 
@@ -80,9 +81,10 @@ fn fresh_plan(
 ) -> Result<Plan, Memory>
     ensures { IfOk result (λ plan. plan ≡ fresh found (image rules.now path.now bytes)) }
 {
-    match image_of(alloc, rules, path, bytes)? {
-        Some(image) => Ok(Plan::Write { found, image }),
-        None => Ok(Plan::Leave),
+    match image_of(alloc, rules, path, bytes.into_text()) {
+        Ok(image) => Ok(Plan::Write { found, image }),
+        Err(FileFault::Refused(reason)) => Ok(Plan::Leave { reason }),
+        Err(FileFault::Memory) => Err(Memory),
     }
 }
 

@@ -1,6 +1,6 @@
 //! Writes the report of a run.
 
-ghost use Rattle.std.specs.Prelude.{◌≡◌, ◌≤◌, ◌<◌, ◌^◌, ◌++◌, OnOk, OnErr, IfSome, IfNone, [], length, count_by};
+ghost use Rattle.std.specs.Prelude.{◌≡◌, ◌≤◌, ◌<◌, ◌^◌, ◌++◌, OnOk, OnErr, length, count_by};
 ghost use Rattle.std.specs.List.{flat_map};
 ghost use Rattle.desk_folders.specs.Contents.{Rose};
 ghost use Rattle.desk_report.specs.Texts.{line_text, summary_text};
@@ -47,10 +47,9 @@ fn summary_of(works: &[Work]) -> Summary
     }
 }
 
-/// The line of a work; a file that is left alone has none.
-fn line_of(work: Work) -> Option<Line>
-    ensures some { IfSome result (λ line. line_text line ≡ line_of_work work) }
-    ensures none { IfNone result (line_of_work work ≡ []) }
+/// The line of a work.
+fn line_of(work: Work) -> Line
+    ensures { line_text result ≡ line_of_work work }
 {
     let Work {
         path,
@@ -59,13 +58,13 @@ fn line_of(work: Work) -> Option<Line>
         ..
     } = work;
     match plan {
-        Plan::Keep => Some(Line::Kept { path, target }),
-        Plan::Leave => None,
-        Plan::Write { image, .. } => Some(Line::Written {
+        Plan::Keep => Line::Kept { path, target },
+        Plan::Leave { reason } => Line::Refused { path, reason },
+        Plan::Write { image, .. } => Line::Written {
             path,
             target,
             detail: image.detail,
-        }),
+        },
     }
 }
 
@@ -76,10 +75,7 @@ fn write_work<O: Sink>(out: &mut O, work: Work) -> Result<(), SinkFault>
     ensures counts { O.faults out.old ≤ O.faults out.new }
     ensures failed { OnErr result (Rose (O.faults out.old) (O.faults out.new)) }
 {
-    match line_of(work) {
-        Some(line) => write_line(&line, out),
-        None => Ok(()),
-    }
+    write_line(&line_of(work), out)
 }
 
 /// Writes the report of works: one line a file, and the totals.

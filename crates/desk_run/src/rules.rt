@@ -1,32 +1,40 @@
 //! The rules of a run, read from the rule folder.
 
-ghost use Rattle.std.specs.Prelude.{◌≡◌, ◌≤◌, ◌++◌, ◌∷◌, [], ◌<◌, ◌^◌, Ok, OnOk, IfOk, IfErr, IfSome, IsTrue, ℕ, List, length};
-ghost use Rattle.desk_base.specs.Paths.{is_root};
-ghost use Rattle.desk_folders.specs.Contents.{File, files_below, paths_below};
+ghost use Rattle.std.specs.Prelude.{◌≡◌, ◌≢◌, ◌≤◌, ◌++◌, ◌<◌, ◌^◌, None, Ok, OnOk, IfOk, IfErr, IfSome, IsSome, IsTrue, ℕ, List, length};
+ghost use Rattle.std.specs.Cmp.Lexicographic.{slice_cmp};
+ghost use Rattle.std.specs.FinMap as fin;
+ghost use Rattle.std.specs.List.Sorted.{IsStrictlySortedBy};
+ghost use Rattle.std.specs.Ordering.{nat_cmp};
+ghost use Rattle.desk_base.specs.Paths.{full, is_root};
+ghost use Rattle.desk_folders.specs.Contents.{file_at, files_below, paths_below};
 ghost use Rattle.desk_ledger.specs.Digests.{HasTaken};
-ghost use Rattle.desk_rules.specs.Files.{renames_name};
-ghost use Rattle.desk_run.specs.Meaning.{digest_entry, with_digest, ruled};
-ghost use Rattle.desk_run.specs.Halts.{HaltsAtRules, HaltsBuilding, HaltsRuled};
 ghost use Rattle.desk_rules.specs.RuleFiles.{rules_of_files};
+ghost use Rattle.desk_run.specs.Halts.{HaltsAtRules, HaltsBuilding, HaltsTaking, HaltsTakingOne};
+ghost use Rattle.desk_run.specs.Meaning.{digest_entry, ruled, with_digest};
+ghost use Rattle.desk_run.specs.RuleFolders.{HasTakenAll, Takes};
 
-use crate::files::Content;
-use crate::sources::{copy_of, not_built, read_below};
+use crate::sources::{copy_of, limit, read_below};
 use crate::stops::Halt;
+use crate::{RULE_FILES, RULE_SIZE};
 use desk_base::Text;
 use desk_folders::Folders;
 use desk_ledger::{Digest, Digester};
-use desk_report::Status;
+use desk_report::{LimitKind, Status};
 use desk_rules::{BuildFault, RuleFiles, RuleSet};
 use std::alloc::Global;
-
-/// The file of the renames.
-const RENAMES: &[u8] = b"renames.properties";
 
 /// A rule set, and the digest of the rule files that it was built from.
 #[derive(Drop)]
 pub struct Ruled {
     pub rules: RuleSet,
     pub digest: Digest,
+}
+
+/// Rule files that were read, and what takes their digest.
+#[derive(Drop)]
+pub struct Taken {
+    pub files: RuleFiles,
+    pub digester: Digester,
 }
 
 /// Takes a rule file into a digest: the length of its name as eight bytes, its name, the length of its
@@ -42,11 +50,12 @@ fn digest_file(digester: &mut Digester, name: &Text, content: &[u8])
 }
 
 /// The rules of rule files, with the digest that was taken of them.
-fn build(alloc: Global, files: &RuleFiles, digester: Digester) -> Result<Ruled, Halt>
-    ensures ok { IfOk result (λ ruled. (taken : List ℕ) → HasTaken digester taken → with_digest taken (rules_of_files files.now) ≡ Ok ruled) }
-    ensures err { IfErr result (HaltsBuilding (rules_of_files files.now)) }
+fn build(alloc: Global, taken: Taken) -> Result<Ruled, Halt>
+    ensures ok { IfOk result (λ ruled. (text : List ℕ) → HasTaken taken.digester text → with_digest text (rules_of_files taken.files) ≡ Ok ruled) }
+    ensures err { IfErr result (HaltsBuilding (rules_of_files taken.files)) }
 {
-    match RuleSet::build(alloc, files) {
+    let Taken { files, digester } = taken;
+    match RuleSet::build(alloc, &files) {
         Ok(rules) => Ok(Ruled {
             rules,
             digest: digester.finish(),
@@ -56,51 +65,59 @@ fn build(alloc: Global, files: &RuleFiles, digester: Digester) -> Result<Ruled, 
     }
 }
 
-/// The rules of a folder without rule files.
-fn rules_of_none(alloc: Global) -> Result<Ruled, Halt>
-    ensures ok { IfOk result (λ read. (root : List ℕ) → ruled root [] ≡ Ok read) }
-    ensures err { IfErr result (λ halt. (root : List ℕ) → HaltsRuled root [] halt) }
-{
-    build(alloc, &RuleFiles::new(alloc), Digester::new())
-}
-
-/// The rules of a folder with one rule file.
-fn rules_of_one(alloc: Global, name: Text, content: Content) -> Result<Ruled, Halt>
-    requires { name ≡ renames_name }
-    ensures ok { IfOk result (λ read. (root : List ℕ) → ruled root (record { path = name; bytes = content } ∷ []) ≡ Ok read) }
-    ensures err { IfErr result (λ halt. (root : List ℕ) → HaltsRuled root (record { path = name; bytes = content } ∷ []) halt) }
-{
-    let mut digester = Digester::new();
-    digest_file(&mut digester, &name, content.as_bytes());
-    let mut files = RuleFiles::new(alloc);
-    files.add(name, content.into_text())?;
-    build(alloc, &files, digester)
-}
-
-/// Reads the one rule file of a folder.
-fn read_one<F: Folders>(
+/// Reads one rule file, and takes it in.
+fn take_file<F: Folders>(
     alloc: Global,
     folders: &mut F,
     root: &Text,
     path: &Text,
-) -> Result<Ruled, Halt>
-    requires { IfSome (F.told folders.old) (λ m. paths_below root.now m ≡ path.now ∷ []) }
+    taken: &mut Taken,
+) -> Result<(), Halt>
+    requires there { IfSome (F.told folders.old) (λ m. IsSome (fin.get m (full root.now path.now))) }
+    requires absent { fin.get taken.old.files path.now ≡ None }
     ensures told { F.told folders.new ≡ F.told folders.old }
-    ensures ok { IfOk result (λ read. IfSome (F.told folders.old) (λ m. ruled root.now (files_below root.now m) ≡ Ok read)) }
-    ensures err { IfErr result (HaltsAtRules root.now (F.told folders.old) (F.faults folders.old) (F.faults folders.new)) }
+    ensures takes { OnOk result (IfSome (F.told folders.old) (λ m. Takes (file_at root.now m path.now) taken.old taken.new)) }
+    ensures others { OnOk result ((name : List ℕ) → name ≢ path.now → fin.get taken.new.files name ≡ fin.get taken.old.files name) }
+    ensures err { IfErr result (HaltsTakingOne root.now path.now (F.told folders.old) (F.faults folders.old) (F.faults folders.new)) }
     ensures counts { F.faults folders.old ≤ F.faults folders.new }
 {
-    if path.as_bytes() != RENAMES {
-        return Err(not_built(alloc, root));
-    }
-    match read_below(alloc, folders, root, path)? {
-        Some(content) => rules_of_one(alloc, copy_of(alloc, path)?, content),
-        None => Err(not_built(alloc, root)),
-    }
+    let Some(content) = read_below(alloc, folders, root, path, RULE_SIZE)? else {
+        return Err(limit(alloc, LimitKind::RuleSize, path));
+    };
+    let name = copy_of(alloc, path)?;
+    digest_file(&mut taken.digester, &name, content.as_bytes());
+    taken.files.add(name, content)?;
+    Ok(())
 }
 
-/// Reads the rules below a root: the answer is `NotBuilt` where the folder holds any file besides
-/// `renames.properties` or that file is too large, and else `BadRules` where it makes no rule set.
+/// Reads rule files in their order, or finds the first that is too large.
+fn take_all<F: Folders>(
+    alloc: Global,
+    folders: &mut F,
+    root: &Text,
+    paths: &[Text],
+) -> Result<Taken, Halt>
+    requires listed { IfSome (F.told folders.old) (λ m. paths.now ≡ paths_below root.now m) }
+    requires rising { IsStrictlySortedBy (slice_cmp nat_cmp) paths.now }
+    ensures told { F.told folders.new ≡ F.told folders.old }
+    ensures taken { IfOk result (λ taken. IfSome (F.told folders.old) (λ m. HasTakenAll root.now m taken)) }
+    ensures err { IfErr result (HaltsTaking root.now (F.told folders.old) (F.faults folders.old) (F.faults folders.new)) }
+    ensures counts { F.faults folders.old ≤ F.faults folders.new }
+{
+    let mut taken = Taken {
+        files: RuleFiles::new(alloc),
+        digester: Digester::new(),
+    };
+    for path in paths {
+        if let Err(halt) = take_file(alloc, folders, root, path, &mut taken) {
+            return Err(halt);
+        }
+    }
+    Ok(taken)
+}
+
+/// Reads the rules below a root: the answer is `Limit` where the folder has more than 1,000 files, or one
+/// of more than 1,048,576 bytes, and else `BadRules` where its files make no rule set.
 pub(crate) fn read_rules<F: Folders>(
     alloc: Global,
     folders: &mut F,
@@ -112,10 +129,12 @@ pub(crate) fn read_rules<F: Folders>(
     ensures err { IfErr result (HaltsAtRules root.now (F.told folders.old) (F.faults folders.old) (F.faults folders.new)) }
     ensures counts { F.faults folders.old ≤ F.faults folders.new }
 {
-    let paths = folders.list(root, 1)?;
-    match paths.as_slice() {
-        [] => rules_of_none(alloc),
-        [path] => read_one(alloc, folders, root, path),
-        _ => Err(not_built(alloc, root)),
+    let paths = folders.list(root, RULE_FILES)?;
+    if paths.len() > RULE_FILES as usize {
+        return Err(limit(alloc, LimitKind::RuleFiles, root));
+    }
+    match take_all(alloc, folders, root, paths.as_slice()) {
+        Ok(taken) => build(alloc, taken),
+        Err(halt) => Err(halt),
     }
 }

@@ -1,3 +1,4 @@
 pub mod Joined
 pub mod Apart
 pub mod Rooted
+pub mod Reading

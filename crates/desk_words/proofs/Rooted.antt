@@ -1,8 +1,9 @@
 -- What roots of words are: their segments are names, and what is written of them are roots and full paths.
-use Rattle.std.proofs.Common.{◌≡◌, Bool, true, false, List, [], ◌∷◌, ◌++◌, Option, Some, None, refl, sym, ap, ◌∙◌, subst, cond}
-use Rattle.std.specs.Prelude.{not, ◌&&◌, ◌||◌, ◌==◌, filter, Ok, if◌then◌else◌}
+use Rattle.std.proofs.Common.{◌≡◌, ℕ, map, Bool, true, false, List, [], ◌∷◌, ◌++◌, Option, Some, None, refl, sym, ap, ◌∙◌, subst, cond}
+use Rattle.std.specs.Prelude.{not, ◌&&◌, ◌||◌, ◌==◌, filter, codes, Ok, if◌then◌else◌}
 use Rattle.std.specs.List.{All, list_all, list_any, onto_first}
-use Rattle.std.specs.Str.{bytes_eq}
+use Rattle.std.specs.Option.{option_and_then}
+use Rattle.std.specs.Str.{bytes_eq, is_utf8}
 use Rattle.std.proofs.lemmas.Bool.{and_parts, and_from, not-true, eq-eqb}
 use Rattle.std.proofs.lemmas.List.Elements.{All-nil, All-cons}
 use Rattle.std.proofs.lemmas.List.Splits.{slice_split_none, slice_split_at}
@@ -11,7 +12,9 @@ use Rattle.desk_base.specs.Paths.{here, top, is_segment, is_relative_path, is_fu
 use Rattle.desk_words.specs.declared.roots.Root.{Root}
 use Rattle.desk_words.specs.declared.words.Task.{Task}
 use Rattle.desk_words.specs.declared.words.Task.TheVariants.{Run}
-use Rattle.desk_words.specs.Words.{parts, is_upward, is_dropped, named_parts, is_value, is_absolute, root_of, written as written_of, run_of_roots, task_of, are_options}
+use Rattle.desk_words.specs.declared.options.Name.TheVariants.{Rules, From, To, Ledger, Workers}
+use Rattle.desk_words.specs.Options.{Given, word_of, options_of, each_once, value_of, workers_of}
+use Rattle.desk_words.specs.Words.{parts, is_upward, is_dropped, named_parts, is_value, is_absolute, root_of, root_at, written as written_of, run_of, task_of_options, task_of}
 use Rattle.desk_words.specs.declared.roots.Roots.{Roots}
 use Rattle.desk_words.specs.Words.{overlap, first_nested}
 use Rattle.desk_words.specs.Roots.{roots_apart, roots_of_task, roots_of_words}
@@ -119,43 +122,52 @@ pub record AreNamed (task : Task) : Type 0 where
   pub from : Root
   pub to : Root
   pub ledger : Root
-  pub is : task ≡ Run rules from to ledger 1
+  pub workers : ℕ
+  pub is : task ≡ Run rules from to ledger workers
   pub rules_named : list_all is_named rules.segments ≡ true
   pub from_named : list_all is_named from.segments ≡ true
   pub to_named : list_all is_named to.segments ≡ true
 
-named_by : (r a b l : Text) (or oa ob ol : Option Root) (task : Task) → root_of r ≡ or → root_of a ≡ oa → root_of b ≡ ob → root_of l ≡ ol → run_of_roots or oa ob ol ≡ Some task → AreNamed task
-named_by r a b l (Some rules) (Some from) (Some to) (Some ledger) task er ea eb el e = record {
+-- the root that the value of an option names
+root_at_named : (value : Option Text) (root : Root) → root_at value ≡ Some root → list_all is_named root.segments ≡ true
+root_at_named None root e = cc
+root_at_named (Some text) root e = root_named text root e
+
+named_by : (r a b l w : Option Text) (or oa ob ol : Option Root) (ow : Option ℕ) (task : Task) → root_at r ≡ or → root_at a ≡ oa → root_at b ≡ ob → run_of or oa ob ol ow ≡ Some task → AreNamed task
+named_by r a b l w (Some rules) (Some from) (Some to) (Some ledger) (Some workers) task er ea eb e = record {
   rules = rules;
   from = from;
   to = to;
   ledger = ledger;
-  is = let h : Run rules from to ledger 1 ≡ task = cc in sym h;
-  rules_named = root_named r rules er;
-  from_named = root_named a from ea;
-  to_named = root_named b to eb;
+  workers = workers;
+  is = let h : Run rules from to ledger workers ≡ task = cc in sym h;
+  rules_named = root_at_named r rules er;
+  from_named = root_at_named a from ea;
+  to_named = root_at_named b to eb;
 }
-named_by r a b l None oa ob ol task er ea eb el e = cc
-named_by r a b l (Some rules) None ob ol task er ea eb el e = cc
-named_by r a b l (Some rules) (Some from) None ol task er ea eb el e = cc
-named_by r a b l (Some rules) (Some from) (Some to) None task er ea eb el e = cc
+named_by r a b l w None oa ob ol ow task er ea eb e = cc
+named_by r a b l w (Some rules) None ob ol ow task er ea eb e = cc
+named_by r a b l w (Some rules) (Some from) None ol ow task er ea eb e = cc
+named_by r a b l w (Some rules) (Some from) (Some to) None ow task er ea eb e = cc
+named_by r a b l w (Some rules) (Some from) (Some to) (Some ledger) None task er ea eb e = cc
+
+options_named : (givens : List Given) (task : Task) → task_of_options givens ≡ Some task → AreNamed task
+options_named givens task e = by (each_once givens) e where
+  run : Option Task
+  run = run_of (root_at (value_of Rules givens)) (root_at (value_of From givens)) (root_at (value_of To givens)) (root_at (value_of Ledger givens)) (workers_of (value_of Workers givens))
+
+  by : (x : Bool) → (if x then run else None) ≡ Some task → AreNamed task
+  by true f = named_by (value_of Rules givens) (value_of From givens) (value_of To givens) (value_of Ledger givens) (value_of Workers givens) _ _ _ _ _ task refl refl refl f
+  by false f = cc
 
 -- the task of words has such roots
 pub task_named : (words : List Text) (task : Task) → task_of words ≡ Some task → AreNamed task
-task_named (run ∷ rules ∷ r ∷ from ∷ a ∷ to ∷ b ∷ ledger ∷ l ∷ []) task e = by (are_options run rules from to ledger) e where
-  by : (x : Bool) → (if x then run_of_roots (root_of r) (root_of a) (root_of b) (root_of l) else None) ≡ Some task → AreNamed task
-  by true f = named_by r a b l (root_of r) (root_of a) (root_of b) (root_of l) task refl refl refl refl f
-  by false f = cc
-task_named (a ∷ b ∷ c ∷ d ∷ e ∷ f ∷ g ∷ h ∷ i ∷ j ∷ ws) task eq = cc
-task_named (a ∷ b ∷ c ∷ d ∷ e ∷ f ∷ g ∷ h ∷ []) task eq = cc
-task_named (a ∷ b ∷ c ∷ d ∷ e ∷ f ∷ g ∷ []) task eq = cc
-task_named (a ∷ b ∷ c ∷ d ∷ e ∷ f ∷ []) task eq = cc
-task_named (a ∷ b ∷ c ∷ d ∷ e ∷ []) task eq = cc
-task_named (a ∷ b ∷ c ∷ d ∷ []) task eq = cc
-task_named (a ∷ b ∷ c ∷ []) task eq = cc
-task_named (a ∷ b ∷ []) task eq = cc
-task_named (a ∷ []) task eq = cc
-task_named [] task eq = cc
+task_named [] task e = cc
+task_named (first ∷ behind) task e = by (list_all is_utf8 (first ∷ behind) && bytes_eq first (codes "run")) (options_of (map word_of behind)) e where
+  by : (x : Bool) (o : Option (List Given)) → (if x then option_and_then task_of_options o else None) ≡ Some task → AreNamed task
+  by true (Some givens) f = options_named givens task f
+  by true None f = cc
+  by false o f = cc
 
 if_some_no : {X : Type 0} (b : Bool) (x : X) (o : Option X) → (if b then Some x else o) ≡ None → (b ≡ false) × (o ≡ None)
 if_some_no true x o e = cc

@@ -1,2 +1,4 @@
+pub mod Options
+pub mod Given
 pub mod Words
 pub mod Roots

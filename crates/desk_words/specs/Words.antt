@@ -1,17 +1,20 @@
 -- What words mean: the task that they ask for, or none.
-use Rattle.std.specs.Prelude.{Bool, true, false, not, ◌&&◌, ◌||◌, ◌==◌, nat_le, List, [], ◌∷◌, Option, Some, None, length, filter, codes, if◌then◌else◌}
-use Rattle.std.specs.List.{slice_split, list_any, starts_with}
+use Rattle.std.specs.Prelude.{ℕ, Bool, true, false, not, ◌&&◌, ◌||◌, ◌==◌, nat_le, List, [], ◌∷◌, Option, Some, None, length, filter, map, codes, if◌then◌else◌}
+use Rattle.std.specs.List.{slice_split, list_any, list_all, starts_with}
+use Rattle.std.specs.Option.{option_and_then}
 use Rattle.std.specs.Str.{bytes_eq, is_utf8}
 use Rattle.desk_base.specs.Names.{Text, is_empty, slash}
 use Rattle.desk_base.specs.Paths.{here, written_root}
+use Rattle.desk_words.specs.declared.options.Name.TheVariants.{Rules, From, To, Ledger, Workers}
 use Rattle.desk_words.specs.declared.roots.Root.{Root}
 use Rattle.desk_words.specs.declared.words.Task.{Task}
 use Rattle.desk_words.specs.declared.words.Task.TheVariants.{Run}
+use Rattle.desk_words.specs.Options.{Given, word_of, options_of, each_once, value_of, workers_of}
 
--- a value of an option: UTF-8, not empty, not beginning with `-`, and of at most 1,024 bytes
+-- a value that may name a root: not empty, and of at most 1,024 bytes
 abbrev pub is_value : Text → Bool
 is_value [] = false
-is_value (first ∷ rest) = not (first == 45) && (nat_le (length (first ∷ rest)) 1024 && is_utf8 (first ∷ rest))
+is_value (first ∷ rest) = nat_le (length (first ∷ rest)) 1024
 
 -- what stands between the `/` of a value
 abbrev pub parts : Text → List Text
@@ -40,22 +43,28 @@ root_of text =
     then Some (record { absolute = is_absolute text; segments = named_parts text })
     else None
 
-abbrev pub run_of_roots : Option Root → Option Root → Option Root → Option Root → Option Task
-run_of_roots (Some rules) (Some from) (Some to) (Some ledger) = Some (Run rules from to ledger 1)
-run_of_roots _ _ _ _ = None
+-- the root of an option's value
+abbrev pub root_at : Option Text → Option Root
+root_at = option_and_then root_of
 
--- whether the words that stand before the values are those of a run
-abbrev pub are_options : Text → Text → Text → Text → Text → Bool
-are_options run rules from to ledger =
-    bytes_eq run (codes "run") && (bytes_eq rules (codes "--rules") && (bytes_eq from (codes "--from") && (bytes_eq to (codes "--to") && bytes_eq ledger (codes "--ledger"))))
+abbrev pub run_of : Option Root → Option Root → Option Root → Option Root → Option ℕ → Option Task
+run_of (Some rules) (Some from) (Some to) (Some ledger) (Some workers) = Some (Run rules from to ledger workers)
+run_of _ _ _ _ _ = None
 
--- the task of words: `run --rules R --from A --to B --ledger L`, in this order, and of no others
-abbrev pub task_of : List Text → Option Task
-task_of (run ∷ rules ∷ r ∷ from ∷ a ∷ to ∷ b ∷ ledger ∷ l ∷ []) =
-    if are_options run rules from to ledger
-    then run_of_roots (root_of r) (root_of a) (root_of b) (root_of l)
+-- the task of options: four roots that must be given, and a number of workers that may be
+abbrev pub task_of_options : List Given → Option Task
+task_of_options givens =
+    if each_once givens
+    then run_of (root_at (value_of Rules givens)) (root_at (value_of From givens)) (root_at (value_of To givens)) (root_at (value_of Ledger givens)) (workers_of (value_of Workers givens))
     else None
-task_of _ = None
+
+-- the task of words: `run` and options behind it, each word in UTF-8; and of no others
+abbrev pub task_of : List Text → Option Task
+task_of [] = None
+task_of (first ∷ behind) =
+    if list_all is_utf8 (first ∷ behind) && bytes_eq first (codes "run")
+    then option_and_then task_of_options (options_of (map word_of behind))
+    else None
 
 -- a root as a text: its segments joined by `/`, after `/` if absolute; `.` if relative without segments
 abbrev pub written : Root → Text

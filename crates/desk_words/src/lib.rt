@@ -1,7 +1,10 @@
 //! The words of a run, and the roots that they name.
 #![tactic(auto)]
 
+mod options;
 mod roots;
+#[cfg(test)]
+mod tests;
 mod words;
 
 pub use roots::{Root, Roots, roots_of_words};

@@ -2,7 +2,6 @@
 
 ghost use Rattle.std.specs.Prelude.{◌≡◌, Some, Ok, Err, IfOk, IfErr, OnOk, option_map, filter, not, ◌++◌, ◌∷◌, []};
 ghost use Rattle.std.specs.List.{list_any};
-ghost use Rattle.std.specs.Str.{is_utf8};
 ghost use Rattle.desk_base.specs.Names.{written as joined};
 ghost use Rattle.desk_words.specs.Words.{is_value, parts, is_upward, is_dropped, named_parts, root_of, written, lies_in, overlap, first_nested};
 ghost use Rattle.desk_report.specs.declared.status.Status.TheVariants.{NestedRoots};
@@ -20,21 +19,13 @@ pub struct Root {
     pub segments: TextList,
 }
 
-/// Whether bytes are UTF-8.
-fn is_utf8(bytes: &[u8]) -> bool
-    ensures { result ≡ is_utf8 bytes.now }
+/// Whether a value may name a root.
+fn is_value(value: &[u8]) -> bool
+    ensures { result ≡ is_value value.now }
 {
-    str::from_utf8(bytes).is_ok()
-}
-
-/// Whether a word may be the value of an option.
-fn is_value(word: &[u8]) -> bool
-    ensures { result ≡ is_value word.now }
-{
-    match word {
+    match value {
         [] => false,
-        [b'-', ..] => false,
-        _ => word.len() <= 1024 && is_utf8(word),
+        _ => value.len() <= 1024,
     }
 }
 

@@ -1,8 +1,14 @@
 //! The words of a run.
 
-ghost use Rattle.std.specs.Prelude.{◌≡◌, Some, None, Err, IfOk};
-ghost use Rattle.desk_words.specs.Words.{root_of, task_of, run_of_roots, are_options};
+ghost use Rattle.std.specs.Prelude.{◌≡◌, Some, None, Err, IfOk, map};
+ghost use Rattle.std.specs.List.{list_all};
+ghost use Rattle.std.specs.Option.{option_and_then};
+ghost use Rattle.std.specs.Str.{is_utf8};
+ghost use Rattle.desk_words.specs.Given.{given_pairs};
+ghost use Rattle.desk_words.specs.Options.{options_of, value_of, word_of};
+ghost use Rattle.desk_words.specs.Words.{root_at, task_of, task_of_options};
 
+use crate::options::{Given, Name, each_once, read_options, value_of, workers_of};
 use crate::roots::Root;
 use desk_base::{Memory, Text};
 use std::alloc::Global;
@@ -37,40 +43,61 @@ impl From<Memory> for WordsFault {
     }
 }
 
-/// Whether words are those of a run, each value standing behind its option.
-fn are_options(run: &Text, rules: &Text, from: &Text, to: &Text, ledger: &Text) -> bool
-    ensures { result ≡ are_options run.now rules.now from.now to.now ledger.now }
+/// Whether a word is UTF-8.
+fn is_utf8(word: &Text) -> bool
+    ensures { result ≡ is_utf8 word.now }
 {
-    run.as_bytes() == b"run".as_slice()
-        && (rules.as_bytes() == b"--rules".as_slice()
-            && (from.as_bytes() == b"--from".as_slice()
-                && (to.as_bytes() == b"--to".as_slice()
-                    && ledger.as_bytes() == b"--ledger".as_slice())))
+    str::from_utf8(word.as_bytes()).is_ok()
 }
 
-/// The task of four values; none where one of them names no root.
-fn run_of_values(
-    alloc: Global,
-    rules: &Text,
-    from: &Text,
-    to: &Text,
-    ledger: &Text,
-) -> Result<Option<Task>, Memory>
-    ensures { IfOk result (λ task. task ≡ run_of_roots (root_of rules.now) (root_of from.now) (root_of to.now) (root_of ledger.now)) }
+/// Whether each word is UTF-8.
+fn are_utf8(words: &[Text]) -> bool
+    ensures { result ≡ list_all is_utf8 words.now }
 {
-    let rules = Root::read(alloc, rules.as_bytes())?;
-    let from = Root::read(alloc, from.as_bytes())?;
-    let to = Root::read(alloc, to.as_bytes())?;
-    let ledger = Root::read(alloc, ledger.as_bytes())?;
-    match (rules, from, to, ledger) {
-        (Some(rules), Some(from), Some(to), Some(ledger)) => Ok(Some(Task::Run {
+    words.iter().all(is_utf8)
+}
+
+/// The root that the value of an option names.
+fn root_at(alloc: Global, options: &[Given<'_>], name: Name) -> Result<Option<Root>, Memory>
+    ensures { IfOk result (λ root. root ≡ root_at (value_of name (given_pairs options.now))) }
+{
+    match value_of(name, options) {
+        Some(value) => Root::read(alloc, value),
+        None => Ok(None),
+    }
+}
+
+/// The task of options, if they have one.
+fn task_of_options(alloc: Global, options: &[Given<'_>]) -> Result<Option<Task>, Memory>
+    ensures { IfOk result (λ task. task ≡ task_of_options (given_pairs options.now)) }
+{
+    if !each_once(options) {
+        return Ok(None);
+    }
+    let rules = root_at(alloc, options, Name::Rules)?;
+    let from = root_at(alloc, options, Name::From)?;
+    let to = root_at(alloc, options, Name::To)?;
+    let ledger = root_at(alloc, options, Name::Ledger)?;
+    let workers = workers_of(value_of(Name::Workers, options));
+    match (rules, from, to, ledger, workers) {
+        (Some(rules), Some(from), Some(to), Some(ledger), Some(workers)) => Ok(Some(Task::Run {
             rules,
             from,
             to,
             ledger,
-            workers: 1,
+            workers,
         })),
         _ => Ok(None),
+    }
+}
+
+/// The task of words behind `run`.
+fn task_behind(alloc: Global, behind: &[Text]) -> Result<Option<Task>, Memory>
+    ensures { IfOk result (λ task. task ≡ option_and_then task_of_options (options_of (map word_of behind.now))) }
+{
+    match read_options(alloc, behind)? {
+        Some(options) => task_of_options(alloc, options.as_slice()),
+        None => Ok(None),
     }
 }
 
@@ -79,16 +106,22 @@ fn task_of(alloc: Global, words: &[Text]) -> Result<Option<Task>, Memory>
     ensures { IfOk result (λ task. task ≡ task_of words.now) }
 {
     match words {
-        [run, rules, r, from, a, to, b, ledger, l] if are_options(run, rules, from, to, ledger) => {
-            run_of_values(alloc, r, a, b, l)
+        [first, behind @ ..] if are_utf8(words) && first.as_bytes() == b"run".as_slice() => {
+            task_behind(alloc, behind)
         }
         _ => Ok(None),
     }
 }
 
-/// Reads words: `run --rules R --from A --to B --ledger L`, in this order. Each value is UTF-8, isn't
-/// empty, doesn't begin with `-`, has at most 1,024 bytes and no part `..`.
-/// Any other words are the fault `Usage`; `Memory` may come at any words.
+/// Reads words: `run`, and behind it the options `--rules R`, `--from A`, `--to B`, `--ledger L` and, if
+/// it is wanted, `--workers N`, in any order. An option is two words, `--name value`, whose second doesn't
+/// begin with `-`, or one word, `--name=value`. Each is given at most once.
+///
+/// A root isn't empty, has at most 1,024 bytes and no part `..`. The number of workers is 1 to 64, in
+/// decimal digits without a sign or a leading zero, and 1 where it isn't given.
+///
+/// Any other words, and words of which one isn't UTF-8, are the fault `Usage`; `Memory` may come at any
+/// words.
 pub fn read_words(alloc: Global, words: &[Text]) -> Result<Task, WordsFault>
     ensures task { IfOk result (λ task. task_of words.now ≡ Some task) }
     ensures usage { result ≡ Err WordsFault.Usage → task_of words.now ≡ None }

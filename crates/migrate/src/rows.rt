@@ -1,7 +1,7 @@
 //! Whole runs over folders, ledger and output in memory.
 
 ghost use Rattle.std.specs.Prelude.{◌≡◌, IfOk, IsTrue};
-ghost use Rattle.desk_base.specs.Paths.{is_full_path};
+ghost use Rattle.desk_base.specs.Paths.{is_full_path, is_relative_path, is_segment};
 
 use desk_base::{Memory, Text};
 use desk_folders::{GenFile, MemoryFolders};
@@ -115,35 +115,122 @@ fn run_of_one(alloc: Global, rule: &[u8], path: &[u8], content: &[u8]) -> Result
     run(alloc, &WORDS, &mut folders, &mut keeper, 10000)
 }
 
+/// The rule of a package and those below it.
+const BELOW: &[u8] = b"javax.servlet.*=jakarta.servlet";
+
 #[test]
-fn a_class_is_not_built(rt: HostRuntime) -> Result<(), Fail> {
-    let ended = run_of_one(rt.alloc(), RULE, b"in/A.class", b"")?;
-    assert_eq!(rt; text_of(&ended), "migrate: 30 not built A.class\n");
-    assert_eq!(rt; ended.code, 30);
-    let deep = run_of_one(rt.alloc(), RULE, b"in/a/b.txt", b"")?;
-    assert_eq!(rt; text_of(&deep), "migrate: 30 not built a/b.txt\n");
-    let bad = run_of_one(rt.alloc(), RULE, b"in/META-INF/services/x", b"web.Init x")?;
+fn a_class_is_refused(rt: HostRuntime) -> Result<(), Fail> {
+    let ended = run_of_one(rt.alloc(), BELOW, b"in/A.class", b"")?;
     assert_eq!(rt;
-        text_of(&bad),
-        "migrate: 30 not built META-INF/services/x\n"
+        text_of(&ended),
+        "refused A.class not-built\ntotal files=1 written=0 kept=0 refused=1 renamed=0 added=0\n"
     );
+    assert_eq!(rt; ended.code, 2);
     Ok(())
 }
 
 #[test]
-fn other_rules_are_no_plain_line(rt: HostRuntime) -> Result<(), Fail> {
-    for rule in [
-        b"a=b\nb=c".as_slice(),
-        b"a.b",
-        b"",
-        b"a=1b",
-        b"a=b\r\n",
-        b"\xff\xfe=b",
-    ] {
-        let ended = run_of_one(rt.alloc(), rule, b"in/a", b"")?;
-        assert_eq!(rt; text_of(&ended), "migrate: 22 plain line\n");
-        assert_eq!(rt; ended.code, 22);
-    }
+fn a_blank_in_a_provider_refuses_the_file(rt: HostRuntime) -> Result<(), Fail> {
+    let ended = run_of_one(rt.alloc(), BELOW, b"in/META-INF/services/x", b"web.Init x")?;
+    assert_eq!(rt;
+        text_of(&ended),
+        "refused META-INF/services/x bad-line at=0\ntotal files=1 written=0 kept=0 refused=1 renamed=0 added=0\n"
+    );
+    assert_eq!(rt; ended.code, 2);
+    Ok(())
+}
+
+#[test]
+fn refused_files_leave_the_others_to_be_written(rt: HostRuntime) -> Result<(), Fail> {
+    let alloc = rt.alloc();
+    let files = vec![in alloc;
+        file(alloc, b"r/renames.properties", BELOW)?,
+        file(alloc, b"in/A.class", b"")?,
+        file(alloc, b"in/a/b.txt", b"x")?,
+    ]?;
+    let mut folders = MemoryFolders::new(alloc, files, Vec::new(alloc))?;
+    let mut keeper = MemoryKeeper::new(alloc, Vec::new(alloc))?;
+    let ended = run(alloc, &WORDS, &mut folders, &mut keeper, 10000)?;
+    assert_eq!(rt;
+        text_of(&ended),
+        "refused A.class not-built\nwritten a/b.txt a/b.txt copy\ntotal files=2 written=1 kept=0 refused=1 renamed=0 added=0\n"
+    );
+    assert_eq!(rt; ended.code, 2);
+    assert_eq!(rt; folders.content(b"out/A.class"), None);
+    assert_eq!(rt; folders.content(b"out/a/b.txt"), Some(b"x".as_slice()));
+    let again = run(alloc, &WORDS, &mut folders, &mut keeper, 10000)?;
+    assert_eq!(rt;
+        text_of(&again),
+        "refused A.class not-built\nkept a/b.txt a/b.txt\ntotal files=2 written=0 kept=1 refused=1 renamed=0 added=0\n"
+    );
+    assert_eq!(rt; again.code, 2);
+    Ok(())
+}
+
+#[test]
+fn an_unselected_file_is_copied_to_its_path(rt: HostRuntime) -> Result<(), Fail> {
+    let alloc = rt.alloc();
+    let files = vec![in alloc;
+        file(alloc, b"r/renames.properties", BELOW)?,
+        file(alloc, b"r/selection.properties", b"bad/*=!\njavax/*=!")?,
+        file(alloc, b"in/bad/A.class", b"\xca\xfe\xba\xbe")?,
+        file(alloc, b"in/javax/servlet/a.txt", b"")?,
+    ]?;
+    let mut folders = MemoryFolders::new(alloc, files, Vec::new(alloc))?;
+    let mut keeper = MemoryKeeper::new(alloc, Vec::new(alloc))?;
+    let ended = run(alloc, &WORDS, &mut folders, &mut keeper, 10000)?;
+    assert_eq!(rt;
+        text_of(&ended),
+        "written bad/A.class bad/A.class copy\nwritten javax/servlet/a.txt javax/servlet/a.txt copy\ntotal files=2 written=2 kept=0 refused=0 renamed=0 added=0\n"
+    );
+    assert_eq!(rt; ended.code, 0);
+    Ok(())
+}
+
+#[test]
+fn a_source_without_files_has_its_totals(rt: HostRuntime) -> Result<(), Fail> {
+    let ended = run_of_one(rt.alloc(), BELOW, b"elsewhere", b"")?;
+    assert_eq!(rt;
+        text_of(&ended),
+        "total files=0 written=0 kept=0 refused=0 renamed=0 added=0\n"
+    );
+    assert_eq!(rt; ended.code, 0);
+    Ok(())
+}
+
+/// Whether a run by these rules ends with this line of bad rules.
+fn is_bad(alloc: Global, rules: &[u8], line: &str) -> Result<bool, Fail> {
+    let ended = run_of_one(alloc, rules, b"in/a", b"")?;
+    Ok(ended.code == 22 && text_of(&ended) == line)
+}
+
+#[test]
+fn faults_of_rule_files_are_told(rt: HostRuntime) -> Result<(), Fail> {
+    let alloc = rt.alloc();
+    assert!(rt; is_bad(alloc, b"", "migrate: 22 no renames\n")?);
+    assert!(rt; is_bad(alloc, b"a=b\nb=c", "migrate: 22 chain 1 a b\n")?);
+    assert!(rt; is_bad(alloc, b"a.*=a.x", "migrate: 22 chain 1 a.* a.*\n")?);
+    assert!(rt;
+        is_bad(
+            alloc,
+            b"a\\u12=b",
+            "migrate: 22 properties renames.properties escape 1\n"
+        )?
+    );
+    assert!(rt;
+        is_bad(
+            alloc,
+            b"a..b=c",
+            "migrate: 22 bad key renames.properties a..b\n"
+        )?
+    );
+    assert!(rt;
+        is_bad(
+            alloc,
+            b"a=b.*",
+            "migrate: 22 bad value renames.properties a\n"
+        )?
+    );
     Ok(())
 }
 
@@ -155,7 +242,7 @@ fn other_words_mean_no_task(rt: HostRuntime) -> Result<(), Fail> {
     let none = run(alloc, &[], &mut folders, &mut keeper, 10000)?;
     assert_eq!(rt;
         text_of(&none),
-        "migrate: 20 usage: migrate run --rules R --from A --to B --ledger L\n"
+        "migrate: 20 usage: migrate run --rules R --from A --to B --ledger L [--workers N]\n"
     );
     assert_eq!(rt; none.code, 20);
     let few = run(
@@ -179,20 +266,69 @@ fn other_words_mean_no_task(rt: HostRuntime) -> Result<(), Fail> {
 }
 
 #[test]
-fn two_files_of_one_target_are_not_built(rt: HostRuntime) -> Result<(), Fail> {
+fn two_files_of_one_target_clash(rt: HostRuntime) -> Result<(), Fail> {
     let alloc = rt.alloc();
     let files = vec![in alloc;
-        file(alloc, b"r/renames.properties", RULE)?,
-        file(alloc, b"in/META-INF/services/javax.servlet.F", b"")?,
-        file(alloc, b"in/META-INF/services/jakarta.servlet.F", b"")?,
+        file(alloc, b"r/renames.properties", b"javax.x=jakarta.x")?,
+        file(alloc, b"in/javax/x/a.txt", b"")?,
+        file(alloc, b"in/jakarta/x/a.txt", b"")?,
     ]?;
     let mut folders = MemoryFolders::new(alloc, files, Vec::new(alloc))?;
     let mut keeper = MemoryKeeper::new(alloc, Vec::new(alloc))?;
     let ended = run(alloc, &WORDS, &mut folders, &mut keeper, 10000)?;
     assert_eq!(rt;
         text_of(&ended),
-        "migrate: 30 not built META-INF/services/jakarta.servlet.F\n"
+        "migrate: 24 path clash jakarta/x/a.txt javax/x/a.txt\n"
     );
+    assert_eq!(rt; ended.code, 24);
+    Ok(())
+}
+
+/// Whether a text is a name of a file or folder.
+fn is_name(name: &[u8]) -> bool
+    ensures { result ≡ is_segment name.now }
+{
+    !name.is_empty() && name != b".".as_slice() && name != b"..".as_slice()
+}
+
+/// Whether a path is one or more names joined by `/`.
+fn is_relative(path: &[u8]) -> bool
+    ensures { result ≡ is_relative_path path.now }
+{
+    path.split(|byte| *byte == b'/').all(|name| is_name(name))
+}
+
+/// Whether a path is full.
+fn is_full(path: &[u8]) -> bool
+    ensures { result ≡ is_full_path path.now }
+{
+    match path {
+        [] => false,
+        [first, rest @ ..] => is_relative(path) || (*first == b'/' && is_relative(rest)),
+    }
+}
+
+/// How a run ends over one file whose relative path has so many bytes.
+fn run_of_length(alloc: Global, length: usize) -> Result<Ended, Fail> {
+    let mut path = Text::from_bytes(alloc, b"in/")?;
+    for _ in 0..length {
+        path.push(b'a')?;
+    }
+    if is_full(path.as_bytes()) {
+        run_of_one(alloc, RULE, path.as_bytes(), b"")
+    } else {
+        Err(Fail::from("no path"))
+    }
+}
+
+#[test]
+fn a_path_has_at_most_1024_bytes(rt: HostRuntime) -> Result<(), Fail> {
+    let alloc = rt.alloc();
+    let long = run_of_length(alloc, 1025)?;
+    assert!(rt; text_of(&long).starts_with("migrate: 23 limit path-length aaaa"));
+    assert_eq!(rt; long.code, 23);
+    let short = run_of_length(alloc, 1024)?;
+    assert_eq!(rt; short.code, 0);
     Ok(())
 }
 

@@ -11,7 +11,7 @@ returns-in-Ok-clause-stands g c = λ m l ef ek.
 
 pub returns-in-Ok-clause-first : goal.returns-in-Ok-clause-first
 returns-in-Ok-clause-first g c = λ m l ef ek.
-    finish_first c.args.words.now m l c.in-Ok.prepared.to c.in-Ok.prepared.header c.in-Ok.prepared.works.items _ _ _ _ _ (c.in-Ok.ensures.planned m l ef ek) c.finish.ensures.finishes
+    finish_first c.args.words.now m l c.in-Ok.prepared.to c.in-Ok.prepared.header c.in-Ok.prepared.works.items _ (c.in-Ok.ensures.planned m l ef ek) c.finish.ensures.ends
 
 pub returns-in-Ok-clause-output : goal.returns-in-Ok-clause-output
 returns-in-Ok-clause-output g c =

@@ -1,14 +1,28 @@
+use Rattle.std.proofs.Common.{ap, sym, subst, ◌∙◌}
+use Rattle.desk_file.specs.Images.{target}
+use Rattle.desk_run.specs.Halts.{HaltsClashing, clash_of}
 use Rattle.desk_run.specs.Meaning.{run_of}
-use Rattle.desk_run.proofs.Gathering.{ok_inputs, ok_relative, err_check}
+use Rattle.desk_run.proofs.Gathering.{are_read, halts_clash, halts_paths, inputs_read, places_listed}
 use Rattle.desk_run.proofs.gather.read_inputs.Goals as goal
 
-pub returns-in-Ok-clause-inputs : goal.returns-in-Ok-clause-inputs
-returns-in-Ok-clause-inputs g c =
-    ok_inputs (run_of c.args.names.now c.args.ruled.now) _ c.in-Ok.sources.items c.check_all.result c.in-Ok.ensures.sources c.in-Ok.ensures.listed c.check_all.ensures.inputs c.check_all.ensures.fit
+pub read_all-requires : goal.read_all-requires
+read_all-requires g c = places_listed c.args.names.now.from (target c.args.ruled.now.rules) _ _ c.in-Ok.places.items c.in-Ok.ensures.told c.in-Ok.ensures.places
 
-pub returns-in-Ok-clause-relative : goal.returns-in-Ok-clause-relative
-returns-in-Ok-clause-relative g c = ok_relative c.in-Ok.sources.items c.check_all.result c.check_all.ensures.inputs c.in-Ok.ensures.relative
+pub returns-in-Err-clause-err : goal.returns-in-Err-clause-err
+returns-in-Err-clause-err g c = halts_paths (run_of c.args.names.now c.args.ruled.now) _ _ _ c.in-Err.halt c.in-Err.ensures.err
 
-pub returns-in-Ok-clause-err : goal.returns-in-Ok-clause-err
-returns-in-Ok-clause-err g c =
-    err_check (run_of c.args.names.now c.args.ruled.now) _ c.in-Ok.sources.items _ _ c.check_all.result c.in-Ok.ensures.sources c.in-Ok.ensures.listed c.check_all.ensures.err
+pub returns-in-Ok-refuse_clash-clause-inputs : goal.returns-in-Ok-refuse_clash-clause-inputs
+returns-in-Ok-refuse_clash-clause-inputs g c =
+    let run = run_of c.args.names.now c.args.ruled.now in
+    let all = c.in-Ok-read_all.ensures in
+    inputs_read run _ c.in-Ok-read_all.inputs.items
+    (are_read run _ _ c.in-Ok.places.items c.in-Ok-read_all.inputs.items c.in-Ok.ensures.told c.in-Ok.ensures.places c.in-Ok.ensures.clear all.inputs all.fit)
+    (sym (ap clash_of c.deref.ensures.value) ∙ c.in-Ok-refuse_clash.ensures.ok)
+
+pub returns-in-Err-refuse_clash-clause-err : goal.returns-in-Err-refuse_clash-clause-err
+returns-in-Err-refuse_clash-clause-err g c =
+    let run = run_of c.args.names.now c.args.ruled.now in
+    let all = c.in-Ok-read_all.ensures in
+    halts_clash run _ c.in-Ok-read_all.inputs.items _ _ c.in-Err-refuse_clash.halt
+    (are_read run _ _ c.in-Ok.places.items c.in-Ok-read_all.inputs.items c.in-Ok.ensures.told c.in-Ok.ensures.places c.in-Ok.ensures.clear all.inputs all.fit)
+    (subst (λ inputs. HaltsClashing inputs c.in-Err-refuse_clash.halt) c.deref.ensures.value c.in-Err-refuse_clash.ensures.err)

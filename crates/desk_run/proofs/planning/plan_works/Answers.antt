@@ -1,11 +1,11 @@
 use Rattle.std.proofs.Common.{rules, ◌≡◌, ◌∙◌, ap, sym, map, map-id}
 use Rattle.std.proofs.lemmas.Iterator.Adapters.{YieldsList-from_vec}
 use Rattle.std.proofs.lemmas.Iterator.Consumers.{YieldsList-end}
-use Rattle.desk_run.specs.Images.{image}
+use Rattle.desk_file.specs.Images.{image}
 use Rattle.desk_run.specs.Inputs.{work_of_input}
 use Rattle.desk_run.specs.declared.files.Input.{Input}
 use Rattle.desk_run.specs.declared.planning.Work.{Work}
-use Rattle.desk_run.proofs.Reading.{at_some, if_some, mapped_more}
+use Rattle.desk_run.proofs.Parts.{at_some, if_some, mapped_more}
 use Rattle.desk_run.proofs.planning.plan_works.Goals as goal
 
 pub loop-input-preserved : goal.loop-input-preserved

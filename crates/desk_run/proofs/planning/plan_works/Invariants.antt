@@ -1,6 +1,6 @@
 use Rattle.std.proofs.Common.{◌≡◌, ◌≤◌, map, Some}
 use Rattle.desk_ledger.specs.Ledger.{Ledger}
-use Rattle.desk_run.specs.Images.{image}
+use Rattle.desk_file.specs.Images.{image}
 use Rattle.desk_run.specs.Inputs.{work_of_input}
 use Rattle.desk_run.specs.declared.files.Input.{Input}
 use Rattle.desk_run.specs.declared.planning.Work.{Work}

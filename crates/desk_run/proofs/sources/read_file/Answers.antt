@@ -1,5 +1,5 @@
 use Rattle.std.proofs.Common.{rules, arith}
-use Rattle.desk_run.proofs.Reading.{front_more}
+use Rattle.desk_run.proofs.Parts.{front_more}
 use Rattle.desk_run.proofs.sources.read_file.Goals as goal
 
 pub loop-text-preserved : goal.loop-text-preserved

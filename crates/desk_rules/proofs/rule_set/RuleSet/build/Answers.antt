@@ -1,29 +1,42 @@
-use Rattle.std.proofs.Common.{◌≡◌, ◌∙◌, ap, sym, Some}
-use Rattle.std.specs.FinMap as map
-use Rattle.desk_rules.specs.Files.{renames_name}
-use Rattle.desk_rules.specs.RuleFiles.{rules_of_content}
-use Rattle.desk_rules.proofs.Built.{built_files, refused_files}
-use Rattle.desk_rules.proofs.PlainLaws.{reads_plain_lines}
+use Rattle.std.proofs.Common.{◌≡◌, ◌∙◌, ap, sym}
+use Rattle.std.proofs.lemmas.Result.{err_from_is_err_and}
+use Rattle.desk_rules.specs.RuleSets.{rules_of}
+use Rattle.desk_rules.specs.RuleFiles.{rules_of_files, settled}
+use Rattle.desk_rules.proofs.Faults.{read_whole, refused_whole}
+use Rattle.desk_rules.proofs.Builds.{versions_refused, bundles_refused, direct_refused, selection_refused, texts_refused, all_read}
 use Rattle.desk_rules.proofs.rule_set.RuleSet.build.Goals as goal
+
+pub returns-in_err-versions-clause-refused : goal.returns-in_err-versions-clause-refused
+returns-in_err-versions-clause-refused c =
+    let p = err_from_is_err_and c.from_residual-in_err-versions.result c.from_residual-in_err-versions.ensures.1 in
+    rw (p.1, p.2) (versions_refused c.args.files.now c.in_ok-renames.renames.items c.in_ok-renames.ensures.read c.in_err-versions.field-0.0 c.in_err-versions.ensures.refused)
+
+pub returns-in_err-bundles-clause-refused : goal.returns-in_err-bundles-clause-refused
+returns-in_err-bundles-clause-refused c =
+    let p = err_from_is_err_and c.from_residual-in_err-bundles.result c.from_residual-in_err-bundles.ensures.1 in
+    rw (p.1, p.2) (bundles_refused c.args.files.now c.in_ok-renames.renames.items c.in_ok-renames.ensures.read c.in_ok-versions.versions.items c.in_ok-versions.ensures.read c.in_err-bundles.field-0.0 c.in_err-bundles.ensures.refused)
+
+pub returns-in_err-direct-clause-refused : goal.returns-in_err-direct-clause-refused
+returns-in_err-direct-clause-refused c =
+    let p = err_from_is_err_and c.from_residual-in_err-direct.result c.from_residual-in_err-direct.ensures.1 in
+    rw (p.1, p.2) (direct_refused c.args.files.now c.in_ok-renames.renames.items c.in_ok-renames.ensures.read c.in_ok-versions.versions.items c.in_ok-versions.ensures.read c.in_ok-bundles.bundles.items c.in_ok-bundles.ensures.read c.in_err-direct.field-0.0 c.in_err-direct.ensures.refused)
+
+pub returns-in_err-selection-clause-refused : goal.returns-in_err-selection-clause-refused
+returns-in_err-selection-clause-refused c =
+    let p = err_from_is_err_and c.from_residual-in_err-selection.result c.from_residual-in_err-selection.ensures.1 in
+    rw (p.1, p.2) (selection_refused c.args.files.now c.in_ok-renames.renames.items c.in_ok-renames.ensures.read c.in_ok-versions.versions.items c.in_ok-versions.ensures.read c.in_ok-bundles.bundles.items c.in_ok-bundles.ensures.read c.in_ok-direct.direct.items c.in_ok-direct.ensures.read c.in_err-selection.field-0.0 c.in_err-selection.ensures.refused)
+
+pub returns-in_err-texts-clause-refused : goal.returns-in_err-texts-clause-refused
+returns-in_err-texts-clause-refused c =
+    let p = err_from_is_err_and c.from_residual-in_err-texts.result c.from_residual-in_err-texts.ensures.1 in
+    rw (p.1, p.2) (texts_refused c.args.files.now c.in_ok-renames.renames.items c.in_ok-renames.ensures.read c.in_ok-versions.versions.items c.in_ok-versions.ensures.read c.in_ok-bundles.bundles.items c.in_ok-bundles.ensures.read c.in_ok-direct.direct.items c.in_ok-direct.ensures.read c.in_ok-selection.selection c.in_ok-selection.ensures.read c.in_err-texts.field-0.0 c.in_err-texts.ensures.refused)
 
 pub returns-clause-built : goal.returns-clause-built
 returns-clause-built c =
-    let there : map.get c.args.files.now renames_name ≡ Some c.in-Some.line.now = ap (map.get c.args.files.now) (sym c.in_ok-name.ensures) ∙ c.in-Some.ensures in
-    built_files c.args.files.now c.in-Some.line.now c.of_line.result there c.of_line.ensures.built
+    read_whole (rules_of_files c.args.files.now) (settled (rules_of c.in_ok-renames.renames.items c.in_ok-versions.versions.items c.in_ok-bundles.bundles.items c.in_ok-direct.direct.items c.in_ok-selection.selection c.in_ok-texts.texts)) (λ rules. rules) c.settled.result
+    (all_read c.args.files.now c.in_ok-renames.renames.items c.in_ok-renames.ensures.read c.in_ok-versions.versions.items c.in_ok-versions.ensures.read c.in_ok-bundles.bundles.items c.in_ok-bundles.ensures.read c.in_ok-direct.direct.items c.in_ok-direct.ensures.read c.in_ok-selection.selection c.in_ok-selection.ensures.read c.in_ok-texts.texts c.in_ok-texts.ensures.read) c.settled.ensures.built
 
 pub returns-clause-refused : goal.returns-clause-refused
 returns-clause-refused c =
-    let there : map.get c.args.files.now renames_name ≡ Some c.in-Some.line.now = ap (map.get c.args.files.now) (sym c.in_ok-name.ensures) ∙ c.in-Some.ensures in
-    refused_files c.args.files.now c.in-Some.line.now c.of_line.result there c.of_line.ensures.refused
-
-pub returns-in-None-clause-refused : goal.returns-in-None-clause-refused
-returns-in-None-clause-refused c = ap rules_of_content (ap (map.get c.args.files.now) (sym c.in_ok-name.ensures) ∙ c.in-None.ensures)
-
-pub returns-in_err-name-clause-plain : goal.returns-in_err-name-clause-plain
-returns-in_err-name-clause-plain c = reads_plain_lines
-
-pub returns-in-None-clause-plain : goal.returns-in-None-clause-plain
-returns-in-None-clause-plain c = reads_plain_lines
-
-pub returns-clause-plain : goal.returns-clause-plain
-returns-clause-plain c = reads_plain_lines
+    refused_whole (rules_of_files c.args.files.now) (settled (rules_of c.in_ok-renames.renames.items c.in_ok-versions.versions.items c.in_ok-bundles.bundles.items c.in_ok-direct.direct.items c.in_ok-selection.selection c.in_ok-texts.texts)) c.settled.result
+    (all_read c.args.files.now c.in_ok-renames.renames.items c.in_ok-renames.ensures.read c.in_ok-versions.versions.items c.in_ok-versions.ensures.read c.in_ok-bundles.bundles.items c.in_ok-bundles.ensures.read c.in_ok-direct.direct.items c.in_ok-direct.ensures.read c.in_ok-selection.selection c.in_ok-selection.ensures.read c.in_ok-texts.texts c.in_ok-texts.ensures.read) c.settled.ensures.refused

@@ -1,49 +1,60 @@
-use Rattle.std.proofs.Common.{◌≡◌, ◌∙◌, ap, sym, subst, length, map, true}
+use Rattle.std.proofs.Common.{◌≡◌, ◌∙◌, ◌==◌, ap, sym, subst, cond, length, List, ℕ}
 use Rattle.desk_base.specs.Names.{segments}
-use Rattle.desk_rules.specs.Keys.{spelled}
+use Rattle.desk_rules.specs.Renames.{Renaming, pick}
 use Rattle.desk_rules.specs.Rules.{Rules}
-use Rattle.desk_rules.specs.RuleSets.{IsRuleSet, IsFrontOf, changing_pick}
-use Rattle.desk_rules.proofs.OneRule.{one_rule_set, front_found, no_front, unchanging_front}
-use Rattle.desk_rules.proofs.Laws.{packages_stay, dotted_stay, dotted_keep_form}
+use Rattle.desk_rules.specs.Keys.{HoldsPlaces, sources_of}
+use Rattle.desk_rules.specs.RuleSets.{IsFrontOf}
+use Rattle.desk_rules.proofs.Kept.{rule_set_by}
+use Rattle.desk_rules.proofs.SourceLaws.{held_by}
+use Rattle.desk_rules.proofs.FrontLaws.{front_found}
+use Rattle.desk_rules.proofs.Laws.{packages_stay, classes_stay, classes_keep_form, dotted_stay, dotted_keep_form}
 use Rattle.desk_rules.proofs.rule_set.RuleSet.package.Goals as goal
-use Rattle.desk_rules.proofs.rule_set.RuleSet.package.Goals.{else-self-via-then-self+else-is_spelled, else-self-via-else-self}
 
-pub returns-then-is_spelled-clause-settled : goal.returns-then-is_spelled-clause-settled
-returns-then-is_spelled-clause-settled c = subst IsRuleSet c.self.view_is (one_rule_set c.self.inside.source c.self.inside.target c.self.inside.changes c.self.invariant)
+pub picked-requires-clause-held : goal.picked-requires-clause-held
+picked-requires-clause-held c =
+    subst (λ (b : List (List ℕ)). HoldsPlaces b (sources_of c.args.separator c.deref.result.now)) (sym c.sources_by-sources.ensures)
+    (subst (λ (rs : List Renaming). HoldsPlaces (cond (c.args.separator == 47) c.self.inside.slashed_sources c.self.inside.dotted_sources) (sources_of c.args.separator rs)) (sym c.deref.ensures.value)
+    (held_by c.args.separator c.requires c.self.inside.renames.items c.self.inside.dotted_sources c.self.inside.slashed_sources c.self.invariant.dotted_held c.self.invariant.slashed_held))
 
-pub returns-then-is_spelled-clause-packages_stay : goal.returns-then-is_spelled-clause-packages_stay
-returns-then-is_spelled-clause-packages_stay c = packages_stay c.args.self.now (subst IsRuleSet c.self.view_is (one_rule_set c.self.inside.source c.self.inside.target c.self.inside.changes c.self.invariant))
+pub returns-in-Some-clause-answer : goal.returns-in-Some-clause-answer
+returns-in-Some-clause-answer c =
+    subst (λ (r : Rules). IsFrontOf r.renames c.args.separator c.args.path.now (length c.source_text.result.now) c.target.result.now) c.self.view_is
+    (front_found c.self.inside.renames.items c.self.invariant.table c.args.separator c.args.path.now c.in-Some.rename.now
+    (ap (λ (rs : List Renaming). pick rs (segments c.args.separator c.args.path.now)) (sym c.deref.ensures.value) ∙ c.in-Some.ensures)
+    (sym c.changes.ensures ∙ c.if-changes.true) _ _ (ap length c.source_text.ensures) c.target.ensures)
 
-pub returns-then-is_spelled-clause-dotted_stay : goal.returns-then-is_spelled-clause-dotted_stay
-returns-then-is_spelled-clause-dotted_stay c = dotted_stay c.args.self.now (subst IsRuleSet c.self.view_is (one_rule_set c.self.inside.source c.self.inside.target c.self.inside.changes c.self.invariant))
+pub returns-in-Some-clause-settled : goal.returns-in-Some-clause-settled
+returns-in-Some-clause-settled c = rule_set_by c.self.invariant c.args.self.now c.self.view_is
 
-pub returns-then-is_spelled-clause-dotted_keep_form : goal.returns-then-is_spelled-clause-dotted_keep_form
-returns-then-is_spelled-clause-dotted_keep_form c = dotted_keep_form c.args.self.now (subst IsRuleSet c.self.view_is (one_rule_set c.self.inside.source c.self.inside.target c.self.inside.changes c.self.invariant))
+pub returns-in-Some-clause-packages_stay : goal.returns-in-Some-clause-packages_stay
+returns-in-Some-clause-packages_stay c = packages_stay c.args.self.now (rule_set_by c.self.invariant c.args.self.now c.self.view_is)
 
-pub returns-else-self-clause-settled : goal.returns-else-self-clause-settled
-returns-else-self-clause-settled c = subst IsRuleSet c.self.view_is (one_rule_set c.self.inside.source c.self.inside.target c.self.inside.changes c.self.invariant)
+pub returns-in-Some-clause-classes_stay : goal.returns-in-Some-clause-classes_stay
+returns-in-Some-clause-classes_stay c = classes_stay c.args.self.now (rule_set_by c.self.invariant c.args.self.now c.self.view_is)
 
-pub returns-else-self-clause-packages_stay : goal.returns-else-self-clause-packages_stay
-returns-else-self-clause-packages_stay c = packages_stay c.args.self.now (subst IsRuleSet c.self.view_is (one_rule_set c.self.inside.source c.self.inside.target c.self.inside.changes c.self.invariant))
+pub returns-in-Some-clause-classes_keep_form : goal.returns-in-Some-clause-classes_keep_form
+returns-in-Some-clause-classes_keep_form c = classes_keep_form c.args.self.now (rule_set_by c.self.invariant c.args.self.now c.self.view_is)
 
-pub returns-else-self-clause-dotted_stay : goal.returns-else-self-clause-dotted_stay
-returns-else-self-clause-dotted_stay c = dotted_stay c.args.self.now (subst IsRuleSet c.self.view_is (one_rule_set c.self.inside.source c.self.inside.target c.self.inside.changes c.self.invariant))
+pub returns-in-Some-clause-dotted_stay : goal.returns-in-Some-clause-dotted_stay
+returns-in-Some-clause-dotted_stay c = dotted_stay c.args.self.now (rule_set_by c.self.invariant c.args.self.now c.self.view_is)
 
-pub returns-else-self-clause-dotted_keep_form : goal.returns-else-self-clause-dotted_keep_form
-returns-else-self-clause-dotted_keep_form c = dotted_keep_form c.args.self.now (subst IsRuleSet c.self.view_is (one_rule_set c.self.inside.source c.self.inside.target c.self.inside.changes c.self.invariant))
+pub returns-in-Some-clause-dotted_keep_form : goal.returns-in-Some-clause-dotted_keep_form
+returns-in-Some-clause-dotted_keep_form c = dotted_keep_form c.args.self.now (rule_set_by c.self.invariant c.args.self.now c.self.view_is)
 
-pub returns-then-is_spelled-clause-answer : goal.returns-then-is_spelled-clause-answer
-returns-then-is_spelled-clause-answer c =
-    let is : c.self.inside.source ≡ map (spelled c.args.separator) c.args.path.now = sym c.as_bytes.ensures ∙ c.is_spelled.ensures.0 c.if-is_spelled.true in
-    subst (λ (r : Rules). IsFrontOf r.renames c.args.separator c.args.path.now (length c.args.path.now) c.self.inside.target) c.self.view_is
-    (front_found c.args.separator c.requires c.self.inside.source c.args.path.now c.self.inside.target c.self.inside.changes c.self.invariant c.if-self.true is)
+pub returns-in_default-clause-settled : goal.returns-in_default-clause-settled
+returns-in_default-clause-settled c = rule_set_by c.self.invariant c.args.self.now c.self.view_is
 
-pub returns-else-self-clause-answer : goal.returns-else-self-clause-answer
-returns-else-self-clause-answer c =
-    ap (λ (r : Rules). changing_pick r.renames (segments c.args.separator c.args.path.now)) (sym c.self.view_is)
-    ∙ (elim c.else-self.branch [
-      | else-self-via-then-self+else-is_spelled w ↦
-          no_front c.args.separator c.requires c.self.inside.source c.args.path.now c.self.inside.target c.self.inside.changes c.self.invariant
-          (λ is. let yes : w.is_spelled.result ≡ true = w.is_spelled.ensures.1 (w.as_bytes.ensures ∙ is) in absurd (cc (yes, w.if-is_spelled.false)))
-      | else-self-via-else-self w ↦ unchanging_front c.self.inside.source c.self.inside.target _ c.self.inside.changes c.self.invariant w.if-self.false
-    ])
+pub returns-in_default-clause-packages_stay : goal.returns-in_default-clause-packages_stay
+returns-in_default-clause-packages_stay c = packages_stay c.args.self.now (rule_set_by c.self.invariant c.args.self.now c.self.view_is)
+
+pub returns-in_default-clause-classes_stay : goal.returns-in_default-clause-classes_stay
+returns-in_default-clause-classes_stay c = classes_stay c.args.self.now (rule_set_by c.self.invariant c.args.self.now c.self.view_is)
+
+pub returns-in_default-clause-classes_keep_form : goal.returns-in_default-clause-classes_keep_form
+returns-in_default-clause-classes_keep_form c = classes_keep_form c.args.self.now (rule_set_by c.self.invariant c.args.self.now c.self.view_is)
+
+pub returns-in_default-clause-dotted_stay : goal.returns-in_default-clause-dotted_stay
+returns-in_default-clause-dotted_stay c = dotted_stay c.args.self.now (rule_set_by c.self.invariant c.args.self.now c.self.view_is)
+
+pub returns-in_default-clause-dotted_keep_form : goal.returns-in_default-clause-dotted_keep_form
+returns-in_default-clause-dotted_keep_form c = dotted_keep_form c.args.self.now (rule_set_by c.self.invariant c.args.self.now c.self.view_is)

@@ -1,0 +1,47 @@
+#!/usr/bin/env python3
+"""Writes rule files of 10 and 1,000 rules, and prints the times of look-ups as ratios to those of hashing."""
+import os
+import resource
+import subprocess
+import sys
+
+program, folder = sys.argv[1], sys.argv[2]
+NAMES, TIMES, ROUNDS = 100_000, 40, 5
+
+with open(os.path.join(folder, "classes")) as file:
+    classes = [line.strip() for line in file if "/" in line]
+names = (classes * (NAMES // len(classes) + 1))[:NAMES]
+with open(os.path.join(folder, "names"), "w") as file:
+    file.write("\n".join(names) + "\n")
+packages = sorted({name.rsplit("/", 1)[0].replace("/", ".") for name in classes})
+
+
+def rules(count):
+    """Rules for real packages at even distances, every other one for what lies below it too, and made up ones to fill up."""
+    real = packages[:: max(1, len(packages) // count)][: count // 2]
+    made = [f"org.made{i % 40}.part{i}" for i in range(count - len(real))]
+    path = os.path.join(folder, f"rules-{count}")
+    with open(path, "w") as file:
+        for i, package in enumerate(real + made):
+            file.write(f"{package}{'.*' if i % 2 else ''}=renamed{i}.x\n")
+    return path
+
+
+def seconds(mode, times, path):
+    before = resource.getrusage(resource.RUSAGE_CHILDREN).ru_utime
+    with open(os.path.join(folder, "names"), "rb") as file:
+        subprocess.run([program, mode, str(times), path], stdin=file, stdout=subprocess.DEVNULL, check=True)
+    return resource.getrusage(resource.RUSAGE_CHILDREN).ru_utime - before
+
+
+def best(mode, path):
+    return min(seconds(mode, TIMES, path) - seconds(mode, 0, path) for _ in range(ROUNDS))
+
+
+few, many = rules(10), rules(1000)
+hashing = best("hash", few)
+ten, thousand = best("look", few), best("look", many)
+print(f"hashing {NAMES} names: {hashing / TIMES * 1000:.2f} ms a pass")
+print(f"among 10 rules: {ten / hashing:.2f} times hashing, {NAMES * TIMES / ten / 1e6:.1f} million look-ups a second (aim: at most 4)")
+print(f"among 1,000 rules: {thousand / hashing:.2f} times hashing, {NAMES * TIMES / thousand / 1e6:.1f} million look-ups a second (aim: at most 4)")
+print(f"1,000 rules against 10: {thousand / ten:.2f} (aim: at most 2)")

@@ -1,0 +1,18 @@
+#!/bin/sh
+# Times the look-up of packages among 10 and among 1,000 rules, over 100,000 class names of a JDK, against one hash of the
+# same names.
+#
+# It needs python3, a JDK with its jmods, and `rt` on the path, and writes into a temporary folder.
+set -eu
+here=$(cd "$(dirname "$0")/.." && pwd)
+work=$(mktemp -d)
+trap 'rm -rf "$work"' EXIT
+
+command -v javac >/dev/null || { echo "skipped: no JDK is here"; exit 0; }
+jdk=$(dirname "$(dirname "$(readlink -f "$(command -v javac)")")")
+for module in "$jdk"/jmods/*.jmod; do
+    "$jdk/bin/jmod" list "$module"
+done | sed -n 's,^classes/\(.*\)\.class$,\1,p' >"$work/classes"
+program=$here/crates/bench_rules/out/bench_rules
+[ -x "$program" ] || (cd "$here/crates/bench_rules" && rt run >/dev/null)
+exec python3 "$here/bench/rules.py" "$program" "$work"

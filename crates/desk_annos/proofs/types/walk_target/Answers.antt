@@ -1,0 +1,7 @@
+use Rattle.std.proofs.Common.{arith}
+use Rattle.std.proofs.lemmas.Bool.Decides.{nat_tests}
+use Rattle.desk_annos.proofs.Steps.{nothing_selected}
+use Rattle.desk_annos.proofs.types.walk_target.Goals as goal
+
+pub returns-in-19-to-21-clause-walks : goal.returns-in-19-to-21-clause-walks
+returns-in-19-to-21-clause-walks g c = nothing_selected _ _ _ _ _ _ _ c.in-Ok.ensures.ok (grind (arith, nat_tests)) (grind (arith, nat_tests))

@@ -1,0 +1,15 @@
+//! Walks over attributes (JVMS 4.7): each by its name and its place, with its body fenced by its length.
+#![tactic(auto)]
+
+mod attributes;
+mod bodies;
+mod names;
+mod parts;
+mod places;
+
+pub use attributes::{walk_attribute, walk_attributes};
+pub use desk_annos::walk_rows;
+pub use desk_format::{Place, Slot};
+
+#[cfg(test)]
+mod tests;

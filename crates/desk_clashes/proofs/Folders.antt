@@ -1,0 +1,125 @@
+-- Folders of texts.
+use Rattle.std.proofs.Common.{◌≡◌, ℕ, ◌<◌, ◌≤◌, Bool, true, false, cond, ◌||◌, ◌&&◌, eqb, List, [], ◌∷◌, ◌++◌, length, take, get_or, map, refl, sym, ap, ◌∙◌, append_assoc, arith}
+use Rattle.std.specs.List.{list_any}
+use Rattle.std.specs.Str.{bytes_eq}
+use Rattle.std.proofs.lemmas.List.{append-nil, map-append}
+use Rattle.std.proofs.lemmas.List.Folds.{list_any-append}
+use Rattle.std.proofs.lemmas.Bool.Decides.{nat_tests}
+use Rattle.desk_base.specs.Names.{Text, slash}
+use Rattle.desk_clashes.specs.Clashes.{clashes, is_folder}
+use Rattle.desk_clashes.specs.Known.{folders_of}
+
+eqb_swap : (x y : ℕ) → eqb x y ≡ eqb y x
+eqb_swap x y = grind (arith, nat_tests)
+
+and_false : (b : Bool) → (b && false) ≡ false
+and_false true = refl
+and_false false = refl
+
+and_swap : (p e b : Bool) → (p && (e && b)) ≡ (e && (p && b))
+and_swap true e b = refl
+and_swap false true b = refl
+and_swap false false b = refl
+
+and_or : (e p q : Bool) → ((e && p) || (e && q)) ≡ (e && (p || q))
+and_or true p q = refl
+and_or false p q = refl
+
+or_mid : (a b c d : Bool) → ((a || b) || (c || d)) ≡ ((a || c) || (b || d))
+or_mid true b c d = refl
+or_mid false true true d = refl
+or_mid false true false d = refl
+or_mid false false true d = refl
+or_mid false false false d = refl
+
+pub bytes_swap : (a b : Text) → bytes_eq a b ≡ bytes_eq b a
+bytes_swap [] [] = refl
+bytes_swap [] (y ∷ b) = refl
+bytes_swap (x ∷ a) [] = refl
+bytes_swap (x ∷ a) (y ∷ b) = ap (λ v. v && bytes_eq a b) (eqb_swap x y) ∙ ap (λ v. eqb y x && v) (bytes_swap a b)
+
+pub folder_short : (a b : Text) → length b ≤ length a → is_folder a b ≡ false
+folder_short [] [] h = refl
+folder_short [] (y ∷ b) h = absurd (omega arith)
+folder_short (x ∷ a) [] h = refl
+folder_short (x ∷ a) (y ∷ b) h = ap (λ v. eqb x y && v) (folder_short a b (omega arith)) ∙ and_false (eqb x y)
+
+pub folder_long : (a b : Text) → length a < length b → is_folder a b ≡ (eqb (get_or b (length a) 0) slash && bytes_eq (take (length a) b) a)
+folder_long [] [] h = absurd (omega arith)
+folder_long [] (y ∷ b) h = ap (λ v. v && true) (eqb_swap slash y)
+folder_long (x ∷ a) [] h = absurd (omega arith)
+folder_long (x ∷ a) (y ∷ b) h =
+    ap (λ v. eqb x y && v) (folder_long a b (omega arith))
+    ∙ and_swap (eqb x y) (eqb (get_or b (length a) 0) slash) (bytes_eq (take (length a) b) a)
+    ∙ ap (λ v. eqb (get_or b (length a) 0) slash && (v && bytes_eq (take (length a) b) a)) (eqb_swap x y)
+
+pub list_any-or : {X : Type 0} (p q : X → Bool) (xs : List X) → list_any (λ x. p x || q x) xs ≡ (list_any p xs || list_any q xs)
+list_any-or p q [] = refl
+list_any-or p q (x ∷ xs) = ap (λ b. (p x || q x) || b) (list_any-or p q xs) ∙ or_mid (p x) (q x) (list_any p xs) (list_any q xs)
+
+pub list_any-same : {X : Type 0} (p q : X → Bool) (xs : List X) → ((x : X) → p x ≡ q x) → list_any p xs ≡ list_any q xs
+list_any-same p q [] h = refl
+list_any-same p q (x ∷ xs) h = ap (λ b. b || list_any p xs) (h x) ∙ ap (λ b. q x || b) (list_any-same p q xs h)
+
+pub list_any-false : {X : Type 0} (xs : List X) → list_any (λ x. false) xs ≡ false
+list_any-false [] = refl
+list_any-false (x ∷ xs) = list_any-false xs
+
+any_mapped : (x b : ℕ) (q : Text) (fs : List Text) → list_any (bytes_eq (x ∷ q)) (map (λ f. b ∷ f) fs) ≡ (eqb x b && list_any (bytes_eq q) fs)
+any_mapped x b q [] = sym (and_false (eqb x b))
+any_mapped x b q (f ∷ fs) = ap (λ v. (eqb x b && bytes_eq q f) || v) (any_mapped x b q fs) ∙ and_or (eqb x b) (bytes_eq q f) (list_any (bytes_eq q) fs)
+
+empty_mapped : (b : ℕ) (fs : List Text) → list_any (bytes_eq []) (map (λ f. b ∷ f) fs) ≡ false
+empty_mapped b [] = refl
+empty_mapped b (f ∷ fs) = empty_mapped b fs
+
+empty_here : (c : Bool) → (list_any (bytes_eq []) (cond c ([] ∷ []) []) || false) ≡ (c && true)
+empty_here true = refl
+empty_here false = refl
+
+other_here : (x : ℕ) (q : Text) (c r : Bool) → (list_any (bytes_eq (x ∷ q)) (cond c ([] ∷ []) []) || r) ≡ r
+other_here x q true r = refl
+other_here x q false r = refl
+
+-- the folders of a text are those that with `/` behind them are its fronts
+pub any_folder : (q t : Text) → list_any (bytes_eq q) (folders_of t) ≡ is_folder q t
+any_folder [] [] = refl
+any_folder (x ∷ q) [] = refl
+any_folder [] (b ∷ bs) =
+    list_any-append (bytes_eq []) (cond (eqb b slash) ([] ∷ []) []) (map (λ folder. b ∷ folder) (folders_of bs))
+    ∙ ap (λ v. list_any (bytes_eq []) (cond (eqb b slash) ([] ∷ []) []) || v) (empty_mapped b (folders_of bs))
+    ∙ empty_here (eqb b slash) ∙ ap (λ v. v && true) (eqb_swap b slash)
+any_folder (x ∷ q) (b ∷ bs) =
+    list_any-append (bytes_eq (x ∷ q)) (cond (eqb b slash) ([] ∷ []) []) (map (λ folder. b ∷ folder) (folders_of bs))
+    ∙ ap (λ v. list_any (bytes_eq (x ∷ q)) (cond (eqb b slash) ([] ∷ []) []) || v) (any_mapped x b q (folders_of bs))
+    ∙ other_here x q (eqb b slash) (eqb x b && list_any (bytes_eq q) (folders_of bs))
+    ∙ ap (λ v. eqb x b && v) (any_folder q bs)
+
+map_here : (x : ℕ) (t : Text) (c : Bool) → map (λ folder. x ∷ folder) (cond c (t ∷ []) []) ≡ cond c ((x ∷ t) ∷ []) []
+map_here x t true = refl
+map_here x t false = refl
+
+-- one more byte
+pub folders_of-push : (t : Text) (b : ℕ) → folders_of (t ++ b ∷ []) ≡ folders_of t ++ cond (eqb b slash) (t ∷ []) []
+folders_of-push [] b = append-nil (cond (eqb b slash) ([] ∷ []) [])
+folders_of-push (x ∷ t) b =
+    let here : List Text = cond (eqb x slash) ([] ∷ []) [] in
+    let longer : Text → Text = λ folder. x ∷ folder in
+    ap (λ v. here ++ map longer v) (folders_of-push t b)
+    ∙ ap (λ v. here ++ v) (map-append longer (folders_of t) (cond (eqb b slash) (t ∷ []) []))
+    ∙ ap (λ v. here ++ (map longer (folders_of t) ++ v)) (map_here x t (eqb b slash))
+    ∙ sym (append_assoc here (map longer (folders_of t)) (cond (eqb b slash) ((x ∷ t) ∷ []) []))
+
+-- a text has the name of one of these among its folders, or the other way round
+pub any_swapped : (ts : List Text) (t : Text) → list_any (λ folder. list_any (bytes_eq folder) ts) (folders_of t) ≡ list_any (λ u. is_folder u t) ts
+any_swapped [] t = list_any-false (folders_of t)
+any_swapped (u ∷ us) t =
+    list_any-or (λ folder. bytes_eq folder u) (λ folder. list_any (bytes_eq folder) us) (folders_of t)
+    ∙ ap (λ v. v || list_any (λ folder. list_any (bytes_eq folder) us) (folders_of t)) (list_any-same (λ folder. bytes_eq folder u) (bytes_eq u) (folders_of t) (λ folder. bytes_swap folder u) ∙ any_folder u t)
+    ∙ ap (λ v. is_folder u t || v) (any_swapped us t)
+
+-- what is looked up of a target
+pub any_clash : (t : Text) (ts : List Text) → (list_any (bytes_eq t) ts || (list_any (is_folder t) ts || list_any (λ u. is_folder u t) ts)) ≡ list_any (clashes t) ts
+any_clash t ts =
+    ap (λ v. list_any (bytes_eq t) ts || v) (sym (list_any-or (is_folder t) (λ u. is_folder u t) ts))
+    ∙ sym (list_any-or (bytes_eq t) (λ u. is_folder t u || is_folder u t) ts)

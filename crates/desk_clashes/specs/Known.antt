@@ -1,0 +1,41 @@
+-- Sets of references to texts, and how they are read.
+use Rattle.std.specs.Prelude.{◌≡◌, ℕ, Bool, ◌+◌, ◌==◌, List, [], ◌∷◌, ◌++◌, Option, Some, None, cond, map, slice_index_or}
+use Rattle.std.specs.List.{list_any}
+use Rattle.std.specs.Str.{bytes_eq}
+use Rattle.std.specs.Ordering.{nat_cmp}
+use Rattle.std.specs.Cmp.Lexicographic.{slice_cmp}
+use Rattle.std.specs.BTreeSet.{BTreeSet, contains_by}
+use denote.Ref.{Bor}
+use Rattle.desk_base.specs.Names.{Text, slash}
+use Rattle.desk_clashes.specs.Clashes.{clashes, is_folder}
+
+-- a reference to a text
+abbrev pub TextRef : Type 0
+TextRef = Bor (List ℕ)
+
+-- the texts that references point to
+abbrev pub names_of : List TextRef → List Text
+names_of = map (λ t. t.now)
+
+-- the text at a place
+abbrev pub name_at : List TextRef → ℕ → Text
+name_at targets place = slice_index_or (names_of targets) place []
+
+-- whether a set holds a text
+abbrev pub holds : BTreeSet TextRef → Text → Bool
+holds set text = contains_by (λ k. slice_cmp nat_cmp text k.now) set
+
+-- the folders of a text, shortest first
+abbrev pub folders_of : Text → List Text
+folders_of [] = []
+folders_of (b ∷ bs) = cond (b == slash) ([] ∷ []) [] ++ map (λ folder. b ∷ folder) (folders_of bs)
+
+-- one set holds these targets, and one their folders
+pub record Knows (names folders : BTreeSet TextRef) (targets : List Text) : Type 0 where
+  pub named : (q : Text) → holds names q ≡ list_any (bytes_eq q) targets
+  pub nested : (q : Text) → holds folders q ≡ list_any (is_folder q) targets
+
+-- of targets from a place on, the first that clashes with a later one
+abbrev pub first_place : ℕ → List Text → Option ℕ
+first_place place [] = None
+first_place place (target ∷ targets) = cond (list_any (clashes target) targets) (Some place) (first_place (place + 1) targets)

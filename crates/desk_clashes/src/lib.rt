@@ -1,0 +1,18 @@
+//! Finds the first two files whose targets clash: one target equals the other, or is a folder of it.
+#![tactic(auto)]
+
+mod known;
+mod pairs;
+mod targets;
+
+pub use targets::Targets;
+
+/// Two places in a list of targets, counted from 0, the first below the second.
+#[derive(Clone, Copy, Debug, PartialEq, Eq)]
+pub struct Clash {
+    pub first: usize,
+    pub second: usize,
+}
+
+#[cfg(test)]
+mod tests;

@@ -1,0 +1,9 @@
+mod Bare
+mod Scans
+mod Heads
+mod Uses
+mod Bodies
+mod Pairs
+mod Sets
+mod Wholes
+mod Views

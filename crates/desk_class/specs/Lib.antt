@@ -1,0 +1,4 @@
+pub mod Scan
+pub mod Parts
+pub mod Held
+pub mod Faults

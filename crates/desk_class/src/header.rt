@@ -1,0 +1,67 @@
+//! Magic and version (JVMS 4.1).
+
+ghost use Rattle.std.specs.Prelude.{◌≡◌, ◌+◌, OnOk, Err};
+ghost use Rattle.desk_format.specs.PoolReading.{number_read};
+ghost use Rattle.desk_format.specs.Classes.{version_read, header_read};
+ghost use Rattle.desk_pool.specs.Seen.{Reads};
+ghost use Rattle.desk_class.specs.Parts.{version_of};
+
+use desk_base::{Cursor, FaultKind, Malformed};
+
+/// The version of a class file.
+#[derive(Clone, Copy, Debug, PartialEq, Eq)]
+pub struct Version {
+    pub minor: u16,
+    pub major: u16,
+}
+
+fn fault<T>(kind: FaultKind, at: u32) -> Result<T, Malformed>
+    ensures { result ≡ Err (record { kind = kind; at = at }) }
+{
+    Err(Malformed { kind, at })
+}
+
+fn read_number(cursor: &mut Cursor<'_>) -> Result<u16, Malformed>
+    ensures number { Reads result (λ n. n) (number_read cursor.old.at cursor.old.left) cursor.new }
+    ensures moved { OnOk result (cursor.new.at ≡ cursor.old.at + 2) }
+{
+    let at = cursor.at();
+    match cursor.u2() {
+        Ok(number) => Ok(number),
+        Err(_) => fault(FaultKind::Truncated, at),
+    }
+}
+
+/// The minor and the major version. Major 45 to 61 is accepted; from 56 on the minor must be 0 or 65,535.
+fn read_version(cursor: &mut Cursor<'_>) -> Result<Version, Malformed>
+    ensures version { Reads result version_of (version_read cursor.old.at cursor.old.left) cursor.new }
+    ensures moved { OnOk result (cursor.new.at ≡ cursor.old.at + 4) }
+{
+    let minor = read_number(cursor)?;
+    let major = read_number(cursor)?;
+    if major < 45 || 61 < major {
+        fault(FaultKind::Version, 6)
+    } else if 56 <= major && !(minor == 0 || minor == 65535) {
+        fault(FaultKind::Version, 4)
+    } else {
+        Ok(Version { minor, major })
+    }
+}
+
+/// Magic and version, at the start of the file.
+pub fn read_header(cursor: &mut Cursor<'_>) -> Result<Version, Malformed>
+    ensures header { Reads result version_of (header_read cursor.old.at cursor.old.left) cursor.new }
+    ensures moved { OnOk result (cursor.new.at ≡ cursor.old.at + 8) }
+{
+    let at = cursor.at();
+    match cursor.take(4) {
+        Ok(bytes) => {
+            if bytes == [0xCA, 0xFE, 0xBA, 0xBE].as_slice() {
+                read_version(cursor)
+            } else {
+                fault(FaultKind::Magic, 0)
+            }
+        }
+        Err(_) => fault(FaultKind::Truncated, at),
+    }
+}

@@ -1,0 +1,2 @@
+mod Stripping
+mod DotCuts

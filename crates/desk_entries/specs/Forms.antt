@@ -1,0 +1,40 @@
+-- Forms of keys and values.
+use Rattle.std.specs.Prelude.{ℕ, Bool, not, ◌&&◌, ◌||◌, ◌==◌, nat_lt, ◌-◌, length, take, [], ◌∷◌, if◌then◌else◌}
+use Rattle.std.specs.List.{list_all, ends_with}
+use Rattle.desk_base.specs.Names.{Text, is_empty, is_letter, is_digit}
+
+-- `;`, which stands between the two parts of a value
+abbrev pub is_semicolon : ℕ → Bool
+is_semicolon b = b == 59
+
+-- a key that ends in `.*` means the packages below too
+abbrev pub is_below : Text → Bool
+is_below key = ends_with ◌==◌ key (46 ∷ 42 ∷ [])
+
+-- the package of a key, without that end
+abbrev pub source_text : Text → Text
+source_text key = if is_below key then take (length key - 2) key else key
+
+-- a letter, a digit, or one of `. _ -`
+abbrev pub is_symbolic_byte : ℕ → Bool
+is_symbolic_byte b = is_letter b || is_digit b || b == 46 || b == 95 || b == 45
+
+-- the symbolic name of a bundle
+abbrev pub is_symbolic_name : Text → Bool
+is_symbolic_name t = not (is_empty t) && list_all is_symbolic_byte t
+
+-- such a byte, or one of `, [ ] ( )`
+abbrev pub is_version_byte : ℕ → Bool
+is_version_byte b = is_symbolic_byte b || b == 44 || b == 91 || b == 93 || b == 40 || b == 41
+
+-- a version, or a range of versions
+abbrev pub is_version : Text → Bool
+is_version t = not (is_empty t) && list_all is_version_byte t
+
+-- a byte of a character from U+0001 to U+FFFF in UTF-8
+abbrev pub is_plain_byte : ℕ → Bool
+is_plain_byte b = nat_lt 0 b && nat_lt b 240
+
+-- a text in UTF-8 without U+0000 and characters above U+FFFF
+abbrev pub is_plain : Text → Bool
+is_plain = list_all is_plain_byte

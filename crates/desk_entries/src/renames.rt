@@ -1,0 +1,66 @@
+//! Renames of packages.
+
+ghost use Rattle.std.specs.Prelude.{◌≡◌, Ok, IfOk, IfErr, IsTrue, true};
+ghost use Rattle.desk_base.specs.Names.{segments, dot, is_dotted};
+ghost use Rattle.desk_entries.specs.Forms.{is_below, source_text};
+ghost use Rattle.desk_entries.specs.Entries.{rename_of, IsError};
+
+use crate::dots::split_at_dots;
+use crate::faults::{EntryError, EntryFault};
+use crate::values::stripped;
+use desk_base::{Memory, TextList};
+use desk_names::is_dotted;
+use std::alloc::Global;
+
+/// A rename of packages.
+#[derive(Debug, Drop)]
+pub struct Rename {
+    /// The segments of the package that is renamed.
+    pub source: TextList,
+    /// The segments of the package that takes its place.
+    pub target: TextList,
+    /// Whether the packages below the source are renamed too.
+    pub below: bool,
+}
+
+/// The package of a key, and whether the packages below it are meant too.
+fn cut_key(key: &[u8]) -> (&[u8], bool)
+    ensures source { result.0.now ≡ source_text key.now }
+    ensures below { result.1 ≡ is_below key.now }
+{
+    if key.ends_with(b".*") {
+        (&key[..key.len() - 2], true)
+    } else {
+        (key, false)
+    }
+}
+
+/// The segments of a package that is written with dots.
+fn read_package(alloc: Global, text: &[u8]) -> Result<TextList, Memory>
+    requires { is_dotted text.now ≡ true }
+    ensures { IfOk result (λ parts. parts ≡ segments dot text.now) }
+{
+    split_at_dots(alloc, text)
+}
+
+/// The rename of an entry of `renames.properties`: the key is a package `a.b`, or `a.b.*`, which means the packages below it
+/// too; the value is the new package, without blanks at its end. A package is one or more identifiers with a `.` between
+/// each two. The fault is `Key` where the key hasn't its form, else `Value` where the value hasn't.
+pub fn read_rename(alloc: Global, key: &[u8], value: &[u8]) -> Result<Rename, EntryError>
+    ensures read { IfOk result (λ rename. rename_of key.now value.now ≡ Ok rename) }
+    ensures refused { IfErr result (IsError (rename_of key.now value.now)) }
+{
+    let (source, below) = cut_key(key);
+    let target = stripped(value);
+    if !is_dotted(source) {
+        return Err(EntryError::Fault(EntryFault::Key));
+    }
+    if !is_dotted(target) {
+        return Err(EntryError::Fault(EntryFault::Value));
+    }
+    Ok(Rename {
+        source: read_package(alloc, source)?,
+        target: read_package(alloc, target)?,
+        below,
+    })
+}

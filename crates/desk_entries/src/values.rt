@@ -1,0 +1,56 @@
+//! Values as they are read: without blanks at the end, and in two parts.
+
+ghost use Rattle.std.specs.Prelude.{◌≡◌};
+ghost use Rattle.std.specs.List.{list_any, before_first, after_first, position_or_len};
+ghost use Rattle.desk_entries.specs.Blanks.{is_blank, stripped};
+ghost use Rattle.desk_entries.specs.Forms.{is_semicolon};
+
+/// Whether a byte is a space or a tab.
+fn is_blank(byte: u8) -> bool
+    ensures { result ≡ is_blank byte }
+{
+    byte == b' ' || byte == b'\t'
+}
+
+/// A text without the spaces and tabs at its end.
+pub fn stripped(text: &[u8]) -> &[u8]
+    ensures { result.now ≡ stripped text.now }
+{
+    let mut end = text.len();
+    while end > 0 && is_blank(text[end - 1]) {
+        end -= 1;
+    }
+    &text[..end]
+}
+
+/// The place of the first `;`, or the text's length.
+fn place_of_semicolon(text: &[u8]) -> usize
+    ensures { result ≡ position_or_len is_semicolon text.now }
+{
+    for (i, byte) in text.iter().enumerate() {
+        if *byte == b';' {
+            return i;
+        }
+    }
+    text.len()
+}
+
+/// Whether a text holds a `;`.
+pub fn has_semicolon(text: &[u8]) -> bool
+    ensures { result ≡ list_any is_semicolon text.now }
+{
+    text.iter().any(|byte| *byte == b';')
+}
+
+/// What stands before the first `;`, and what stands behind it; nothing behind where there is none.
+pub fn cut_at_semicolon(text: &[u8]) -> (&[u8], &[u8])
+    ensures before { result.0.now ≡ before_first is_semicolon text.now }
+    ensures behind { result.1.now ≡ after_first is_semicolon text.now }
+{
+    let at = place_of_semicolon(text);
+    if at < text.len() {
+        (&text[..at], &text[at + 1..])
+    } else {
+        (text, &text[text.len()..])
+    }
+}

@@ -1,0 +1,102 @@
+//! The image of a file.
+
+ghost use Rattle.std.specs.Prelude.{◌≡◌, ◌≤◌, Ok, IfOk, IfErr, length};
+ghost use Rattle.desk_file.specs.Faults.{IsFileFault, IsServiceFault};
+ghost use Rattle.desk_file.specs.Images.{image, service_image};
+
+use crate::treatments::{Treatment, treatment_of};
+use desk_base::{Memory, Text};
+use desk_metainf::{MetaFault, migrate_service};
+use desk_report::{Detail, Reason};
+use desk_rules::RuleSet;
+use std::alloc::Global;
+
+/// What a file becomes: its new bytes, and what they are made of.
+#[derive(Debug, Drop)]
+pub struct Image {
+    pub bytes: Text,
+    pub detail: Detail,
+}
+
+/// Why a file has no image, or want of memory.
+#[derive(Clone, Copy, Debug, PartialEq, Eq)]
+pub enum FileFault {
+    Refused(Reason),
+    Memory,
+}
+
+impl From<Memory> for FileFault {
+    ghost use Rattle.std.specs.Prelude.{◌≡◌};
+    ghost use Rattle.desk_file.specs.declared.images.FileFault.TheVariants as fault;
+
+    ghost from_gives = { λ _ it. it ≡ fault.Memory };
+
+    fn from(_: Memory) -> FileFault {
+        FileFault::Memory
+    }
+}
+
+/// The image of a service file.
+fn service_image(alloc: Global, rules: &RuleSet, bytes: &[u8]) -> Result<Image, FileFault>
+    requires { length bytes.now ≤ 67108864 }
+    ensures ok { IfOk result (λ found. service_image rules.now bytes.now ≡ Ok found) }
+    ensures err { IfErr result (IsServiceFault rules.now bytes.now) }
+{
+    match migrate_service(alloc, bytes, rules) {
+        Ok(changed) => Ok(Image {
+            bytes: changed.bytes,
+            detail: Detail::Service {
+                changed: changed.changed,
+            },
+        }),
+        Err(MetaFault::BadLine { at }) => Err(FileFault::Refused(Reason::BadLine { at })),
+        Err(MetaFault::Memory) => Err(FileFault::Memory),
+    }
+}
+
+/// The image of a file of at most 67,108,864 bytes, by its path. A file that is copied keeps its bytes,
+/// and no others are made. `Refused` comes exactly where the file has no image: `BadLine` for a selected
+/// service file with a provider that holds a blank, with the offset of the first byte of the first such
+/// line; `NotBuilt` for a selected file whose kind isn't built. The only other error is want of memory.
+#[tactic(auto, unfolding(crate::specs::Images::image))]
+pub fn image_of(
+    alloc: Global,
+    rules: &RuleSet,
+    path: &Text,
+    bytes: Text,
+) -> Result<Image, FileFault>
+    requires { length bytes ≤ 67108864 }
+    ensures ok { IfOk result (λ found. image rules.now path.now bytes ≡ Ok found) }
+    ensures err { IfErr result (IsFileFault rules.now path.now bytes) }
+{
+    match treatment_of(alloc, rules, path)? {
+        Treatment::Providers => service_image(alloc, rules, bytes.as_bytes()),
+        Treatment::Copy => Ok(Image {
+            bytes,
+            detail: Detail::Copy,
+        }),
+        Treatment::NotBuilt => Err(FileFault::Refused(Reason::NotBuilt)),
+    }
+}
+
+/// The image of a file, as `image_of` gives it; bytes are made anew where they are copied.
+#[tactic(auto, unfolding(crate::specs::Images::image))]
+pub(crate) fn image_of_bytes(
+    alloc: Global,
+    rules: &RuleSet,
+    path: &Text,
+    bytes: &[u8],
+) -> Result<Image, FileFault>
+    requires { length bytes.now ≤ 67108864 }
+    ensures ok { IfOk result (λ found. image rules.now path.now bytes.now ≡ Ok found) }
+    ensures err { IfErr result (IsFileFault rules.now path.now bytes.now) }
+{
+    match treatment_of(alloc, rules, path)? {
+        Treatment::Providers => service_image(alloc, rules, bytes),
+        Treatment::Copy => Ok(Image {
+            bytes: Text::from_bytes(alloc, bytes)?,
+            detail: Detail::Copy,
+        }),
+        Treatment::NotBuilt => Err(FileFault::Refused(Reason::NotBuilt)),
+    }
+}

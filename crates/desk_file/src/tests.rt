@@ -1,0 +1,201 @@
+//! Files under rules.
+
+ghost use Rattle.std.specs.Prelude.{◌≤◌, length};
+
+use crate::{
+    FileFault, Image, Outcome, Treatment, image_of, migrate_file, target_of, treatment_of,
+};
+use desk_base::Text;
+use desk_report::{Detail, Reason};
+use desk_rules::{RuleFiles, RuleSet};
+use std::alloc::Global;
+use std::test::Fail;
+
+/// The rule set of a folder with this one file of renames.
+fn build(alloc: Global, line: &[u8]) -> Result<RuleSet, Fail> {
+    let mut files = RuleFiles::new(alloc);
+    add(alloc, &mut files, b"renames.properties", line)?;
+    Ok(RuleSet::build(alloc, &files)?)
+}
+
+/// The rules of most tests.
+const RULE: &[u8] = b"javax.servlet=jakarta.servlet";
+
+/// What becomes of these bytes at a path.
+fn migrated(alloc: Global, path: &[u8], bytes: &[u8]) -> Result<Outcome, Fail>
+    requires { length bytes.now ≤ 67108864 }
+{
+    let rules = build(alloc, RULE)?;
+    let path = Text::from_bytes(alloc, path)?;
+    Ok(migrate_file(alloc, &rules, &path, bytes)?)
+}
+
+/// Whether a file is written at this target, with this image and detail.
+fn is_written(outcome: &Outcome, to: &[u8], image: &[u8], made: Detail) -> bool {
+    match outcome {
+        Outcome::Written {
+            target,
+            bytes,
+            detail,
+        } => target.as_bytes() == to && bytes.as_bytes() == image && *detail == made,
+        Outcome::Refused { .. } => false,
+    }
+}
+
+/// Whether a file is refused for this reason.
+fn is_refused(outcome: &Outcome, why: Reason) -> bool {
+    match outcome {
+        Outcome::Written { .. } => false,
+        Outcome::Refused { reason } => *reason == why,
+    }
+}
+
+#[test]
+fn a_service_file_has_its_providers_exchanged(rt: HostRuntime) -> Result<(), Fail> {
+    let outcome = migrated(
+        rt.alloc(),
+        b"META-INF/services/javax.servlet.Filter",
+        b"web.Init # javax\njavax.servlet.F\n",
+    )?;
+    assert!(rt;
+        is_written(
+            &outcome,
+            b"META-INF/services/jakarta.servlet.Filter",
+            b"web.Init # javax\njakarta.servlet.F\n",
+            Detail::Service { changed: 1 }
+        )
+    );
+    Ok(())
+}
+
+#[test]
+fn a_blank_in_a_provider_refuses_the_file(rt: HostRuntime) -> Result<(), Fail> {
+    let outcome = migrated(rt.alloc(), b"META-INF/services/x", b"web.Init x")?;
+    assert!(rt; is_refused(&outcome, Reason::BadLine { at: 0 }));
+    let later = migrated(rt.alloc(), b"META-INF/services/x", b"web.Init\na b")?;
+    assert!(rt; is_refused(&later, Reason::BadLine { at: 9 }));
+    Ok(())
+}
+
+#[test]
+fn other_files_are_copied(rt: HostRuntime) -> Result<(), Fail> {
+    let outcome = migrated(rt.alloc(), b"readme.txt", b"javax.servlet.F")?;
+    assert!(rt; is_written(&outcome, b"readme.txt", b"javax.servlet.F", Detail::Copy));
+    Ok(())
+}
+
+#[test]
+fn a_class_is_refused(rt: HostRuntime) -> Result<(), Fail> {
+    let outcome = migrated(rt.alloc(), b"A.class", b"")?;
+    assert!(rt; is_refused(&outcome, Reason::NotBuilt));
+    Ok(())
+}
+
+/// The image of these bytes at a path.
+fn made(alloc: Global, path: &[u8], bytes: &[u8]) -> Result<Result<Image, FileFault>, Fail>
+    requires { length bytes.now ≤ 67108864 }
+{
+    let rules = build(alloc, RULE)?;
+    let path = Text::from_bytes(alloc, path)?;
+    let bytes = Text::from_bytes(alloc, bytes)?;
+    Ok(image_of(alloc, &rules, &path, bytes))
+}
+
+#[test]
+fn images_are_those_of_the_files(rt: HostRuntime) -> Result<(), Fail> {
+    let alloc = rt.alloc();
+    let Ok(copy) = made(alloc, b"a", b"x")? else {
+        return Err(Fail::from("no image"));
+    };
+    assert!(rt; copy.bytes.as_bytes() == b"x".as_slice());
+    assert!(rt; copy.detail == Detail::Copy);
+    let fault = made(alloc, b"a.class", b"x")?.err();
+    assert!(rt; fault == Some(FileFault::Refused(Reason::NotBuilt)));
+    Ok(())
+}
+
+#[test]
+fn treatments_go_by_paths(rt: HostRuntime) -> Result<(), Fail> {
+    let alloc = rt.alloc();
+    let rules = build(alloc, RULE)?;
+    let service = Text::from_bytes(alloc, b"META-INF/services/javax.servlet.F")?;
+    assert_eq!(rt;
+        treatment_of(alloc, &rules, &service)?,
+        Treatment::Providers
+    );
+    let target = target_of(alloc, &rules, &service)?;
+    assert!(rt; target.as_bytes() == b"META-INF/services/jakarta.servlet.F".as_slice());
+    let class = Text::from_bytes(alloc, b"A.class")?;
+    assert_eq!(rt; treatment_of(alloc, &rules, &class)?, Treatment::NotBuilt);
+    Ok(())
+}
+
+/// A rule file, by its name and content.
+#[derive(Clone, Copy)]
+struct RuleFile<'a> {
+    name: &'a [u8],
+    content: &'a [u8],
+}
+
+/// Adds a rule file of a new name.
+fn add(alloc: Global, files: &mut RuleFiles, name: &[u8], content: &[u8]) -> Result<(), Fail> {
+    let name = Text::from_bytes(alloc, name)?;
+    if files.content(&name).is_some() || content.len() > 1_048_576 {
+        return Err(Fail::from("no rule file"));
+    }
+    files.add(name, Text::from_bytes(alloc, content)?)?;
+    Ok(())
+}
+
+/// How a path is treated under a rename of `javax.x` and one more rule file, beside the text rules `t`.
+fn treated(alloc: Global, more: RuleFile<'_>, path: &[u8]) -> Result<Treatment, Fail> {
+    let mut files = RuleFiles::new(alloc);
+    add(
+        alloc,
+        &mut files,
+        b"renames.properties",
+        b"javax.x=jakarta.x",
+    )?;
+    add(alloc, &mut files, b"t", b"a=b")?;
+    add(alloc, &mut files, more.name, more.content)?;
+    let rules = RuleSet::build(alloc, &files)?;
+    let path = Text::from_bytes(alloc, path)?;
+    Ok(treatment_of(alloc, &rules, &path)?)
+}
+
+#[test]
+fn unselected_files_are_copied(rt: HostRuntime) -> Result<(), Fail> {
+    let alloc = rt.alloc();
+    let selection = RuleFile {
+        name: b"selection.properties",
+        content: b"legacy/*=!",
+    };
+    assert_eq!(rt;
+        treated(alloc, selection, b"legacy/Old.class")?,
+        Treatment::Copy
+    );
+    assert_eq!(rt;
+        treated(alloc, selection, b"Old.class")?,
+        Treatment::NotBuilt
+    );
+    Ok(())
+}
+
+#[test]
+fn text_rules_go_by_path_and_target(rt: HostRuntime) -> Result<(), Fail> {
+    let alloc = rt.alloc();
+    let texts = RuleFile {
+        name: b"text.properties",
+        content: b"jakarta/*=t",
+    };
+    assert_eq!(rt;
+        treated(alloc, texts, b"jakarta/y/a.txt")?,
+        Treatment::NotBuilt
+    );
+    assert_eq!(rt;
+        treated(alloc, texts, b"javax/x/a.txt")?,
+        Treatment::NotBuilt
+    );
+    assert_eq!(rt; treated(alloc, texts, b"javax/y/a.txt")?, Treatment::Copy);
+    Ok(())
+}

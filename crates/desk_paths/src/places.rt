@@ -1,0 +1,166 @@
+//! The class root of a path, and what follows it.
+
+ghost use Rattle.std.specs.Prelude.{◌≡◌, ◌≤◌, ◌∷◌, [], ◌&&◌, length, drop, take};
+ghost use Rattle.std.specs.List.{list_all};
+ghost use Rattle.desk_base.specs.Names.{is_digit, is_whole, slash};
+ghost use Rattle.desk_paths.specs.Paths.{is_archive, has_classes, is_number, ends_root, folder_text, folders, file_name, cut, root_of, rest_of, below};
+ghost use Rattle.desk_paths.specs.Kinds.{kind_of};
+ghost use Rattle.desk_paths.specs.Walks.{IsStep, IsCutAt, is_services, kind_by_texts};
+
+use crate::Kind;
+
+/// The folder of service files, with the `/` behind it.
+const SERVICES: &[u8] = b"META-INF/services/";
+
+/// The folder of the manifest, with the `/` behind it.
+const META: &[u8] = b"META-INF/";
+
+const MANIFEST: &[u8] = b"MANIFEST.MF";
+
+const META_INF: &[u8] = b"META-INF";
+
+const VERSIONS: &[u8] = b"versions";
+
+const CLASSES: &[u8] = b"classes";
+
+const WEB_INF: &[u8] = b"WEB-INF";
+
+const BOOT_INF: &[u8] = b"BOOT-INF";
+
+const APP_INF: &[u8] = b"APP-INF";
+
+/// A path, cut at its class root.
+#[derive(Clone, Copy, Debug, PartialEq, Eq)]
+pub struct Placed<'a> {
+    /// The class root, without a `/` at its end; empty where the path has none.
+    pub root: &'a [u8],
+    /// What follows the class root, without a `/` at its start.
+    pub rest: &'a [u8],
+    pub kind: Kind,
+}
+
+/// How far a path was walked.
+#[derive(Clone, Copy)]
+pub(crate) struct Walk<'a> {
+    /// The last folder but one.
+    earlier: &'a [u8],
+    /// The last folder.
+    before: &'a [u8],
+    /// Where the rest begins, if no class root ends behind.
+    pub(crate) rest_at: usize,
+    /// Where the segment behind the last folder begins.
+    pub(crate) file_at: usize,
+}
+
+/// Whether a folder's name is that of an archive.
+fn is_archive(folder: &[u8]) -> bool
+    ensures { result ≡ is_archive folder.now }
+{
+    folder.ends_with(b".jar")
+        || folder.ends_with(b".war")
+        || folder.ends_with(b".ear")
+        || folder.ends_with(b".rar")
+}
+
+/// Whether `classes` in a folder is a class root.
+fn has_classes(folder: &[u8]) -> bool
+    ensures { result ≡ has_classes folder.now }
+{
+    folder == WEB_INF || folder == BOOT_INF || folder == APP_INF
+}
+
+/// Whether each byte is a digit.
+fn has_digits(text: &[u8]) -> bool
+    ensures { result ≡ list_all is_digit text.now }
+{
+    text.iter().all(|byte| b'0' <= *byte && *byte <= b'9')
+}
+
+/// Whether a text is one or more digits.
+fn is_number(text: &[u8]) -> bool
+    ensures { result ≡ is_number text.now }
+{
+    !text.is_empty() && has_digits(text)
+}
+
+/// Whether a class root ends at a folder that stands behind two others.
+fn ends_root(earlier: &[u8], before: &[u8], folder: &[u8]) -> bool
+    ensures { result ≡ ends_root earlier.now before.now folder.now }
+{
+    is_archive(folder)
+        || (folder == CLASSES && has_classes(before))
+        || (is_number(folder) && before == VERSIONS && earlier == META_INF)
+}
+
+impl<'a> Walk<'a> {
+    /// Behind a further folder, at the place behind its `/`.
+    fn behind(self, folder: &'a [u8], at: usize) -> Walk<'a>
+        ensures { IsStep self.entry folder.now at result }
+    {
+        let ends = ends_root(self.earlier, self.before, folder);
+        Walk {
+            earlier: self.before,
+            before: folder,
+            rest_at: if ends { at } else { self.rest_at },
+            file_at: at,
+        }
+    }
+}
+
+/// Where the rest and the file name of a path begin: one pass over its bytes.
+pub(crate) fn walk_over(path: &[u8]) -> Walk<'_>
+    ensures { IsCutAt path.now result.rest_at result.file_at }
+{
+    let mut walk = Walk {
+        earlier: &path[..0],
+        before: &path[..0],
+        rest_at: 0,
+        file_at: 0,
+    };
+    for (i, byte) in path.iter().enumerate() {
+        if *byte == b'/' {
+            walk = walk.behind(&path[walk.file_at..i], i + 1);
+        }
+    }
+    walk
+}
+
+/// Whether a folder, with the `/` behind it, is that of service files.
+pub(crate) fn is_services(folder: &[u8]) -> bool
+    ensures { result ≡ is_services folder.now }
+{
+    folder == SERVICES
+}
+
+/// The kind of a file in a folder of a class root, with the `/` behind the folder.
+fn kind_in(folder: &[u8], file: &[u8]) -> Kind
+    ensures { result ≡ kind_by_texts folder.now file.now }
+{
+    if is_services(folder) {
+        Kind::Service
+    } else if folder == META && file == MANIFEST {
+        Kind::Manifest
+    } else if file.ends_with(b".class") {
+        Kind::Class
+    } else {
+        Kind::Other
+    }
+}
+
+/// A path, cut at its class root, with the file's kind. The class root ends at the last folder that
+/// ends in `.jar`, `.war`, `.ear` or `.rar`, or is `classes` directly behind `WEB-INF`, `BOOT-INF` or
+/// `APP-INF`, or consists of digits directly behind `META-INF/versions`. The file name is never part
+/// of it. It takes no memory.
+pub fn place(path: &[u8]) -> Placed<'_>
+    ensures root { result.root.now ≡ root_of path.now }
+    ensures rest { result.rest.now ≡ rest_of path.now }
+    ensures kind { result.kind ≡ kind_of path.now }
+    ensures joined { path.now ≡ below result.root.now result.rest.now }
+{
+    let walk = walk_over(path);
+    Placed {
+        root: &path[..walk.rest_at.saturating_sub(1)],
+        rest: &path[walk.rest_at..],
+        kind: kind_in(&path[walk.rest_at..walk.file_at], &path[walk.file_at..]),
+    }
+}

@@ -1,0 +1,56 @@
+-- Choices of a selection, and patterns with text rules, one after the other.
+use Rattle.std.proofs.Common.{◌≡◌, ℕ, ◌+◌, ◌<◌, ◌≤◌, suc, Bool, true, false, cond, not, ◌&&◌, ◌||◌, List, [], ◌∷◌, length, drop, get_or, Option, Some, None, refl, sym, ap, ◌∙◌, add-one, arith}
+use Rattle.std.specs.List.{list_any}
+use Rattle.std.proofs.lemmas.List.{drop_all}
+use Rattle.desk_base.specs.Names.{Text}
+use Rattle.desk_patterns.specs.Patterns.{fits}
+use Rattle.desk_patterns.specs.Selections.{Choice, selects, includes, excludes}
+use Rattle.desk_patterns.specs.SeenChoices.{choices_seen}
+use Rattle.desk_patterns.specs.declared.selections.Choice.{Choice as KeptChoice}
+use Rattle.desk_patterns.specs.TextRules.{TextRule}
+use Rattle.desk_patterns.specs.PatternTexts.{PatternText, texts_of}
+use Rattle.desk_patterns.specs.SeenTexts.{texts_seen}
+use Rattle.desk_patterns.specs.declared.pattern_texts.PatternText.{PatternText as KeptText}
+use Rattle.desk_patterns.proofs.Chains.{item_there, map_length}
+
+any_seen : (p : Choice → Bool) (items : List KeptChoice) → list_any p (choices_seen items) ≡ list_any (λ choice. p (choice.pattern, choice.excludes)) items
+any_seen p [] = refl
+any_seen p (c ∷ items) = ap (λ (x : Bool). p (c.pattern, c.excludes) || x) (any_seen p items)
+
+abbrev selected : Bool → Bool → Bool → Bool
+selected some fitting excluded = (not some || fitting) && not excluded
+
+parts : (items : List KeptChoice) (path : Text) (some fitting excluded : Bool) → some ≡ list_any (λ choice. not choice.excludes) items → fitting ≡ list_any (λ choice. not choice.excludes && fits choice.pattern path) items → excluded ≡ list_any (λ choice. choice.excludes && fits choice.pattern path) items → selects (choices_seen items) path ≡ selected some fitting excluded
+parts items path some fitting excluded a b c =
+    ap (λ (x : Bool). selected x (list_any (includes path) (choices_seen items)) (list_any (excludes path) (choices_seen items))) (any_seen (λ choice. not choice.1) items ∙ sym a)
+    ∙ ap (λ (x : Bool). selected some x (list_any (excludes path) (choices_seen items))) (any_seen (includes path) items ∙ sym b)
+    ∙ ap (λ (x : Bool). selected some fitting x) (any_seen (excludes path) items ∙ sym c)
+
+and_false : (x : Bool) → (x && false) ≡ false
+and_false true = refl
+and_false false = refl
+
+and_true : (x : Bool) → (x && true) ≡ x
+and_true true = refl
+and_true false = refl
+
+pub select_excluded : (items : List KeptChoice) (path : Text) (excluded : Bool) → excluded ≡ list_any (λ choice. choice.excludes && fits choice.pattern path) items → excluded ≡ true → false ≡ selects (choices_seen items) path
+select_excluded items path excluded c e = sym (parts items path _ _ excluded refl refl c ∙ ap (selected (list_any (λ choice. not choice.excludes) items) (list_any (λ choice. not choice.excludes && fits choice.pattern path) items)) e ∙ and_false _)
+
+pub select_included : (items : List KeptChoice) (path : Text) (some fitting excluded : Bool) → some ≡ list_any (λ choice. not choice.excludes) items → fitting ≡ list_any (λ choice. not choice.excludes && fits choice.pattern path) items → excluded ≡ list_any (λ choice. choice.excludes && fits choice.pattern path) items → excluded ≡ false → some ≡ true → fitting ≡ selects (choices_seen items) path
+select_included items path some fitting excluded a b c e s = sym (parts items path some fitting excluded a b c ∙ ap (selected some fitting) e ∙ ap (λ (x : Bool). selected x fitting false) s ∙ and_true fitting)
+
+pub select_all : (items : List KeptChoice) (path : Text) (some excluded : Bool) → some ≡ list_any (λ choice. not choice.excludes) items → excluded ≡ list_any (λ choice. choice.excludes && fits choice.pattern path) items → excluded ≡ false → some ≡ false → true ≡ selects (choices_seen items) path
+select_all items path some excluded a c e s = sym (parts items path some _ excluded a refl c ∙ ap (selected some (list_any (λ choice. not choice.excludes && fits choice.pattern path) items)) e ∙ ap (λ (x : Bool). selected x (list_any (λ choice. not choice.excludes && fits choice.pattern path) items) false) s)
+
+text_there : (items : List KeptText) (n : ℕ) (x : KeptText) → n < length items → x ≡ get_or items n x → drop n (texts_seen items) ≡ (x.pattern, x.rules) ∷ drop (n + 1) (texts_seen items)
+text_there items n x h e = item_there {B = PatternText} (λ (t : KeptText). (t.pattern, t.rules)) items n x h e ∙ ap (λ (m : ℕ). (x.pattern, x.rules) ∷ drop m (texts_seen items)) (sym (add-one n))
+
+pub texts_more : (items : List KeptText) (path : Text) (n : ℕ) (x : KeptText) → n < length items → x ≡ get_or items n x → fits x.pattern path ≡ false → texts_of (drop n (texts_seen items)) path ≡ texts_of (texts_seen items) path → texts_of (drop (n + 1) (texts_seen items)) path ≡ texts_of (texts_seen items) path
+texts_more items path n x h e miss so = sym (ap (λ (ts : List PatternText). texts_of ts path) (text_there items n x h e) ∙ ap (λ (y : Bool). cond y (Some x.rules) (texts_of (drop (n + 1) (texts_seen items)) path)) miss) ∙ so
+
+pub texts_found : (items : List KeptText) (path : Text) (n : ℕ) (x : KeptText) → n < length items → x ≡ get_or items n x → fits x.pattern path ≡ true → texts_of (drop n (texts_seen items)) path ≡ texts_of (texts_seen items) path → Some x.rules ≡ texts_of (texts_seen items) path
+texts_found items path n x h e hit so = sym (ap (λ (ts : List PatternText). texts_of ts path) (text_there items n x h e) ∙ ap (λ (y : Bool). cond y (Some x.rules) (texts_of (drop (n + 1) (texts_seen items)) path)) hit) ∙ so
+
+pub texts_none : (items : List KeptText) (path : Text) (n : ℕ) → length items ≤ n → texts_of (drop n (texts_seen items)) path ≡ texts_of (texts_seen items) path → None ≡ texts_of (texts_seen items) path
+texts_none items path n h so = sym (ap (λ (ts : List PatternText). texts_of ts path) (drop_all n (texts_seen items) (omega (arith, map_length {B = PatternText} (λ (t : KeptText). (t.pattern, t.rules)) items)))) ∙ so

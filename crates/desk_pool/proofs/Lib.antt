@@ -1,0 +1,3 @@
+mod Indices
+mod Steps
+mod Advance

@@ -1,0 +1,10 @@
+use Rattle.std.proofs.Common.{◌≡◌, ◌+◌, ◌≤◌, ◌++◌, length, drop}
+use Rattle.desk_format.specs.PoolBytes.{print_slots, pool_uses}
+use Rattle.desk_pool.specs.Seen.{seen}
+use Rattle.desk_pool.proofs.uses.uses_of.Given as goal
+
+abbrev pub invariant-loop-slot : goal.invariant-loop-slot
+invariant-loop-slot l = record {
+  rest : l.uses.items ++ pool_uses l.at (seen (drop l.slot-index l.slots)) ≡ pool_uses l.start (seen l.slots);
+  room : l.at + length (print_slots (seen (drop l.slot-index l.slots))) ≤ 67108864;
+}

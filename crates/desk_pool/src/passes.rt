@@ -1,0 +1,107 @@
+//! The second and third pass over a pool: each index names an entry of a fitting tag, and leads to a text of its form.
+
+ghost use Rattle.std.specs.Prelude.{◌≡◌, ◌+◌, ◌≤◌, length};
+ghost use Rattle.desk_base.specs.Targets.{links};
+ghost use Rattle.desk_format.specs.PoolBytes.{size, print_slots};
+ghost use Rattle.desk_format.specs.PoolReading.{first_among, first_fault};
+ghost use Rattle.desk_pool.specs.Seen.{entry_of, seen, link_of, listed, check_of};
+
+use crate::constant::Constant;
+use crate::links::{Link, links_of};
+use crate::lookup::{wrong_entry, wrong_text};
+use desk_base::{FaultKind, Malformed};
+
+/// What a pass looks at: the tags of what indices name, or the texts that they lead to.
+#[derive(Clone, Copy, Debug, PartialEq, Eq)]
+pub enum Pass {
+    Names,
+    Texts,
+}
+
+/// What a pass says of an index.
+fn fault_of(slots: &[Option<Constant<'_>>], pass: Pass, link: Link) -> Option<FaultKind>
+    ensures { result ≡ check_of pass (seen slots.now) (link_of link) }
+{
+    match pass {
+        Pass::Names => wrong_entry(slots, link.target, link.index),
+        Pass::Texts => wrong_text(slots, link.target, link.index),
+    }
+}
+
+/// The same with its place, where the tag of the entry stands at a place.
+fn fault_at(
+    slots: &[Option<Constant<'_>>],
+    pass: Pass,
+    link: Option<Link>,
+    at: u32,
+) -> Option<Malformed>
+    requires { at ≤ 67108864 }
+    ensures { result ≡ first_among (check_of pass (seen slots.now)) at (listed link) }
+{
+    let link = link?;
+    let kind = fault_of(slots, pass, link)?;
+    Some(Malformed {
+        kind,
+        at: at + u32::from(link.behind),
+    })
+}
+
+/// The first fault of the indices of an entry, whose tag stands at a place.
+fn first_among(
+    slots: &[Option<Constant<'_>>],
+    pass: Pass,
+    constant: &Constant<'_>,
+    at: u32,
+) -> Option<Malformed>
+    requires { at ≤ 67108864 }
+    ensures { result ≡ first_among (check_of pass (seen slots.now)) at (links (entry_of constant.now)) }
+{
+    let links = links_of(constant);
+    match fault_at(slots, pass, links.first, at) {
+        Some(fault) => Some(fault),
+        None => fault_at(slots, pass, links.second, at),
+    }
+}
+
+/// How many bytes an entry takes.
+pub fn size_of(constant: &Constant<'_>) -> u32
+    requires { size (entry_of constant.now) ≤ 67108864 }
+    ensures { result ≡ size (entry_of constant.now) }
+{
+    match *constant {
+        Constant::Utf8(text) => text.len() as u32 + 3,
+        Constant::Integer(bytes)
+        | Constant::Float(bytes)
+        | Constant::Long(bytes)
+        | Constant::Double(bytes) => bytes.len() as u32 + 1,
+        Constant::Class(_)
+        | Constant::String(_)
+        | Constant::MethodType(_)
+        | Constant::Module(_)
+        | Constant::Package(_) => 3,
+        Constant::MethodHandle(_, _) => 4,
+        Constant::Fieldref(_, _)
+        | Constant::Methodref(_, _)
+        | Constant::InterfaceMethodref(_, _)
+        | Constant::NameAndType(_, _)
+        | Constant::Dynamic(_, _)
+        | Constant::InvokeDynamic(_, _) => 5,
+    }
+}
+
+/// The first fault that a pass finds in the entries, the first of which stands at a place.
+pub fn first_fault(slots: &[Option<Constant<'_>>], pass: Pass, start: u32) -> Option<Malformed>
+    requires { start + length (print_slots (seen slots.now)) ≤ 67108864 }
+    ensures { result ≡ first_fault (check_of pass (seen slots.now)) start (seen slots.now) }
+{
+    let mut at = start;
+    for slot in slots {
+        if let Some(constant) = slot {
+            if let Some(fault) = first_among(slots, pass, constant, at) {
+                return Some(fault);
+            }
+            at += size_of(constant);
+        }
+    }
+    None
+}

@@ -1,0 +1,121 @@
+//! A constant pool that was read.
+
+ghost use Rattle.std.specs.Prelude.{◌≡◌, ◌+◌, ◌<◌, ◌≤◌, ◌↔◌, length, IfOk, IfSome, IsSome, Some, option_copied};
+ghost use Rattle.desk_base.specs.Entries.{tag_at, utf8_at, class_name_at};
+ghost use Rattle.desk_base.specs.declared.kinds.Tag.TheVariants as tags;
+ghost use Rattle.desk_format.specs.PoolBytes.{pool_uses};
+ghost use Rattle.desk_format.specs.PoolReading.{read_pool};
+ghost use Rattle.desk_pool.specs.Seen.{ReadPool, ReadsAll, seen};
+
+use crate::constant::{Constant, read_number};
+use crate::lookup::{class_name_at, constant_at, misfit, tag_at, utf8_at};
+use crate::passes::{Pass, first_fault};
+use crate::slots::read_slots;
+use crate::uses::uses_of;
+use desk_base::{Cursor, FaultKind, Malformed, PoolView, ReadFault, Tag, UseKind, Used};
+use std::alloc::Global;
+use std::marker::Model;
+
+/// A constant pool (JVMS 4.4) without a fault, whose texts lie in the class. Contracts see its entries, a map from index to
+/// entry, and its uses of texts. Each look-up by an index takes constant time and no memory.
+#[derive(Debug, Drop)]
+pub struct Pool<'a> {
+    slots: Vec<Option<Constant<'a>>>,
+    uses: Vec<Used>,
+}
+
+impl<'a> Model for Pool<'a> {
+    ghost Value = { ReadPool };
+
+    ghost view = { λ p. record { entries = seen p.slots.items; uses = p.uses.items } };
+
+    ghost invariant = { λ p. length p.slots.items < 65535 };
+}
+
+impl<'a> Pool<'a> {
+    /// Reads from the count to the end of the pool, and checks it in three passes: the entries; what the indices name; the
+    /// forms of the texts that they lead to. Malformed is the first fault with its place; Memory is want of memory. The
+    /// cursor then stands behind the pool, and after an error between where it stood and its end.
+    #[tactic(auto, unfolding(desk_format::specs::PoolReading::read_pool))]
+    pub fn read(alloc: Global, cursor: &mut Cursor<'a>) -> Result<Pool<'a>, ReadFault>
+        ensures pool { ReadsAll result (λ pool. pool.entries) (read_pool cursor.old.at cursor.old.left) cursor.new }
+        ensures uses { IfOk result (λ pool. pool.uses ≡ pool_uses (cursor.old.at + 2) pool.entries) }
+        ensures ahead { cursor.old.at ≤ cursor.new.at }
+        ensures end { cursor.new.at + length cursor.new.left ≡ cursor.old.at + length cursor.old.left }
+    {
+        let place = cursor.at();
+        let count = read_number(cursor)?;
+        if count == 0 {
+            return Err(ReadFault::Malformed(Malformed {
+                kind: FaultKind::PoolCount,
+                at: place,
+            }));
+        }
+        let start = cursor.at();
+        let slots = read_slots(alloc, count - 1, cursor)?;
+        if let Some(fault) = first_fault(&slots, Pass::Names, start) {
+            return Err(ReadFault::Malformed(fault));
+        }
+        if let Some(fault) = first_fault(&slots, Pass::Texts, start) {
+            return Err(ReadFault::Malformed(fault));
+        }
+        let uses = uses_of(alloc, &slots, start)?;
+        Ok(Pool { slots, uses })
+    }
+
+    /// The pool's count, which is one more than its last index (JVMS 4.1).
+    pub fn count(&self) -> u16
+        ensures { result ≡ length self.now.entries + 1 }
+    {
+        self.slots.len() as u16 + 1
+    }
+
+    /// The tag of the entry that an index names; none exactly for 0, an index not below the count, and the second index of
+    /// a Long or Double.
+    pub fn tag(&self, index: u16) -> Option<Tag>
+        ensures { result ≡ tag_at self.now.entries index }
+    {
+        tag_at(&self.slots, index)
+    }
+
+    /// The text of the Utf8 that an index names; none exactly where it names no Utf8.
+    pub fn utf8(&self, index: u16) -> Option<&'a [u8]>
+        ensures { option_copied result ≡ utf8_at self.now.entries index }
+    {
+        utf8_at(&self.slots, index)
+    }
+
+    /// The text that the Class at an index leads to; none exactly where the index names no Class.
+    pub fn name_of_class(&self, index: u16) -> Option<&'a [u8]>
+        ensures class { IsSome result ↔ (tag_at self.now.entries index ≡ Some tags.Class) }
+        ensures text { IfSome result (λ text. text.now ≡ class_name_at self.now.entries index) }
+    {
+        match constant_at(&self.slots, index) {
+            Some(Constant::Class(_)) => Some(class_name_at(&self.slots, index)),
+            _ => None,
+        }
+    }
+
+    /// The uses of texts, in index order and then by place.
+    pub fn uses(&self) -> &[Used]
+        ensures { result.now ≡ self.now.uses }
+    {
+        self.uses.as_slice()
+    }
+}
+
+impl<'a> PoolView for Pool<'a> {
+    ghost pool = { λ p. p.entries };
+
+    fn tag(&self, index: u16) -> Option<Tag> {
+        tag_at(&self.slots, index)
+    }
+
+    fn utf8(&self, index: u16) -> Option<&[u8]> {
+        utf8_at(&self.slots, index)
+    }
+
+    fn check(&self, index: u16, kind: UseKind) -> Option<FaultKind> {
+        misfit(&self.slots, kind, index)
+    }
+}

@@ -1,0 +1,75 @@
+//! Images of descriptors (JVMS 4.3), and of the names of classes and arrays.
+
+ghost use Rattle.std.specs.Prelude.{◌≡◌, IfOk, MatchOption, false};
+ghost use Rattle.desk_names.specs.Pieces.{pieces};
+ghost use Rattle.desk_rules.specs.Images.{IsImage};
+ghost use Rattle.desk_rename.specs.Images.{is_any_descriptor, desc, cls};
+ghost use Rattle.desk_rename.specs.Drafts.{IsReadDescriptor};
+
+use crate::drafts::Draft;
+use crate::fronts::exchanged;
+use crate::names::class_front;
+use desk_base::{Memory, Text};
+use desk_names::{DescParts, Want, read_descriptor};
+use desk_rules::RuleSet;
+use std::alloc::Global;
+
+/// The parts of a descriptor of any kind; none exactly where the text is no descriptor.
+fn read_any_descriptor(text: &[u8]) -> Option<DescParts<'_>>
+    ensures { MatchOption result (is_any_descriptor text.now ≡ false) (IsReadDescriptor text.now) }
+{
+    if text.starts_with(b"(") {
+        read_descriptor(text, Want::Method)
+    } else {
+        read_descriptor(text, Want::Return)
+    }
+}
+
+/// The image of a text of these parts.
+fn rename_descriptor_parts(
+    alloc: Global,
+    rules: &RuleSet,
+    text: &[u8],
+    parts: DescParts<'_>,
+) -> Result<Option<Text>, Memory>
+    requires { IsReadDescriptor text.now parts }
+    ensures { IfOk result (IsImage text.now (desc rules.now.renames text.now)) }
+{
+    let mut draft = Draft::new(alloc);
+    for part in parts {
+        draft.take(rules, text, part)?;
+    }
+    draft.finish(text)
+}
+
+/// The image of a field, method or return descriptor: that of its tree with the package of each
+/// class name exchanged. None exactly where the image is the text itself, which it is for any text
+/// that is no descriptor. No memory is taken where nothing changes. The only error is want of memory.
+pub fn rename_descriptor(
+    alloc: Global,
+    rules: &RuleSet,
+    text: &[u8],
+) -> Result<Option<Text>, Memory>
+    ensures image { IfOk result (IsImage text.now (desc rules.now.renames text.now)) }
+{
+    match read_any_descriptor(text) {
+        None => Ok(None),
+        Some(parts) => rename_descriptor_parts(alloc, rules, text, parts),
+    }
+}
+
+/// The image of the name of a class or an array: a class name with its package exchanged, and of an
+/// array's name, which is a field descriptor that begins with `[`, its image as a descriptor. None
+/// exactly where the image is the text itself, which it is for any other text. No memory is taken
+/// where nothing changes. The only error is want of memory.
+pub fn rename_class(alloc: Global, rules: &RuleSet, text: &[u8]) -> Result<Option<Text>, Memory>
+    ensures image { IfOk result (IsImage text.now (cls rules.now.renames text.now)) }
+{
+    if text.starts_with(b"[") {
+        return rename_descriptor(alloc, rules, text);
+    }
+    match class_front(rules, text) {
+        None => Ok(None),
+        Some(front) => Ok(Some(exchanged(alloc, text, &front, b'/')?)),
+    }
+}

@@ -1,0 +1,68 @@
+//! Packages in front of texts, and what takes their place.
+
+ghost use Rattle.std.specs.Prelude.{◌≡◌, ◌++◌, ◌≤◌, OnOk, IfOk, IsTrue, length, drop};
+ghost use Rattle.desk_base.specs.Names.{written};
+ghost use Rattle.desk_rename.specs.Fronts.{IsFrontEnd};
+
+use desk_base::{Memory, Text};
+use desk_rules::Front;
+use std::alloc::Global;
+
+/// How many bytes of a text stand before its last separator; 0 where it has none.
+pub fn front_end(text: &[u8], separator: u8) -> usize
+    ensures { IsFrontEnd separator text.now result }
+{
+    let mut end = text.len();
+    while end > 0 {
+        end -= 1;
+        if text[end] == separator {
+            return end;
+        }
+    }
+    0
+}
+
+/// Appends a package, with a separator between its segments. The only error is want of memory; a
+/// part may have been appended then.
+pub fn append_segments(out: &mut Text, segments: &[Text], separator: u8) -> Result<(), Memory>
+    ensures { OnOk result (out.new ≡ out.old ++ written separator segments.now) }
+{
+    for (i, segment) in segments.iter().enumerate() {
+        if i > 0 {
+            out.push(separator)?;
+        }
+        out.append(segment.as_bytes())?;
+    }
+    Ok(())
+}
+
+/// Appends a text with a front exchanged: the front's segments, with a separator between each two,
+/// and what stands in the text behind its first `taken` bytes. The only error is want of memory; a
+/// part may have been appended then.
+pub fn append_exchanged(
+    out: &mut Text,
+    text: &[u8],
+    front: &Front<'_>,
+    separator: u8,
+) -> Result<(), Memory>
+    requires { front.now.taken ≤ length text.now }
+    ensures { OnOk result (out.new ≡ out.old ++ (written separator front.now.segments.now ++ drop front.now.taken text.now)) }
+{
+    append_segments(out, front.segments.as_slice(), separator)?;
+    out.append(&text[front.taken..])
+}
+
+/// A text with a front exchanged. The only error is want of memory.
+pub fn exchanged(
+    alloc: Global,
+    text: &[u8],
+    front: &Front<'_>,
+    separator: u8,
+) -> Result<Text, Memory>
+    requires { front.now.taken ≤ length text.now }
+    ensures { IfOk result (λ image. image ≡ written separator front.now.segments.now ++ drop front.now.taken text.now) }
+{
+    let mut image = Text::empty(alloc);
+    append_exchanged(&mut image, text, front, separator)?;
+    Ok(image)
+}

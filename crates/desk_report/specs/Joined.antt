@@ -1,0 +1,13 @@
+-- Pieces of a text.
+use Rattle.std.specs.Prelude.{List, [], ◌∷◌, ◌++◌, codes}
+use Rattle.desk_base.specs.Names.{Text}
+use Rattle.desk_base.specs.Shown.{shown}
+
+-- pieces, one behind the other
+abbrev pub joined : List Text → Text
+joined [] = []
+joined (piece ∷ pieces) = piece ++ joined pieces
+
+-- two texts behind a piece
+abbrev pub pair_pieces : Text → Text → Text → List Text
+pair_pieces front first second = front ∷ shown first ∷ codes " " ∷ shown second ∷ codes "\n" ∷ []

@@ -1,0 +1,25 @@
+-- What a rule set keeps makes its rules well-formed and settled.
+use Rattle.std.proofs.Common.{◌≡◌, ℕ, List, Option, None, subst, sym, ap, ◌∙◌}
+use Rattle.std.specs.FinMap as finite
+use Rattle.desk_base.specs.Names.{Text}
+use Rattle.desk_patterns.specs.Selections.{Choice}
+use Rattle.desk_patterns.specs.PatternTexts.{PatternText}
+use Rattle.desk_rules.specs.Renames.{Renaming}
+use Rattle.desk_rules.specs.Rules.{Rules, Versions, Update}
+use Rattle.desk_rules.specs.Settled.{Exchange, BundleUpdate, Chain, first_chain_in, first_chain}
+use Rattle.desk_rules.specs.Keys.{IsTable, RiseBy}
+use Rattle.desk_rules.specs.RuleSets.{IsRuleSet, IsKept, rules_of}
+use Rattle.desk_rules.proofs.TextMaps.{entries_rising}
+
+-- the first chain of the rules is that of the lists
+pub chain_is : (renames : List Renaming) (versions : List (Text × Versions)) (bundles : List BundleUpdate) (direct : List Exchange) (selection : List Choice) (texts : List PatternText) → RiseBy (λ b. b.0) bundles → RiseBy (λ d. d.0) direct → first_chain (rules_of renames versions bundles direct selection texts) ≡ first_chain_in renames direct bundles
+chain_is renames versions bundles direct selection texts b d =
+    ap (λ (es : List Exchange). first_chain_in renames es (finite.entries (rules_of renames versions bundles direct selection texts).bundles)) (entries_rising direct d)
+    ∙ ap (first_chain_in renames direct) (entries_rising bundles b)
+
+pub settled_by : (renames : List Renaming) (versions : List (Text × Versions)) (bundles : List BundleUpdate) (direct : List Exchange) (selection : List Choice) (texts : List PatternText) → IsTable renames → RiseBy (λ b. b.0) bundles → RiseBy (λ d. d.0) direct → first_chain_in renames direct bundles ≡ None → IsRuleSet (rules_of renames versions bundles direct selection texts)
+settled_by renames versions bundles direct selection texts table b d none = record { formed = table.formed; settled = chain_is renames versions bundles direct selection texts b d ∙ none }
+
+pub rule_set_by : {renames : List Renaming} {versions : List (Text × Versions)} {bundles : List BundleUpdate} {direct : List Exchange} {dotted slashed : List (List ℕ)} {selection : List Choice} {texts : List PatternText} → IsKept renames versions bundles direct dotted slashed → (rules : Rules) → rules_of renames versions bundles direct selection texts ≡ rules → IsRuleSet rules
+rule_set_by {renames} {versions} {bundles} {direct} {dotted} {slashed} {selection} {texts} kept rules is =
+    subst IsRuleSet is (settled_by renames versions bundles direct selection texts kept.table kept.bundles_rise kept.direct_rise kept.settled)

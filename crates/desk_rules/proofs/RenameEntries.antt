@@ -1,0 +1,81 @@
+-- What is read of an entry of the renames.
+use Rattle.std.proofs.Common.{◌≡◌, ◌-◌, Bool, true, false, cond, not, ◌==◌, List, [], ◌∷◌, ◌++◌, length, take, Option, Result, Ok, Err, refl, sym, ap, ◌∙◌, inl, inr}
+use Rattle.std.specs.List.{list_all, ends_with}
+use Rattle.std.proofs.lemmas.Bool.{and_from, cases_Bool}
+use Rattle.std.proofs.lemmas.Bool.Decides.{Decides-eqb}
+use Rattle.std.proofs.lemmas.List.{append-nil}
+use Rattle.std.proofs.lemmas.Slice.Eq.{ends_is}
+use Rattle.desk_base.specs.Names.{Text, segments, written, dot, is_dotted}
+use Rattle.desk_properties.specs.Properties.{Entry}
+use Rattle.desk_entries.specs.Blanks.{stripped}
+use Rattle.desk_entries.specs.Forms.{is_below, source_text}
+use Rattle.desk_entries.specs.Entries.{rename_of, rename_between}
+use Rattle.desk_entries.specs.declared.faults.EntryFault.{EntryFault}
+use Rattle.desk_entries.specs.declared.faults.EntryFault.TheVariants.{Key, Value}
+use Rattle.desk_entries.specs.declared.renames.Rename.{Rename}
+use Rattle.desk_rules.specs.Renames.{Renaming, key_of, is_rename}
+use Rattle.desk_rules.specs.Keys.{renaming, wanted_tail}
+use Rattle.desk_rules.specs.RuleFiles.{each, with_first, rename_entry, renaming_from, renames_of, in_order}
+use Rattle.desk_rules.specs.Files.{renames_name}
+use Rattle.desk_rules.specs.declared.RuleFault.{RuleFault}
+use Rattle.desk_rules.proofs.Cuts.{written-segments}
+
+-- what a rename that was read says
+record Read (key value : Text) (r : Rename) : Type 0 where
+  source : is_dotted (source_text key) ≡ true
+  target : is_dotted (stripped value) ≡ true
+  is : record { source = segments dot (source_text key); target = segments dot (stripped value); below = is_below key } ≡ r
+
+read_parts : (key value : Text) (r : Rename) → rename_of key value ≡ Ok r → Read key value r
+read_parts key value r h =
+    let R : Rename = record { source = segments dot (source_text key); target = segments dot (stripped value); below = is_below key } in
+    elim (is_dotted (source_text key)) as (λ (a : Bool). is_dotted (source_text key) ≡ a → cond (not a) (Err Key) (cond (not (is_dotted (stripped value))) (Err Value) (Ok R)) ≡ Ok r → Read key value r) [
+      | false ↦ λ p k. absurd cc
+      | true ↦ λ p k. elim (is_dotted (stripped value)) as (λ (b : Bool). is_dotted (stripped value) ≡ b → cond (not b) (Err Value) (Ok R) ≡ Ok r → Read key value r) [
+        | false ↦ λ q l. absurd cc
+        | true ↦ λ q l. let same : R ≡ r = cc in record { source = p; target = q; is = same }
+      ] refl k
+    ] refl h
+
+pub entry_formed : (key value : Text) (r : Rename) → rename_of key value ≡ Ok r → is_rename (renaming r.source r.target r.below) ≡ true
+entry_formed key value r h =
+    let read = read_parts key value r h in
+    ap (λ (x : Rename). is_rename (renaming x.source x.target x.below)) (sym read.is) ∙ and_from _ _ read.source read.target
+
+-- a key is its package, and what stands behind it
+key_whole : (key : Text) → source_text key ++ wanted_tail (is_below key) ≡ key
+key_whole key = elim (cases_Bool (is_below key)) [
+  | inl e ↦ ap (λ (b : Bool). cond b (take (length key - 2) key) key ++ wanted_tail b) e ∙ sym ((ends_is Decides-eqb key (46 ∷ 42 ∷ []) (is_below key) refl).0 e)
+  | inr e ↦ ap (λ (b : Bool). cond b (take (length key - 2) key) key ++ wanted_tail b) e ∙ append-nil key
+]
+
+pub entry_key : (key value : Text) (r : Rename) → rename_of key value ≡ Ok r → key_of (renaming r.source r.target r.below) ≡ key
+entry_key key value r h =
+    let read = read_parts key value r h in
+    ap (λ (x : Rename). key_of (renaming x.source x.target x.below)) (sym read.is)
+    ∙ ap (λ (t : Text). t ++ wanted_tail (is_below key)) (written-segments dot (source_text key)) ∙ key_whole key
+
+renaming_formed : (key value : Text) (o : Result Rename EntryFault) (r : Renaming) → rename_of key value ≡ o → renaming_from o ≡ Ok r → is_rename r ≡ true
+renaming_formed key value (Ok x) r q h =
+    let same : renaming x.source x.target x.below ≡ r = cc in
+    ap is_rename (sym same) ∙ entry_formed key value x q
+renaming_formed key value (Err fault) r q h = absurd cc
+
+-- renames that were read are renames of packages
+pub renames_formed : (es : List Entry) (rs : List Renaming) → each renames_name rename_entry es ≡ Ok rs → list_all is_rename rs ≡ true
+renames_formed [] rs h = let same : [] ≡ rs = cc in ap (list_all is_rename) (sym same)
+renames_formed (e ∷ es) rs h =
+    elim (rename_entry e.0 e.1) as (λ (o : Result Renaming EntryFault). rename_entry e.0 e.1 ≡ o → with_first renames_name e.0 o (each renames_name rename_entry es) ≡ Ok rs → list_all is_rename rs ≡ true) [
+      | Err fault ↦ λ q k. absurd cc
+      | Ok x ↦ λ q k. rest_formed (λ xs read. renames_formed es xs read) (each renames_name rename_entry es) refl x (renaming_formed e.0 e.1 (rename_of e.0 e.1) x refl q) k
+    ] refl h
+  where
+    rest_formed : ((xs : List Renaming) → each renames_name rename_entry es ≡ Ok xs → list_all is_rename xs ≡ true) → (o : Result (List Renaming) RuleFault) → each renames_name rename_entry es ≡ o → (x : Renaming) → is_rename x ≡ true → with_first renames_name e.0 (Ok x) o ≡ Ok rs → list_all is_rename rs ≡ true
+    rest_formed all (Err fault) q x fine k = absurd cc
+    rest_formed all (Ok xs) q x fine k =
+        let same : x ∷ xs ≡ rs = cc in
+        ap (list_all is_rename) (sym same) ∙ and_from _ _ fine (all xs q)
+
+pub renames_some : (es : List Entry) → (length es ≡ 0 → ⊥) → renames_of es ≡ each renames_name rename_entry (in_order es)
+renames_some [] some = absurd (some refl)
+renames_some (e ∷ es) some = refl

@@ -1,0 +1,10 @@
+use Rattle.std.proofs.Common.{◌∙◌, ap}
+use Rattle.desk_rules.specs.Renames.{key_of}
+use Rattle.desk_rules.proofs.RenameEntries.{entry_formed, entry_key}
+use Rattle.desk_rules.proofs.reading.RenameFromEntry.from_entry.Goals as goal
+
+pub new-requires : goal.new-requires
+new-requires c = entry_formed c.args.key.now c.args.value.now c.in_ok-entry.entry c.in_ok-entry.ensures.read
+
+pub returns-clause-keyed : goal.returns-clause-keyed
+returns-clause-keyed c = ap key_of c.in_ok-new.ensures ∙ entry_key c.args.key.now c.args.value.now c.in_ok-entry.entry c.in_ok-entry.ensures.read

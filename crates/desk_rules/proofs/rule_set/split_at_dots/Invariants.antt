@@ -1,5 +1,0 @@
-use Rattle.desk_rules.proofs.DotCuts.{IsCutTo}
-use Rattle.desk_rules.proofs.rule_set.split_at_dots.Given as goal
-
-abbrev pub invariant-loop-i : goal.invariant-loop-i
-invariant-loop-i l = IsCutTo l.text l.parts l.from l.i

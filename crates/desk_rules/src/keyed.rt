@@ -1,0 +1,204 @@
+//! Rules by a key text: versions, bundle updates and direct strings, and how one is found.
+
+ghost use Rattle.std.specs.Prelude.{◌≡◌, if◌then◌else◌};
+ghost use Rattle.std.specs.Option.{option_copied};
+ghost use Rattle.std.specs.List.{find};
+ghost use Rattle.std.specs.Str.{bytes_eq};
+ghost use Rattle.desk_rules.specs.Keys.{RiseBy};
+ghost use Rattle.desk_rules.specs.Settled.{alters, renames_bundle};
+
+use desk_base::Text;
+use desk_entries::{Update, Versions};
+use std::cmp::Ordering;
+use std::marker::Model;
+
+/// What has a key.
+pub(crate) trait Keyed {
+    ghost use Rattle.std.specs.Prelude.{ℕ, List};
+
+    ghost key_of: { Self → List ℕ };
+
+    fn key(&self) -> &[u8]
+        ensures { result.now ≡ key_of self.now };
+}
+
+/// The versions of a new package, where it is imported and where it is exported.
+#[derive(Debug, Drop)]
+pub(crate) struct VersionRule {
+    pub(crate) package: Text,
+    pub(crate) versions: Versions,
+}
+
+impl Model for VersionRule {
+    ghost use Rattle.std.specs.Coded.{coded×};
+    ghost use Rattle.desk_base.specs.Names.{Text as Bytes};
+    ghost use Rattle.desk_rules.specs.Rules.{Versions, versions_code, text_code};
+
+    ghost Value = { Bytes × Versions };
+
+    ghost coded = { coded× text_code versions_code };
+
+    ghost view = { λ r. (r.package, r.versions) };
+}
+
+impl Keyed for VersionRule {
+    ghost key_of = { λ r. r.0 };
+
+    fn key(&self) -> &[u8] {
+        self.package.as_bytes()
+    }
+}
+
+/// The new name of a bundle, and its new version where it gets one.
+#[derive(Debug, Drop)]
+pub(crate) struct BundleRule {
+    pub(crate) old_name: Text,
+    pub(crate) update: Update,
+}
+
+impl Model for BundleRule {
+    ghost use Rattle.std.specs.Coded.{coded×};
+    ghost use Rattle.desk_base.specs.Names.{Text as Bytes};
+    ghost use Rattle.desk_rules.specs.Rules.{Update, update_code, text_code};
+
+    ghost Value = { Bytes × Update };
+
+    ghost coded = { coded× text_code update_code };
+
+    ghost view = { λ r. (r.old_name, r.update) };
+}
+
+impl Keyed for BundleRule {
+    ghost key_of = { λ r. r.0 };
+
+    fn key(&self) -> &[u8] {
+        self.old_name.as_bytes()
+    }
+}
+
+/// An old string, and the new one.
+#[derive(Debug, Drop)]
+pub(crate) struct DirectRule {
+    pub(crate) source: Text,
+    pub(crate) target: Text,
+}
+
+impl Model for DirectRule {
+    ghost use Rattle.std.specs.Coded.{coded×};
+    ghost use Rattle.desk_rules.specs.Settled.{Exchange};
+    ghost use Rattle.desk_rules.specs.Rules.{text_code};
+
+    ghost Value = { Exchange };
+
+    ghost coded = { coded× text_code text_code };
+
+    ghost view = { λ r. (r.source, r.target) };
+}
+
+impl Keyed for DirectRule {
+    ghost key_of = { λ r. r.0 };
+
+    fn key(&self) -> &[u8] {
+        self.source.as_bytes()
+    }
+}
+
+impl VersionRule {
+    /// The version where the package is exported, or where it is imported.
+    pub(crate) fn version(&self, export: bool) -> &[u8]
+        ensures { result.now ≡ (if export then self.now.1.exported else self.now.1.imported) }
+    {
+        if export {
+            self.versions.exported.as_bytes()
+        } else {
+            self.versions.imported.as_bytes()
+        }
+    }
+}
+
+impl DirectRule {
+    /// The new string.
+    pub(crate) fn target(&self) -> &[u8]
+        ensures { result.now ≡ self.now.1 }
+    {
+        self.target.as_bytes()
+    }
+
+    /// Whether the new string differs from the old one.
+    pub(crate) fn changes(&self) -> bool
+        ensures { result ≡ alters self.now }
+    {
+        self.source != self.target
+    }
+}
+
+impl BundleRule {
+    /// The new name.
+    pub(crate) fn name(&self) -> &[u8]
+        ensures { result.now ≡ self.now.1.name }
+    {
+        self.update.name.as_bytes()
+    }
+
+    /// Whether the new name differs from the old one.
+    pub(crate) fn changes(&self) -> bool
+        ensures { result ≡ renames_bundle self.now }
+    {
+        self.old_name != self.update.name
+    }
+}
+
+/// A pattern of paths, and whether it excludes them.
+#[derive(Debug, Drop)]
+pub(crate) struct SelectionRule {
+    pub(crate) pattern: Text,
+    pub(crate) excludes: bool,
+}
+
+impl Model for SelectionRule {
+    ghost use Rattle.std.specs.Coded.{coded×, coded_bool};
+    ghost use Rattle.desk_patterns.specs.Selections.{Choice};
+    ghost use Rattle.desk_rules.specs.Rules.{text_code};
+
+    ghost Value = { Choice };
+
+    ghost coded = { coded× text_code coded_bool };
+
+    ghost view = { λ r. (r.pattern, r.excludes) };
+}
+
+impl Keyed for SelectionRule {
+    ghost key_of = { λ r. r.0 };
+
+    fn key(&self) -> &[u8] {
+        self.pattern.as_bytes()
+    }
+}
+
+impl SelectionRule {
+    /// Whether the pattern excludes.
+    pub(crate) fn is_exclude(&self) -> bool
+        ensures { result ≡ self.now.1 }
+    {
+        self.excludes
+    }
+}
+
+/// The rule with a key, among rules in byte order of their keys. It takes no memory.
+pub(crate) fn rule_of<'r, R: Keyed>(rules: &'r [R], key: &[u8]) -> Option<&'r R>
+    requires { RiseBy R.key_of rules.now }
+    ensures { option_copied result ≡ find (λ r. bytes_eq (R.key_of r) key.now) rules.now }
+{
+    let mut low = 0;
+    let mut high = rules.len();
+    while low < high {
+        let middle = low + (high - low) / 2;
+        let rule = &rules[middle];
+        match rule.key().cmp(&key) {
+            Ordering::Less => low = middle + 1,
+            Ordering::Greater => high = middle,
+            Ordering::Equal => return Some(rule),
+        }
+    }
+    None
+}

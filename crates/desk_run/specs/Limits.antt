@@ -1,0 +1,46 @@
+-- What a run takes no more of, and what stands against files that pass it.
+use Rattle.std.specs.Prelude.{ℕ, ◌+◌, ◌&&◌, nat_lt, nat_le, List, [], ◌∷◌, length, Option, Some, None, Bool, cond, if◌then◌else◌}
+use Rattle.desk_base.specs.Names.{Text}
+use Rattle.desk_folders.specs.Contents.{File}
+use Rattle.desk_report.specs.declared.status.LimitKind.TheVariants.{PathLength, FileSize, Sum, RuleFiles, RuleSize, Files}
+use Rattle.desk_report.specs.declared.status.Status.{Status}
+use Rattle.desk_report.specs.declared.status.Status.TheVariants.{Limit}
+use Rattle.desk_run.specs.declared.TheConstants.{FILES, LENGTH, SIZE, SUM, RULE_FILES, RULE_SIZE}
+
+abbrev pub is_short : Text → Bool
+is_short text = nat_le (length text) LENGTH
+
+-- the first of these paths that is too long, or whose target is
+abbrev pub first_long : (Text → Text) → List Text → Option Text
+first_long target [] = None
+first_long target (path ∷ paths) = if is_short path && is_short (target path) then first_long target paths else Some path
+
+abbrev pub long_answer : Option Text → Option Status
+long_answer None = None
+long_answer (Some path) = Some (Limit PathLength path)
+
+-- what stands against the paths below a root: that they are too many, or that one is too long
+abbrev pub paths_answer : Text → (Text → Text) → List Text → Option Status
+paths_answer from target paths = if nat_lt FILES (length paths) then Some (Limit Files from) else long_answer (first_long target paths)
+
+-- what stands against files by their bytes, with so many bytes before them: the first that has too many,
+-- or with which they are too many
+abbrev pub size_answer : ℕ → List File → Option Status
+size_answer sum [] = None
+size_answer sum (file ∷ files) =
+    if nat_lt SIZE (length file.bytes) then Some (Limit FileSize file.path)
+    else if nat_lt SUM (sum + length file.bytes) then Some (Limit Sum file.path)
+    else size_answer (sum + length file.bytes) files
+
+-- a file's bytes where they are within a limit
+abbrev pub within : ℕ → Text → Option Text
+within limit bytes = cond (nat_lt limit (length bytes)) None (Some bytes)
+
+-- the first rule file that has too many bytes
+abbrev pub rule_size_answer : List File → Option Status
+rule_size_answer [] = None
+rule_size_answer (file ∷ files) = if nat_lt RULE_SIZE (length file.bytes) then Some (Limit RuleSize file.path) else rule_size_answer files
+
+-- what stands against rule files below a root: that they are too many, or that one has too many bytes
+abbrev pub rule_files_answer : Text → List File → Option Status
+rule_files_answer root files = if nat_lt RULE_FILES (length files) then Some (Limit RuleFiles root) else rule_size_answer files

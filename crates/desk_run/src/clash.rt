@@ -1,0 +1,50 @@
+//! Finds two files whose targets clash.
+
+ghost use Rattle.std.specs.Prelude.{◌≡◌, ◌<◌, None, IfOk, IfErr, OnOk, length, map};
+ghost use Rattle.desk_clashes.specs.Clashes.{first_clash};
+ghost use Rattle.desk_run.specs.Answers.{clash_status};
+ghost use Rattle.desk_run.specs.Halts.{HaltsClashing, clash_of};
+
+use crate::files::Input;
+use crate::sources::copy_of;
+use crate::stops::Halt;
+use desk_base::{Memory, Text};
+use desk_clashes::{Clash, Targets};
+use desk_report::Status;
+use std::alloc::Global;
+
+/// The targets of files.
+fn targets_of(alloc: Global, inputs: &[Input]) -> Result<Targets<'_>, Memory>
+    ensures { IfOk result (λ targets. targets ≡ map (λ input. input.target) inputs.now) }
+{
+    let mut targets = Targets::new(alloc);
+    for input in inputs {
+        targets.push(input.target.as_bytes())?;
+    }
+    Ok(targets)
+}
+
+/// The status of two files whose targets clash.
+fn path_clash(alloc: Global, first: &Text, second: &Text) -> Result<Status, Memory>
+    ensures { IfOk result (λ status. status ≡ Status.PathClash first.now second.now) }
+{
+    let first = copy_of(alloc, first)?;
+    let second = copy_of(alloc, second)?;
+    Ok(Status::PathClash { first, second })
+}
+
+/// Refuses files of which two have targets that clash.
+pub(crate) fn refuse_clash(alloc: Global, inputs: &[Input]) -> Result<(), Halt>
+    ensures ok { OnOk result (clash_of inputs.now ≡ None) }
+    ensures err { IfErr result (HaltsClashing inputs.now) }
+{
+    let targets = targets_of(alloc, inputs)?;
+    match targets.first_clash(alloc)? {
+        None => Ok(()),
+        Some(Clash { first, second }) => Err(Halt::Answer(path_clash(
+            alloc,
+            &inputs[first].path,
+            &inputs[second].path,
+        )?)),
+    }
+}

@@ -1,0 +1,12 @@
+pub mod Wanted
+pub mod Texts
+pub mod Least
+pub mod Missed
+pub mod Long
+pub mod Made
+pub mod Chosen
+pub mod Finish
+pub mod Paired
+pub mod Printed
+pub mod PoolBytes
+pub mod Bodies

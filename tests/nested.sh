@@ -1,0 +1,128 @@
+#!/usr/bin/env bash
+# Migrates a real folder of nested archives that were unpacked, and compares the report, the targets and the exit status with
+# what the rules say; then tries rule files with one fault each. The expected lines are written by hand.
+set -u
+cd "$(dirname "$0")/.."
+program=$PWD/crates/migrate/out/migrate
+[ -x "$program" ] || { echo "build the program first: examples/first/run.sh" >&2; exit 1; }
+place=$(mktemp -d)
+trap 'rm -rf "$place"' EXIT
+cd "$place" || exit 1
+passed=0 failed=0
+
+# same NAME WANTED GOT: the two files are equal
+same() {
+  if diff -u "$2" "$3"; then passed=$((passed + 1)); else failed=$((failed + 1)); echo "differs: $1" >&2; fi
+}
+
+# put PATH TEXT: a file of this text
+put() {
+  mkdir -p "$(dirname "$1")"
+  printf "$2" >"$1"
+}
+
+# ---- an application of nested archives
+
+put rules/renames.properties 'javax.servlet.*=jakarta.servlet\n'
+put rules/selection.properties 'legacy/*=!\n'
+put rules/text.properties '*web.xml=webxml.properties\n'
+put rules/webxml.properties 'javax.servlet.=jakarta.servlet.\n'
+
+put app/META-INF/MANIFEST.MF 'Manifest-Version: 1.0\r\n'
+put app/META-INF/services/javax.servlet.ServletContainerInitializer 'web.Init # first\njavax.servlet.X\n'
+put app/META-INF/versions/11/javax/servlet/F.class 'not read yet'
+put app/legacy/javax/servlet/Old.class 'not selected'
+put app/lib/javax.servlet.jar/META-INF/services/javax.servlet.Filter 'javax.servlet.http.F\r\n'
+put app/lib/javax.servlet.jar/META-INF/services/bad 'web.Init x\n'
+put app/lib/javax.servlet.jar/javax/servlet/notes.txt 'notes'
+put app/shop.war/WEB-INF/classes/javax/servlet/F.class 'not read yet'
+put app/shop.war/WEB-INF/classes/javax/servlet/messages.properties 'a=b'
+put app/shop.war/WEB-INF/lib/a.jar 'PK'
+put app/shop.war/WEB-INF/web.xml '<listener-class>javax.servlet.L</listener-class>'
+put app/x/javax/servlet/readme.txt 'stays'
+
+cat >wanted <<'TXT'
+refused META-INF/MANIFEST.MF not-built
+written META-INF/services/javax.servlet.ServletContainerInitializer META-INF/services/jakarta.servlet.ServletContainerInitializer service changed=1
+refused META-INF/versions/11/javax/servlet/F.class not-built
+written legacy/javax/servlet/Old.class legacy/javax/servlet/Old.class copy
+refused lib/javax.servlet.jar/META-INF/services/bad bad-line at=0
+written lib/javax.servlet.jar/META-INF/services/javax.servlet.Filter lib/javax.servlet.jar/META-INF/services/jakarta.servlet.Filter service changed=1
+written lib/javax.servlet.jar/javax/servlet/notes.txt lib/javax.servlet.jar/jakarta/servlet/notes.txt copy
+refused shop.war/WEB-INF/classes/javax/servlet/F.class not-built
+written shop.war/WEB-INF/classes/javax/servlet/messages.properties shop.war/WEB-INF/classes/jakarta/servlet/messages.properties copy
+written shop.war/WEB-INF/lib/a.jar shop.war/WEB-INF/lib/a.jar copy
+refused shop.war/WEB-INF/web.xml not-built
+written x/javax/servlet/readme.txt x/javax/servlet/readme.txt copy
+total files=12 written=7 kept=0 refused=5 renamed=0 added=0
+status 2
+TXT
+"$program" run --ledger=l --workers 4 --to out --from=app --rules rules >got
+echo "status $?" >>got
+same "the report of an application of nested archives" wanted got
+
+mkdir -p wanted_out
+(
+  cd wanted_out || exit 1
+  put META-INF/services/jakarta.servlet.ServletContainerInitializer 'web.Init # first\njakarta.servlet.X\n'
+  put legacy/javax/servlet/Old.class 'not selected'
+  put lib/javax.servlet.jar/META-INF/services/jakarta.servlet.Filter 'jakarta.servlet.http.F\r\n'
+  put lib/javax.servlet.jar/jakarta/servlet/notes.txt 'notes'
+  put shop.war/WEB-INF/classes/jakarta/servlet/messages.properties 'a=b'
+  put shop.war/WEB-INF/lib/a.jar 'PK'
+  put x/javax/servlet/readme.txt 'stays'
+)
+diff -r wanted_out out >differences 2>&1
+: >nothing
+same "the target folder" nothing differences
+
+# ---- one fault each: the words of the report, and the exit status
+
+# ends NAME STATUS LINE [WORD..]: the run prints this line alone and ends with this status
+ends() {
+  name=$1 status=$2 line=$3
+  shift 3
+  printf '%s\nstatus %s\n' "$line" "$status" >wanted
+  rm -rf out
+  "$program" "$@" >got
+  echo "status $?" >>got
+  same "$name" wanted got
+  if [ -e out ]; then failed=$((failed + 1)); echo "something was written: $name" >&2; fi
+}
+
+# faulty NAME LINE FILE TEXT [FILE TEXT..]: the rule files end the run with this line
+faulty() {
+  name=$1 line=$2
+  shift 2
+  rm -rf r
+  while [ $# -gt 0 ]; do put "r/$1" "$2"; shift 2; done
+  ends "$name" 22 "$line" run --rules r --from app --to out --ledger l2
+}
+
+usage='migrate: 20 usage: migrate run --rules R --from A --to B --ledger L [--workers N]'
+ends "no words" 20 "$usage"
+ends "an option twice" 20 "$usage" run --rules rules --from app --to out --ledger l2 --rules rules
+ends "an option without its value" 20 "$usage" run --rules rules --from app --to out --ledger
+ends "more workers than 64" 20 "$usage" run --rules rules --from app --to out --ledger l2 --workers 65
+ends "a root that leads upward" 20 "$usage" run --rules rules --from app --to ../out --ledger l2
+ends "a target in the source" 21 'migrate: 21 nested roots app app/x' run --rules rules --from app --to app/x --ledger l2
+
+faulty "no file of renames" 'migrate: 22 no renames' versions.properties 'a=1\n'
+faulty "an empty file of renames" 'migrate: 22 no renames' renames.properties ''
+faulty "an escape without its digits" 'migrate: 22 properties renames.properties escape 1' renames.properties 'a\\u12=b\n'
+faulty "bytes that are no UTF-8" 'migrate: 22 properties direct.properties not-utf8 2' renames.properties 'a=b\n' direct.properties 'a=\377\n'
+faulty "a key with an empty segment" 'migrate: 22 bad key renames.properties a..b' renames.properties 'a..b=c\n'
+faulty "a value that is a below rule" 'migrate: 22 bad value renames.properties a' renames.properties 'a=b.*\n'
+faulty "a text rule file that is missing" 'migrate: 22 missing text *.xml x.properties' renames.properties 'a=b\n' text.properties '*.xml=x.properties\n'
+faulty "two renames in a chain" 'migrate: 22 chain 1 a b' renames.properties 'a=b\nb=c\n'
+faulty "a rename that meets itself" 'migrate: 22 chain 1 a.* a.*' renames.properties 'a.*=a.x\n'
+faulty "a direct rule into a rename" 'migrate: 22 chain 4 x a' renames.properties 'a=b\n' direct.properties 'x=a.C\n'
+faulty "two bundle updates in a chain" 'migrate: 22 chain 5 a b' renames.properties 'x=y\n' bundles.properties 'a=b\nb=c\n'
+
+rm -rf clash
+put clash/javax/servlet/a.txt '1'
+put clash/jakarta/servlet/a.txt '2'
+ends "two files of one target" 24 'migrate: 24 path clash jakarta/servlet/a.txt javax/servlet/a.txt' run --rules rules --from clash --to out --ledger l2
+
+echo "$passed passed, $failed failed"
+[ "$failed" = 0 ]
