@@ -44,10 +44,9 @@ fn walk_constant<P: PoolView, V: Visit>(
     }
 }
 
-/// An element value of a depth from 1 to 65. One that stands in no other has depth 1, and one inside another the outer depth
-/// plus 1.
+/// An element value of a depth. One that stands in no other has depth 1, and one inside another the outer depth plus 1.
 ///
-/// At depth 65 it is Depth at the cursor's place, and nothing is read. An unknown tag is ElementTag at the tag. An item that
+/// From depth 65 on it is Depth at the cursor's place, and nothing is read. An unknown tag is ElementTag at the tag. An item that
 /// reaches past the cursor's end is Truncated at its first byte. The first of these, or of the faults of the indices, is the
 /// answer; what was handed over by then are the uses before it.
 #[cycle(elements)]
@@ -58,12 +57,11 @@ pub fn walk_element<P: PoolView, V: Visit>(
     pool: &P,
     visit: &mut V,
 ) -> Result<(), ReadFault>
-    requires { depth ≤ 65 }
     ensures walks { Walks result (walk (read (P.pool pool.now) (element (65 - depth))) (walk_at (V.taken visit.old) cursor.old)) cursor.new (V.taken visit.new) }
     ensures stands { StandsWithin cursor.old cursor.new }
 {
     let at = cursor.at();
-    if depth == 65 {
+    if depth >= 65 {
         return Err(ReadFault::Malformed(Malformed {
             kind: FaultKind::Depth,
             at,
@@ -97,7 +95,6 @@ fn walk_elements<P: PoolView, V: Visit>(
     pool: &P,
     visit: &mut V,
 ) -> Result<(), ReadFault>
-    requires { depth ≤ 65 }
     ensures walks { Walks result (walk (times count (read (P.pool pool.now) (element (65 - depth)))) (walk_at (V.taken visit.old) cursor.old)) cursor.new (V.taken visit.new) }
     ensures stands { StandsWithin cursor.old cursor.new }
 {
@@ -119,7 +116,6 @@ fn walk_array<P: PoolView, V: Visit>(
     pool: &P,
     visit: &mut V,
 ) -> Result<(), ReadFault>
-    requires { depth ≤ 65 }
     ensures walks { Walks result (walk (read (P.pool pool.now) (many (element (65 - depth)))) (walk_at (V.taken visit.old) cursor.old)) cursor.new (V.taken visit.new) }
     ensures stands { StandsWithin cursor.old cursor.new }
 {
@@ -138,7 +134,6 @@ fn walk_pair<P: PoolView, V: Visit>(
     pool: &P,
     visit: &mut V,
 ) -> Result<(), ReadFault>
-    requires { depth ≤ 65 }
     ensures walks { Walks result (walk (read (P.pool pool.now) (pair_of (element (65 - depth)))) (walk_at (V.taken visit.old) cursor.old)) cursor.new (V.taken visit.new) }
     ensures stands { StandsWithin cursor.old cursor.new }
 {
@@ -158,7 +153,6 @@ fn walk_pairs<P: PoolView, V: Visit>(
     pool: &P,
     visit: &mut V,
 ) -> Result<(), ReadFault>
-    requires { depth ≤ 65 }
     ensures walks { Walks result (walk (times count (read (P.pool pool.now) (pair_of (element (65 - depth))))) (walk_at (V.taken visit.old) cursor.old)) cursor.new (V.taken visit.new) }
     ensures stands { StandsWithin cursor.old cursor.new }
 {
@@ -180,7 +174,6 @@ fn walk_pair_table<P: PoolView, V: Visit>(
     pool: &P,
     visit: &mut V,
 ) -> Result<(), ReadFault>
-    requires { depth ≤ 65 }
     ensures walks { Walks result (walk (read (P.pool pool.now) (many (pair_of (element (65 - depth))))) (walk_at (V.taken visit.old) cursor.old)) cursor.new (V.taken visit.new) }
     ensures stands { StandsWithin cursor.old cursor.new }
 {
@@ -199,7 +192,6 @@ pub(crate) fn walk_annotation<P: PoolView, V: Visit>(
     pool: &P,
     visit: &mut V,
 ) -> Result<(), ReadFault>
-    requires { depth ≤ 65 }
     ensures walks { Walks result (walk (read (P.pool pool.now) (annotation_of (element (65 - depth)))) (walk_at (V.taken visit.old) cursor.old)) cursor.new (V.taken visit.new) }
     ensures stands { StandsWithin cursor.old cursor.new }
 {

@@ -9,4 +9,4 @@ walk_element-returns-in-None-clause-walks g t c =
     let no_annotation : c.in-Ok.tag ≢ 64 = omega arith in
     let no_array : c.in-Ok.tag ≢ 91 = omega arith in
     rw c.at-at.ensures.value (element_refused (g.V.Visit.taken c.args.visit.now) (g.P.PoolView.pool c.args.pool.now) c.args.cursor.now c.read_tag.new.cursor c.args.depth c.in-Ok.tag
-    (omega arith) c.if-depth-eq65.false c.in-Ok.ensures.ok (c.in-None.ensures.none no_constant no_annotation no_array (element (65 - (c.args.depth + 1)))))
+    (omega arith) c.in-Ok.ensures.ok (c.in-None.ensures.none no_constant no_annotation no_array (element (65 - (c.args.depth + 1)))))
