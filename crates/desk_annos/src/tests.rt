@@ -85,7 +85,7 @@ fn element_values_nest_64_deep(rt: HostRuntime) -> Result<(), Fail> {
 }
 
 #[test]
-fn each_part_is_read_and_its_faults_are_named(rt: HostRuntime) -> Result<(), Fail> {
+fn frames_are_read_and_their_faults_are_named(rt: HostRuntime) -> Result<(), Fail> {
     let mut uses = Vec::new(rt.alloc());
     let frames: [(&[u8], Result<(), ReadFault>); 5] = [
         (&[0, 3, 63, 251, 0, 9, 253, 0, 1, 8, 0, 2, 6], Ok(())),
@@ -103,6 +103,12 @@ fn each_part_is_read_and_its_faults_are_named(rt: HostRuntime) -> Result<(), Fai
         let ended = walk_frames(&mut cursor, &OneText, &mut uses);
         assert!(rt; ended == want, "frames {bytes:?}: {ended:?}");
     }
+    Ok(())
+}
+
+#[test]
+fn type_annotations_are_read_and_their_faults_are_named(rt: HostRuntime) -> Result<(), Fail> {
+    let mut uses = Vec::new(rt.alloc());
     let types: [(&[u8], Result<(), ReadFault>); 4] = [
         (
             &[0, 1, 0x40, 0, 1, 0, 0, 0, 1, 0, 2, 1, 3, 0, 0, 1, 0, 0],
@@ -118,6 +124,12 @@ fn each_part_is_read_and_its_faults_are_named(rt: HostRuntime) -> Result<(), Fai
         let ended = walk_type_annotations(&mut cursor, &OneText, &mut uses);
         assert!(rt; ended == want, "types {bytes:?}: {ended:?}");
     }
+    Ok(())
+}
+
+#[test]
+fn parameter_annotations_are_read_and_their_faults_are_named(rt: HostRuntime) -> Result<(), Fail> {
+    let mut uses = Vec::new(rt.alloc());
     let annotations: [(&[u8], Result<(), ReadFault>); 3] = [
         (&[1, 0, 1, 0, 1, 0, 1, 0, 1, b'e', 0, 1, 0, 1], Ok(())),
         (
