@@ -1,7 +1,7 @@
 //! Renames of packages.
 
-ghost use Rattle.std.specs.Prelude.{◌≡◌, Ok, IfOk, IfErr, IsTrue, true};
-ghost use Rattle.desk_base.specs.Names.{segments, dot, is_dotted};
+ghost use Rattle.std.specs.Prelude.{◌≡◌, Ok, IfOk, IfErr};
+ghost use Rattle.desk_base.specs.Names.{segments, dot};
 ghost use Rattle.desk_entries.specs.Forms.{is_below, source_text};
 ghost use Rattle.desk_entries.specs.Entries.{rename_of, IsError};
 
@@ -35,12 +35,15 @@ fn cut_key(key: &[u8]) -> (&[u8], bool)
     }
 }
 
-/// The segments of a package that is written with dots.
+/// The segments of a package that is written with dots; an empty text has none.
 fn read_package(alloc: Global, text: &[u8]) -> Result<TextList, Memory>
-    requires { is_dotted text.now ≡ true }
     ensures { IfOk result (λ parts. parts ≡ segments dot text.now) }
 {
-    split_at_dots(alloc, text)
+    if text.is_empty() {
+        Ok(TextList::empty(alloc))
+    } else {
+        split_at_dots(alloc, text)
+    }
 }
 
 /// The rename of an entry of `renames.properties`: the key is a package `a.b`, or `a.b.*`, which means the packages below it
