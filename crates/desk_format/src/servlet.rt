@@ -89,116 +89,43 @@ pub fn servlet_fault() -> Option<Malformed>
     None
 }
 
+/// A use, by its place, its index and its role.
+macro_rules! used {
+    ($at:literal, $index:literal, $role:ident) => {
+        Used {
+            at: $at,
+            index: $index,
+            role: Role::$role,
+        }
+    };
+}
+
 /// Its uses of texts: those of the pool, then those of the body.
 pub fn servlet_uses() -> [Used; 21]
     ensures { result ≡ uses_in SERVLET }
 {
     [
-        Used {
-            at: 16,
-            index: 4,
-            role: Role::Class,
-        },
-        Used {
-            at: 19,
-            index: 5,
-            role: Role::Plain,
-        },
-        Used {
-            at: 21,
-            index: 6,
-            role: Role::Descriptor,
-        },
-        Used {
-            at: 72,
-            index: 8,
-            role: Role::Class,
-        },
-        Used {
-            at: 234,
-            index: 16,
-            role: Role::Class,
-        },
-        Used {
-            at: 390,
-            index: 5,
-            role: Role::Plain,
-        },
-        Used {
-            at: 392,
-            index: 6,
-            role: Role::Descriptor,
-        },
-        Used {
-            at: 396,
-            index: 9,
-            role: Role::AttrName,
-        },
-        Used {
-            at: 419,
-            index: 10,
-            role: Role::AttrName,
-        },
-        Used {
-            at: 433,
-            index: 11,
-            role: Role::Plain,
-        },
-        Used {
-            at: 435,
-            index: 12,
-            role: Role::Descriptor,
-        },
-        Used {
-            at: 439,
-            index: 9,
-            role: Role::AttrName,
-        },
-        Used {
-            at: 463,
-            index: 10,
-            role: Role::AttrName,
-        },
-        Used {
-            at: 479,
-            index: 13,
-            role: Role::AttrName,
-        },
-        Used {
-            at: 488,
-            index: 14,
-            role: Role::AttrName,
-        },
-        Used {
-            at: 500,
-            index: 17,
-            role: Role::AttrName,
-        },
-        Used {
-            at: 506,
-            index: 18,
-            role: Role::Plain,
-        },
-        Used {
-            at: 508,
-            index: 19,
-            role: Role::AttrName,
-        },
-        Used {
-            at: 516,
-            index: 20,
-            role: Role::Descriptor,
-        },
-        Used {
-            at: 520,
-            index: 21,
-            role: Role::Plain,
-        },
-        Used {
-            at: 526,
-            index: 22,
-            role: Role::Str,
-        },
+        used!(16, 4, Class),
+        used!(19, 5, Plain),
+        used!(21, 6, Descriptor),
+        used!(72, 8, Class),
+        used!(234, 16, Class),
+        used!(390, 5, Plain),
+        used!(392, 6, Descriptor),
+        used!(396, 9, AttrName),
+        used!(419, 10, AttrName),
+        used!(433, 11, Plain),
+        used!(435, 12, Descriptor),
+        used!(439, 9, AttrName),
+        used!(463, 10, AttrName),
+        used!(479, 13, AttrName),
+        used!(488, 14, AttrName),
+        used!(500, 17, AttrName),
+        used!(506, 18, Plain),
+        used!(508, 19, AttrName),
+        used!(516, 20, Descriptor),
+        used!(520, 21, Plain),
+        used!(526, 22, Str),
     ]
 }
 
