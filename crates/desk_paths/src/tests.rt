@@ -54,7 +54,7 @@ fn placed(path: &[u8], root: &[u8], rest: &[u8], kind: Kind) -> bool {
 }
 
 /// Paths, each with its class root, its rest and its kind.
-const PLACES: [(&[u8], &[u8], &[u8], Kind); 14] = [
+const PLACES: [(&[u8], &[u8], &[u8], Kind); 17] = [
     (
         b"shop.war/WEB-INF/classes/javax/servlet/F.class",
         b"shop.war/WEB-INF/classes",
@@ -124,6 +124,14 @@ const PLACES: [(&[u8], &[u8], &[u8], Kind); 14] = [
         Kind::Service,
     ),
     (b"A.class", b"", b"A.class", Kind::Class),
+    (b"readme.txt", b"", b"readme.txt", Kind::Other),
+    (b"a/readme.txt", b"", b"a/readme.txt", Kind::Other),
+    (
+        b"x/META-INF/services/a",
+        b"",
+        b"x/META-INF/services/a",
+        Kind::Other,
+    ),
 ];
 
 #[test]
