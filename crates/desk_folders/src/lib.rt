@@ -10,4 +10,5 @@ mod tests;
 
 pub use disk::DiskFolders;
 pub use folders::{FolderFault, Folders, GenFile};
+pub use listing::is_full;
 pub use memory::MemoryFolders;

@@ -6,7 +6,7 @@ ghost use Rattle.std.specs.List.{filter_map};
 ghost use Rattle.std.specs.BTreeMap.{keys, IsOrdered};
 ghost use Rattle.std.specs.Cmp.Lexicographic.{slice_cmp};
 ghost use Rattle.std.specs.Ordering.{nat_cmp};
-ghost use Rattle.desk_base.specs.Paths.{is_segment, is_relative_path, folder};
+ghost use Rattle.desk_base.specs.Paths.{is_segment, is_relative_path, is_full_path, folder};
 ghost use Rattle.desk_folders.specs.Contents.{behind, below};
 
 use desk_base::{Memory, Text, TextList};
@@ -25,6 +25,16 @@ pub fn is_relative(path: &[u8]) -> bool
     ensures { result ≡ is_relative_path path.now }
 {
     path.split(|byte| *byte == b'/').all(|name| is_name(name))
+}
+
+/// Whether a path is full: one or more names joined by `/`, or `/` and such a path. The folders take full paths alone.
+pub fn is_full(path: &[u8]) -> bool
+    ensures { result ≡ is_full_path path.now }
+{
+    match path {
+        [] => false,
+        [first, rest @ ..] => is_relative(path) || (*first == b'/' && is_relative(rest)),
+    }
 }
 
 /// What a text has behind a front.

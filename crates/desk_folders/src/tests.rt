@@ -1,10 +1,8 @@
 //! Folders in memory and on a disk, call by call.
 
-ghost use Rattle.std.specs.Prelude.{◌≡◌, ◌≤◌};
-ghost use Rattle.desk_base.specs.Paths.{is_full_path};
+ghost use Rattle.std.specs.Prelude.{◌≤◌};
 
-use crate::listing::is_relative;
-use crate::{DiskFolders, FolderFault, Folders, GenFile, MemoryFolders};
+use crate::{DiskFolders, FolderFault, Folders, GenFile, MemoryFolders, is_full};
 use desk_base::{Text, TextList};
 use std::alloc::Global;
 use std::test::Fail;
@@ -124,16 +122,6 @@ fn named_calls_fail(rt: HostRuntime) -> Result<(), Fail> {
         Some(FolderFault::Failed)
     );
     Ok(())
-}
-
-/// Whether a path is full.
-fn is_full(path: &[u8]) -> bool
-    ensures { result ≡ is_full_path path.now }
-{
-    match path {
-        [] => false,
-        [first, rest @ ..] => is_relative(path) || (*first == b'/' && is_relative(rest)),
-    }
 }
 
 fn create(folders: &mut DiskFolders, path: &Text) -> Result<(), FolderFault> {

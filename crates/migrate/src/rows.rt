@@ -1,10 +1,10 @@
 //! Whole runs over folders, ledger and output in memory.
 
 ghost use Rattle.std.specs.Prelude.{◌≡◌, IfOk, IsTrue};
-ghost use Rattle.desk_base.specs.Paths.{is_full_path, is_relative_path, is_segment};
+ghost use Rattle.desk_base.specs.Paths.{is_full_path};
 
 use desk_base::{Memory, Text};
-use desk_folders::{GenFile, MemoryFolders};
+use desk_folders::{GenFile, MemoryFolders, is_full};
 use desk_ledger::MemoryKeeper;
 use desk_report::MemorySink;
 use desk_run::desk;
@@ -282,30 +282,6 @@ fn two_files_of_one_target_clash(rt: HostRuntime) -> Result<(), Fail> {
     );
     assert_eq!(rt; ended.code, 24);
     Ok(())
-}
-
-/// Whether a text is a name of a file or folder.
-fn is_name(name: &[u8]) -> bool
-    ensures { result ≡ is_segment name.now }
-{
-    !name.is_empty() && name != b".".as_slice() && name != b"..".as_slice()
-}
-
-/// Whether a path is one or more names joined by `/`.
-fn is_relative(path: &[u8]) -> bool
-    ensures { result ≡ is_relative_path path.now }
-{
-    path.split(|byte| *byte == b'/').all(|name| is_name(name))
-}
-
-/// Whether a path is full.
-fn is_full(path: &[u8]) -> bool
-    ensures { result ≡ is_full_path path.now }
-{
-    match path {
-        [] => false,
-        [first, rest @ ..] => is_relative(path) || (*first == b'/' && is_relative(rest)),
-    }
 }
 
 /// How a run ends over one file whose relative path has so many bytes.
