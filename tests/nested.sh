@@ -124,5 +124,32 @@ put clash/javax/servlet/a.txt '1'
 put clash/jakarta/servlet/a.txt '2'
 ends "two files of one target" 24 'migrate: 24 path clash jakarta/servlet/a.txt javax/servlet/a.txt' run --rules rules --from clash --to out --ledger l2
 
+# ---- limits, and an empty source
+
+large=67108865
+mkdir large
+head -c $large /dev/zero >large/x
+ends "a file of one byte too many" 23 'migrate: 23 limit file-size x' run --rules rules --from large --to out --ledger l2
+head -c $((large - 1)) /dev/zero >large/x
+"$program" run --rules rules --from large --to out --ledger l2 >got
+echo "status $?" >>got
+printf 'written x x copy\ntotal files=1 written=1 kept=0 refused=0 renamed=0 added=0\nstatus 0\n' >wanted
+same "a file of as many bytes as a file may have" wanted got
+rm -rf large
+
+# a relative path of 1,025 bytes: five folders of 200 bytes, each with its `/`, and a name of 20 bytes
+folder=$(printf '%0200d' 0)
+path=$folder/$folder/$folder/$folder/$folder/$(printf '%020d' 0)
+mkdir -p "long/${path%/*}"
+: >"long/$path"
+ends "a path of ${#path} bytes" 23 "migrate: 23 limit path-length $path" run --rules rules --from long --to out --ledger l2
+rm -rf long
+
+mkdir empty
+ends "a source without files" 0 'total files=0 written=0 kept=0 refused=0 renamed=0 added=0' run --rules rules --from empty --to out --ledger l2
+
+ends "another first word" 20 "$usage" generate --count 0
+
 echo "$passed passed, $failed failed"
 [ "$failed" = 0 ]
+

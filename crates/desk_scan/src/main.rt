@@ -9,8 +9,8 @@ use counts::Counts;
 use desk_base::ReadFault;
 use desk_class::ClassView;
 use std::fs::File;
-use std::io::{BufRead, BufReader, Read};
-use std::{env, fs, io};
+use std::io::{BufRead, BufReader};
+use std::{env, fs};
 
 /// The longest class file that is read, in bytes: 64 MiB.
 const LONGEST: usize = 67_108_864;
