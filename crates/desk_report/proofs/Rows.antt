@@ -8,9 +8,10 @@ use Rattle.desk_base.specs.Shown.{shown}
 use Rattle.desk_properties.specs.declared.PropFault.TheVariants.{NotUtf8, Escape}
 use Rattle.desk_rules.specs.declared.RuleFault.TheVariants.{NoRenames, Properties, BadKey, BadValue, MissingText, Chain}
 use Rattle.desk_ledger.specs.declared.keeper.Header.{Header}
-use Rattle.desk_report.specs.declared.lines.Detail.TheVariants.{Service, Copy}
+use Rattle.desk_report.specs.declared.lines.Detail.TheVariants.{Class, Service, Copy}
 use Rattle.desk_report.specs.declared.lines.Line.TheVariants.{Written, Kept, Refused}
-use Rattle.desk_report.specs.declared.lines.Reason.TheVariants.{BadLine, NotBuilt}
+use Rattle.desk_report.specs.declared.lines.Reason.TheVariants.{Malformed, Overlong, PoolFull, Twins, BadLine, NotBuilt}
+use Rattle.desk_base.specs.declared.faults.FaultKind.TheVariants as kinds
 use Rattle.desk_report.specs.declared.status.LimitKind.TheVariants.{Files, PathLength, FileSize, Sum, RuleFiles, RuleSize}
 use Rattle.desk_report.specs.declared.status.Status.TheVariants.{Done, Refusals, Memory, FolderFault, LedgerFault, OutputFault, Usage, NestedRoots, BadRules, Limit, PathClash, OtherRun}
 use Rattle.desk_report.specs.Texts.{line_text, summary_text, fault_text}
@@ -35,12 +36,33 @@ written_service = refl
 written_copy : line_text (Written (codes "readme.txt") (codes "readme.txt") Copy) ≡ codes "written readme.txt readme.txt copy\n"
 written_copy = refl
 
+written_class : line_text (Written (codes "WEB-INF/classes/web/Hello.class") (codes "WEB-INF/classes/web/Hello.class") (Class 5 0 0 1))
+    ≡ codes "written WEB-INF/classes/web/Hello.class WEB-INF/classes/web/Hello.class class renamed=5 added=0 odd=0 links=1\n"
+unfolding digits
+written_class = refl
+
 kept_line : line_text (Kept (codes "a") (codes "a")) ≡ codes "kept a a\n"
 kept_line = refl
 
 refused_line : line_text (Refused (codes "META-INF/services/x") (BadLine 0)) ≡ codes "refused META-INF/services/x bad-line at=0\n"
 unfolding digits
 refused_line = refl
+
+malformed_line : line_text (Refused (codes "A.class") (Malformed (record { kind = kinds.AttributeLength; at = 104 }))) ≡ codes "refused A.class malformed attribute-length at=104\n"
+unfolding digits
+malformed_line = refl
+
+overlong_line : line_text (Refused (codes "A.class") (Overlong 2 65536)) ≡ codes "refused A.class overlong index=2 length=65536\n"
+unfolding digits
+overlong_line = refl
+
+full_line : line_text (Refused (codes "A.class") (PoolFull 65535 1)) ≡ codes "refused A.class pool-full count=65535 needed=1\n"
+unfolding digits
+full_line = refl
+
+twins_line : line_text (Refused (codes "A.class") (Twins 95 103)) ≡ codes "refused A.class twins first=95 second=103\n"
+unfolding digits
+twins_line = refl
 
 not_built_line : line_text (Refused (codes "A.class") NotBuilt) ≡ codes "refused A.class not-built\n"
 not_built_line = refl

@@ -1,5 +1,5 @@
 -- Pieces of a text.
-use Rattle.std.specs.Prelude.{List, [], ◌∷◌, ◌++◌, codes}
+use Rattle.std.specs.Prelude.{ℕ, List, [], ◌∷◌, ◌++◌, codes, decimal}
 use Rattle.desk_base.specs.Names.{Text}
 use Rattle.desk_base.specs.Shown.{shown}
 
@@ -11,3 +11,7 @@ joined (piece ∷ pieces) = piece ++ joined pieces
 -- two texts behind a piece
 abbrev pub pair_pieces : Text → Text → Text → List Text
 pair_pieces front first second = front ∷ shown first ∷ codes " " ∷ shown second ∷ codes "\n" ∷ []
+
+-- the line of a refused file with two numbers, each behind what stands before it
+abbrev pub numbered_pieces : Text → Text → ℕ → Text → ℕ → List Text
+numbered_pieces path front first middle second = codes "refused " ∷ shown path ∷ front ∷ decimal first ∷ middle ∷ decimal second ∷ codes "\n" ∷ []

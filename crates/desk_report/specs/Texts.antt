@@ -5,11 +5,11 @@ use Rattle.desk_base.specs.Shown.{shown}
 use Rattle.hex.specs.Hex.{encode_lower}
 use Rattle.desk_ledger.specs.declared.keeper.Header.{Header}
 use Rattle.desk_report.specs.declared.lines.Detail.{Detail}
-use Rattle.desk_report.specs.declared.lines.Detail.TheVariants.{Service, Copy}
+use Rattle.desk_report.specs.declared.lines.Detail.TheVariants.{Class, Service, Copy}
 use Rattle.desk_report.specs.declared.lines.Line.{Line}
 use Rattle.desk_report.specs.declared.lines.Line.TheVariants.{Written, Kept, Refused}
 use Rattle.desk_report.specs.declared.lines.Reason.{Reason}
-use Rattle.desk_report.specs.declared.lines.Reason.TheVariants.{BadLine, NotBuilt}
+use Rattle.desk_report.specs.declared.lines.Reason.TheVariants.{Malformed, Overlong, PoolFull, Twins, BadLine, NotBuilt}
 use Rattle.desk_report.specs.declared.lines.Summary.{Summary}
 use Rattle.desk_report.specs.declared.status.Status.{Status}
 use Rattle.desk_report.specs.declared.status.Status.TheVariants.{Done, Refusals, Memory, FolderFault, LedgerFault, OutputFault, Usage, NestedRoots, BadRules, Limit, PathClash, OtherRun}
@@ -17,14 +17,21 @@ use Rattle.desk_report.specs.declared.status.LimitKind.{LimitKind}
 use Rattle.desk_report.specs.declared.status.LimitKind.TheVariants.{Files, PathLength, FileSize, Sum, RuleFiles, RuleSize}
 use Rattle.desk_report.specs.Joined.{joined, pair_pieces}
 use Rattle.desk_report.specs.RuleFaults.{rule_fault_pieces}
+use Rattle.desk_report.specs.Kinds.{kind_name}
 
 -- what a file's image is made of
 abbrev pub detail_pieces : Detail → List Text
+detail_pieces (Class renamed added odd links) =
+    codes " class renamed=" ∷ decimal renamed ∷ codes " added=" ∷ decimal added ∷ codes " odd=" ∷ decimal odd ∷ codes " links=" ∷ decimal links ∷ codes "\n" ∷ []
 detail_pieces (Service changed) = codes " service changed=" ∷ decimal changed ∷ codes "\n" ∷ []
 detail_pieces Copy = codes " copy\n" ∷ []
 
 -- why a file was refused
 abbrev pub reason_pieces : Reason → List Text
+reason_pieces (Malformed fault) = codes " malformed " ∷ kind_name fault.kind ∷ codes " at=" ∷ decimal fault.at ∷ codes "\n" ∷ []
+reason_pieces (Overlong index length) = codes " overlong index=" ∷ decimal index ∷ codes " length=" ∷ decimal length ∷ codes "\n" ∷ []
+reason_pieces (PoolFull count needed) = codes " pool-full count=" ∷ decimal count ∷ codes " needed=" ∷ decimal needed ∷ codes "\n" ∷ []
+reason_pieces (Twins first second) = codes " twins first=" ∷ decimal first ∷ codes " second=" ∷ decimal second ∷ codes "\n" ∷ []
 reason_pieces (BadLine at) = codes " bad-line at=" ∷ decimal at ∷ codes "\n" ∷ []
 reason_pieces NotBuilt = codes " not-built\n" ∷ []
 

@@ -4,6 +4,7 @@
 mod lines;
 mod memory;
 mod pieces;
+mod reasons;
 mod rule_faults;
 mod sink;
 mod standard;
@@ -13,6 +14,7 @@ mod tests;
 
 pub use lines::{Detail, Line, Reason, Summary, write_line, write_summary};
 pub use memory::MemorySink;
+pub use reasons::kind_name;
 pub use sink::{Sink, SinkFault};
 pub use standard::StdSink;
 pub use status::{LimitKind, Status, write_fault};

@@ -7,14 +7,25 @@ ghost use Rattle.desk_report.specs.Texts.{line_text, summary_text};
 ghost use Rattle.desk_report.specs.declared.lines.Line.TheVariants as line;
 
 use crate::pieces::{Piece, write_pieces};
+use crate::reasons::write_refused;
 use crate::{Sink, SinkFault};
-use desk_base::Text;
+use desk_base::{Malformed, Text};
 
 /// What a file's image is made of.
 #[derive(Clone, Copy, Debug, PartialEq, Eq)]
 pub enum Detail {
+    /// A class: how many uses of texts have another image than their text, how many texts were added to its constant pool,
+    /// how many texts used as signatures are none, and how many classes of the application it names.
+    Class {
+        renamed: u32,
+        added: u32,
+        odd: u32,
+        links: u32,
+    },
     /// A service file, and how many of its providers changed.
-    Service { changed: u32 },
+    Service {
+        changed: u32,
+    },
     /// The source's bytes as they are.
     Copy,
 }
@@ -22,6 +33,15 @@ pub enum Detail {
 /// Why a file has no image.
 #[derive(Clone, Copy, Debug, PartialEq, Eq)]
 pub enum Reason {
+    /// A class that isn't well-formed: its first fault, with the offset from the start of the file.
+    Malformed(Malformed),
+    /// A class of which some text would have more than 65,535 bytes: the least such index of its constant pool, and the
+    /// greatest length of a text that is wanted there, in bytes.
+    Overlong { index: u16, length: u64 },
+    /// A class whose constant pool has no room for the texts that must be added: its count, and how many they are.
+    PoolFull { count: u16, needed: u32 },
+    /// A class of which two fields or two methods would get one name and descriptor: their offsets.
+    Twins { first: u32, second: u32 },
     /// A line that isn't of the file's form; `at` is the offset of its first byte from the start.
     BadLine { at: u32 },
     /// The file is of a kind that isn't built.
@@ -103,6 +123,29 @@ fn write_written<'x, O: Sink>(
     let path = path.as_bytes();
     let target = target.as_bytes();
     match detail {
+        Detail::Class {
+            renamed,
+            added,
+            odd,
+            links,
+        } => write_pieces(
+            out,
+            &[
+                Piece::Plain(b"written "),
+                Piece::Shown(path),
+                Piece::Plain(b" "),
+                Piece::Shown(target),
+                Piece::Plain(b" class renamed="),
+                Piece::Number(renamed as u64),
+                Piece::Plain(b" added="),
+                Piece::Number(added as u64),
+                Piece::Plain(b" odd="),
+                Piece::Number(odd as u64),
+                Piece::Plain(b" links="),
+                Piece::Number(links as u64),
+                Piece::Plain(b"\n"),
+            ],
+        ),
         Detail::Service { changed } => write_pieces(
             out,
             &[
@@ -123,36 +166,6 @@ fn write_written<'x, O: Sink>(
                 Piece::Plain(b" "),
                 Piece::Shown(target),
                 Piece::Plain(b" copy\n"),
-            ],
-        ),
-    }
-}
-
-/// Writes the line of a file that was refused.
-fn write_refused<'x, O: Sink>(path: &'x Text, reason: Reason, out: &mut O) -> Result<(), SinkFault>
-    ensures ok { OnOk result (O.told out.new ≡ writing (line_text (line.Refused path.now reason)) (O.told out.old)) }
-    ensures err { OnErr result (WritesFront (line_text (line.Refused path.now reason)) (O.told out.old) (O.told out.new)) }
-    ensures counts { O.faults out.old ≤ O.faults out.new }
-    ensures failed { OnErr result (Rose (O.faults out.old) (O.faults out.new)) }
-{
-    let path = path.as_bytes();
-    match reason {
-        Reason::BadLine { at } => write_pieces(
-            out,
-            &[
-                Piece::Plain(b"refused "),
-                Piece::Shown(path),
-                Piece::Plain(b" bad-line at="),
-                Piece::Number(at as u64),
-                Piece::Plain(b"\n"),
-            ],
-        ),
-        Reason::NotBuilt => write_pieces(
-            out,
-            &[
-                Piece::Plain(b"refused "),
-                Piece::Shown(path),
-                Piece::Plain(b" not-built\n"),
             ],
         ),
     }

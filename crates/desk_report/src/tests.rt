@@ -4,7 +4,7 @@ use crate::{
     Detail, LimitKind, Line, MemorySink, Reason, Sink, SinkFault, Status, StdSink, Summary,
     write_fault, write_line, write_summary,
 };
-use desk_base::Text;
+use desk_base::{FaultKind, Malformed, Text};
 use desk_ledger::{Digest, Header};
 use desk_rules::{PropFault, RuleFault};
 use std::alloc::Global;
@@ -41,10 +41,27 @@ fn writes_lines(rt: HostRuntime) -> Result<(), Fail> {
         target: text(alloc, "é".as_bytes())?,
         detail: Detail::Copy,
     };
+    let class = Line::Written {
+        path: text(alloc, b"A.class")?,
+        target: text(alloc, b"A.class")?,
+        detail: Detail::Class {
+            renamed: 5,
+            added: 1,
+            odd: 0,
+            links: 2,
+        },
+    };
     let kept = Line::Kept {
         path: text(alloc, b"a")?,
         target: text(alloc, b"b/c")?,
     };
+    assert!(rt;
+        is_line(
+            alloc,
+            &class,
+            b"written A.class A.class class renamed=5 added=1 odd=0 links=2\n"
+        )?
+    );
     assert!(rt; is_line(alloc, &service, b"written a\\20b \\- service changed=12\n")?);
     assert!(rt; is_line(alloc, &copy, b"written a\\5c \\c3\\a9 copy\n")?);
     assert!(rt; is_line(alloc, &kept, b"kept a b/c\n")?);
@@ -70,6 +87,76 @@ fn writes_refused_lines(rt: HostRuntime) -> Result<(), Fail> {
         )?
     );
     assert!(rt; is_line(alloc, &not_built, b"refused A.class not-built\n")?);
+    Ok(())
+}
+
+/// The line of a class that is refused.
+fn refused(alloc: Global, reason: Reason) -> Result<Line, Fail> {
+    Ok(Line::Refused {
+        path: text(alloc, b"A.class")?,
+        reason,
+    })
+}
+
+#[test]
+fn writes_refused_classes(rt: HostRuntime) -> Result<(), Fail> {
+    let alloc = rt.alloc();
+    let malformed = refused(
+        alloc,
+        Reason::Malformed(Malformed {
+            kind: FaultKind::AttributeLength,
+            at: 104,
+        }),
+    )?;
+    let overlong = refused(
+        alloc,
+        Reason::Overlong {
+            index: 2,
+            length: 65536,
+        },
+    )?;
+    let full = refused(
+        alloc,
+        Reason::PoolFull {
+            count: 65535,
+            needed: 1,
+        },
+    )?;
+    let twins = refused(
+        alloc,
+        Reason::Twins {
+            first: 95,
+            second: 103,
+        },
+    )?;
+    assert!(rt;
+        is_line(
+            alloc,
+            &malformed,
+            b"refused A.class malformed attribute-length at=104\n"
+        )?
+    );
+    assert!(rt;
+        is_line(
+            alloc,
+            &overlong,
+            b"refused A.class overlong index=2 length=65536\n"
+        )?
+    );
+    assert!(rt;
+        is_line(
+            alloc,
+            &full,
+            b"refused A.class pool-full count=65535 needed=1\n"
+        )?
+    );
+    assert!(rt;
+        is_line(
+            alloc,
+            &twins,
+            b"refused A.class twins first=95 second=103\n"
+        )?
+    );
     Ok(())
 }
 
