@@ -3,7 +3,7 @@ use Rattle.std.specs.Prelude.{◌≡◌, ⊤, Bool, true, false, not, ◌&&◌, 
 use Rattle.std.specs.List.{list_any, before_first, after_first}
 use Rattle.desk_base.specs.Names.{Text, segments, dot, is_dotted, is_empty}
 use Rattle.desk_entries.specs.Blanks.{stripped}
-use Rattle.desk_entries.specs.Forms.{is_semicolon, is_below, source_text, is_symbolic_name, is_version, is_plain}
+use Rattle.desk_entries.specs.Forms.{is_semicolon, is_below, source_text, is_symbolic_name, is_version, is_plain, is_stored}
 use Rattle.desk_entries.specs.declared.faults.EntryFault.{EntryFault}
 use Rattle.desk_entries.specs.declared.faults.EntryFault.TheVariants.{Key, Value}
 use Rattle.desk_entries.specs.declared.faults.EntryError.{EntryError}
@@ -19,12 +19,13 @@ abbrev pub IsError : {A : Type 0} → Result A EntryFault → EntryError → Typ
 IsError read (Fault fault) = read ≡ Err fault
 IsError read Memory = ⊤
 
--- ---- renames.properties: a package, or `a.b.*` for those below it too; and the new package
+-- ---- renames.properties: a package, or `a.b.*` for those below it too; and the new package, which is modified UTF-8, as a
+-- ---- class file stores texts (JVMS 4.4.7)
 
 abbrev pub rename_between : Bool → Text → Text → Result Rename EntryFault
 rename_between below source target =
     if not (is_dotted source) then Err Key
-    else if not (is_dotted target) then Err Value
+    else if not (is_dotted target) || not (is_stored target) then Err Value
     else Ok (record { source = segments dot source; target = segments dot target; below = below })
 
 abbrev pub rename_of : Text → Text → Result Rename EntryFault
@@ -63,12 +64,13 @@ update_in value =
 abbrev pub update_of : Text → Text → Result Update EntryFault
 update_of key value = if not (is_symbolic_name key) then Err Key else update_in (stripped value)
 
--- ---- direct.properties: a string that isn't empty; and the new one
+-- ---- direct.properties: a string that isn't empty; and the new one, which is modified UTF-8, as a class file stores texts
+-- ---- (JVMS 4.4.7)
 
 abbrev pub string_check : Text → Text → Result ⊤ EntryFault
 string_check key value =
     if is_empty key || not (is_plain key) then Err Key
-    else if not (is_plain value) then Err Value
+    else if not (is_plain value) || not (is_stored value) then Err Value
     else Ok tt
 
 -- ---- selection.properties: a pattern; and nothing, or `!`

@@ -7,7 +7,7 @@ ghost use Rattle.desk_entries.specs.Entries.{rename_of, IsError};
 
 use crate::dots::split_at_dots;
 use crate::faults::{EntryError, EntryFault};
-use crate::values::stripped;
+use crate::values::{is_stored, stripped};
 use desk_base::{Memory, TextList};
 use desk_names::is_dotted;
 use std::alloc::Global;
@@ -48,7 +48,8 @@ fn read_package(alloc: Global, text: &[u8]) -> Result<TextList, Memory>
 
 /// The rename of an entry of `renames.properties`: the key is a package `a.b`, or `a.b.*`, which means the packages below it
 /// too; the value is the new package, without blanks at its end. A package is one or more identifiers with a `.` between
-/// each two. The fault is `Key` where the key hasn't its form, else `Value` where the value hasn't.
+/// each two; the new one is modified UTF-8 too, as a class file stores texts (JVMS 4.4.7). The fault is `Key` where the key
+/// hasn't its form, else `Value` where the value hasn't.
 pub fn read_rename(alloc: Global, key: &[u8], value: &[u8]) -> Result<Rename, EntryError>
     ensures read { IfOk result (λ rename. rename_of key.now value.now ≡ Ok rename) }
     ensures refused { IfErr result (IsError (rename_of key.now value.now)) }
@@ -58,7 +59,7 @@ pub fn read_rename(alloc: Global, key: &[u8], value: &[u8]) -> Result<Rename, En
     if !is_dotted(source) {
         return Err(EntryError::Fault(EntryFault::Key));
     }
-    if !is_dotted(target) {
+    if !is_dotted(target) || !is_stored(target) {
         return Err(EntryError::Fault(EntryFault::Value));
     }
     Ok(Rename {

@@ -6,6 +6,7 @@ ghost use Rattle.desk_entries.specs.Forms.{is_plain_byte, is_plain};
 ghost use Rattle.desk_entries.specs.Entries.{string_check, text_rule_check};
 
 use crate::faults::EntryFault;
+use crate::values::is_stored;
 
 /// Whether a byte of a text in UTF-8 belongs to a character from U+0001 to U+FFFF: it isn't 0, and doesn't lead four bytes.
 fn is_plain_byte(byte: u8) -> bool
@@ -21,15 +22,16 @@ fn is_plain(text: &[u8]) -> bool
     text.iter().all(|byte| is_plain_byte(*byte))
 }
 
-/// Looks at an entry of `direct.properties`: the key isn't empty, and key and value hold no U+0000 and no character above
-/// U+FFFF. The fault is `Key` where the key hasn't its form, else `Value` where the value hasn't. It takes no memory.
+/// Looks at an entry of `direct.properties`: the key isn't empty, key and value hold no U+0000 and no character above U+FFFF,
+/// and the value is modified UTF-8, as a class file stores texts (JVMS 4.4.7). The fault is `Key` where the key hasn't its
+/// form, else `Value` where the value hasn't. It takes no memory.
 pub fn check_string(key: &[u8], value: &[u8]) -> Result<(), EntryFault>
     ensures { result ≡ string_check key.now value.now }
 {
     if key.is_empty() || !is_plain(key) {
         return Err(EntryFault::Key);
     }
-    if !is_plain(value) {
+    if !is_plain(value) || !is_stored(value) {
         return Err(EntryFault::Value);
     }
     Ok(())

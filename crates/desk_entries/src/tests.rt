@@ -18,6 +18,8 @@ fn renames_have_packages_on_both_sides(rt: HostRuntime) -> Result<(), Fail> {
     assert_eq!(rt; read_rename(rt.alloc(), b".*", b"b").err(), key);
     assert_eq!(rt; read_rename(rt.alloc(), b"a", b"b.*").err(), value);
     assert_eq!(rt; read_rename(rt.alloc(), b"a", b"").err(), value);
+    assert_eq!(rt; read_rename(rt.alloc(), b"a", b"b\xC3").err(), value);
+    assert!(rt; read_rename(rt.alloc(), b"a", b"b\xC3\xA9").is_ok());
     Ok(())
 }
 
@@ -58,6 +60,8 @@ fn strings_patterns_and_text_rules(rt: HostRuntime) -> Result<(), Fail> {
         check_string(b"a", b"\xF0\x9F\x98\x80"),
         Err(EntryFault::Value)
     );
+    assert_eq!(rt; check_string(b"a", b"\x80"), Err(EntryFault::Value));
+    assert_eq!(rt; check_string(b"a\x80", b"\xC3\xA9"), Ok(()));
     assert_eq!(rt; check_string(b"a\0", b"\0"), Err(EntryFault::Key));
     assert_eq!(rt; read_mark(b"legacy/*", b" "), Ok(Mark::Include));
     assert_eq!(rt; read_mark(b"legacy/*", b"! "), Ok(Mark::Exclude));

@@ -1,9 +1,11 @@
-//! Values as they are read: without blanks at the end, and in two parts.
+//! Values as they are read: without blanks at the end, in two parts, and as a class file stores texts.
 
 ghost use Rattle.std.specs.Prelude.{◌≡◌};
 ghost use Rattle.std.specs.List.{list_any, before_first, after_first, position_or_len};
 ghost use Rattle.desk_entries.specs.Blanks.{is_blank, stripped};
-ghost use Rattle.desk_entries.specs.Forms.{is_semicolon};
+ghost use Rattle.desk_entries.specs.Forms.{is_semicolon, is_stored};
+
+use desk_base::check_utf8;
 
 /// Whether a byte is a space or a tab.
 fn is_blank(byte: u8) -> bool
@@ -53,4 +55,12 @@ pub fn cut_at_semicolon(text: &[u8]) -> (&[u8], &[u8])
     } else {
         (text, &text[text.len()..])
     }
+}
+
+/// Whether a text is modified UTF-8, as a class file stores texts (JVMS 4.4.7). A text of more than 67,108,864 bytes, which no
+/// rule file holds, is said not to be. It takes no memory.
+pub fn is_stored(text: &[u8]) -> bool
+    ensures { result ≡ is_stored text.now }
+{
+    text.len() <= 67_108_864 && check_utf8(text).is_ok()
 }

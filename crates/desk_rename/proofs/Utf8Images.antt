@@ -28,7 +28,8 @@ use Rattle.desk_rules.proofs.Picks.{In, Found, pick_Some}
 use Rattle.desk_rules.proofs.Same.{covers_is}
 use Rattle.desk_rules.proofs.Cuts.{written-segments}
 use Rattle.desk_rename.specs.Images.{package_image, repackaged, is_any_descriptor, desc, cls, sig}
-use Rattle.desk_rename.specs.Laws.{HaveUtf8Targets, Utf8Images}
+use Rattle.desk_rules.specs.RuleSets.{HaveUtf8Targets}
+use Rattle.desk_rename.specs.Laws.{Utf8Images}
 use Rattle.desk_rename.proofs.Finished.{desc_is, desc_other, sig_is, sig_other, cls_array, cls_name}
 use Rattle.desk_rename.proofs.Runs.{IsWhole, IsPlain, whole_from, good_from, cut_plain, join_whole, before_plain}
 

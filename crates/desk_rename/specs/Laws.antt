@@ -1,9 +1,9 @@
 -- The laws of images.
 use Rattle.std.specs.Prelude.{◌≡◌, List, None, true, IsTrue}
-use Rattle.std.specs.List.{list_all, AllByRecursion}
+use Rattle.std.specs.List.{list_all}
 use Rattle.desk_base.specs.Utf8.{bad_form}
 use Rattle.desk_rules.specs.Images.{dotted}
-use Rattle.desk_base.specs.Names.{Text, segments, front, simple, is_class_name, written, dot, slash}
+use Rattle.desk_base.specs.Names.{Text, segments, front, simple, is_class_name, slash}
 use Rattle.desk_base.specs.Descriptors.{Descriptor, DescriptorKind, IsDescriptor, is_descriptor, print, renamed}
 use Rattle.desk_base.specs.Signatures.{Signature, SignatureKind, IsSignature, print_signature, map_signature}
 use Rattle.desk_base.specs.Targets.{begins_array}
@@ -11,6 +11,7 @@ use Rattle.desk_names.specs.Laws.{HasNoDescriptor, HasNoSignature}
 use Rattle.desk_names.specs.SignatureScan.{is_sound_signature}
 use Rattle.desk_rules.specs.Renames.{Renaming, pkg, is_rename}
 use Rattle.desk_rules.specs.RuleSets.{PackagesStay}
+pub use Rattle.desk_rules.specs.RuleSets.{HaveUtf8Targets}
 use Rattle.desk_rename.specs.Images.{package_image, repackaged, desc, cls, sig}
 
 -- what is known of the renames of a rule set: sources and targets are packages, and the image of a package is its own image
@@ -60,10 +61,6 @@ pub record SignatureImages (renames : List Renaming) : Type 0 where
   pub form : (kind : SignatureKind) (text : Text) → is_sound_signature kind text ≡ true → is_sound_signature kind (sig renames kind text) ≡ true
 
 -- ---- modified UTF-8 (JVMS 4.4.7)
-
--- each target, as a rule has it, is modified UTF-8
-abbrev pub HaveUtf8Targets : List Renaming → Type 0
-HaveUtf8Targets = AllByRecursion (λ r. bad_form (written dot r.target) ≡ None)
 
 -- the images of modified UTF-8 are modified UTF-8
 pub record Utf8Images (renames : List Renaming) : Type 0 where

@@ -3,6 +3,7 @@
 ghost use Rattle.std.specs.Prelude.{◌≡◌, IfOk, MatchOption, false};
 ghost use Rattle.desk_names.specs.Pieces.{pieces};
 ghost use Rattle.desk_rules.specs.Images.{IsImage};
+ghost use Rattle.desk_rules.specs.RuleSets.{IsRuleSet};
 ghost use Rattle.desk_rename.specs.Images.{is_any_descriptor, desc, cls};
 ghost use Rattle.desk_rename.specs.Drafts.{IsReadDescriptor};
 
@@ -51,7 +52,9 @@ pub fn rename_descriptor(
     text: &[u8],
 ) -> Result<Option<Text>, Memory>
     ensures image { IfOk result (IsImage text.now (desc rules.now.renames text.now)) }
+    ensures settled { IsRuleSet rules.now }
 {
+    let _ = rules.is_settled();
     match read_any_descriptor(text) {
         None => Ok(None),
         Some(parts) => rename_descriptor_parts(alloc, rules, text, parts),
@@ -64,6 +67,7 @@ pub fn rename_descriptor(
 /// where nothing changes. The only error is want of memory.
 pub fn rename_class(alloc: Global, rules: &RuleSet, text: &[u8]) -> Result<Option<Text>, Memory>
     ensures image { IfOk result (IsImage text.now (cls rules.now.renames text.now)) }
+    ensures settled { IsRuleSet rules.now }
 {
     if text.starts_with(b"[") {
         return rename_descriptor(alloc, rules, text);

@@ -25,7 +25,8 @@ pub fn signatures_stay()
     ensures { EachSignature }
 {}
 
-/// The images of modified UTF-8 are modified UTF-8 (JVMS 4.4.7), where the targets of the renames are.
+/// The images of modified UTF-8 are modified UTF-8 (JVMS 4.4.7), where the targets of the renames are, as those of a rule set
+/// are.
 pub fn modified_utf8_stays()
     ensures { EachUtf8 }
 {}

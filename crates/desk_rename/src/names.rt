@@ -67,6 +67,7 @@ pub fn class_front<'r>(rules: &'r RuleSet, text: &[u8]) -> Option<Front<'r>>
 /// image is the text itself. The only error is want of memory.
 pub fn rename_package(alloc: Global, rules: &RuleSet, text: &[u8]) -> Result<Option<Text>, Memory>
     ensures image { IfOk result (IsImage text.now (package_image rules.now.renames text.now)) }
+    ensures settled { IsRuleSet rules.now }
 {
     match package_front(rules, text) {
         None => Ok(None),

@@ -3,6 +3,7 @@
 ghost use Rattle.std.specs.Prelude.{◌≡◌, IfOk};
 ghost use Rattle.desk_names.specs.SignatureScan.{wanted_signature};
 ghost use Rattle.desk_rules.specs.Images.{IsImage};
+ghost use Rattle.desk_rules.specs.RuleSets.{IsRuleSet};
 ghost use Rattle.desk_rename.specs.Images.{sig};
 ghost use Rattle.desk_rename.specs.Drafts.{IsReadSignature};
 
@@ -41,7 +42,9 @@ pub fn rename_signature(
     text: &[u8],
 ) -> Result<Option<Text>, Memory>
     ensures image { IfOk result (IsImage text.now (sig rules.now.renames (wanted_signature which) text.now)) }
+    ensures settled { IsRuleSet rules.now }
 {
+    let _ = rules.is_settled();
     match read_signature(text, which) {
         None => Ok(None),
         Some(parts) => rename_signature_parts(alloc, rules, which, text, parts),

@@ -24,3 +24,4 @@ pub mod FrontLaws
 pub mod DottedBytes
 pub mod TextTurns
 pub mod TextBuilds
+pub mod Utf8Rules

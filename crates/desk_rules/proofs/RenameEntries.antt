@@ -1,5 +1,5 @@
 -- What is read of an entry of the renames.
-use Rattle.std.proofs.Common.{◌≡◌, ◌-◌, Bool, true, false, cond, not, ◌==◌, List, [], ◌∷◌, ◌++◌, length, take, Option, Result, Ok, Err, refl, sym, ap, ◌∙◌, inl, inr}
+use Rattle.std.proofs.Common.{◌≡◌, ◌-◌, Bool, true, false, cond, not, ◌||◌, ◌==◌, List, [], ◌∷◌, ◌++◌, length, take, Option, Result, Ok, Err, refl, sym, ap, ◌∙◌, inl, inr}
 use Rattle.std.specs.List.{list_all, ends_with}
 use Rattle.std.proofs.lemmas.Bool.{and_from, cases_Bool}
 use Rattle.std.proofs.lemmas.Bool.Decides.{Decides-eqb}
@@ -8,7 +8,7 @@ use Rattle.std.proofs.lemmas.Slice.Eq.{ends_is}
 use Rattle.desk_base.specs.Names.{Text, segments, written, dot, is_dotted}
 use Rattle.desk_properties.specs.Properties.{Entry}
 use Rattle.desk_entries.specs.Blanks.{stripped}
-use Rattle.desk_entries.specs.Forms.{is_below, source_text}
+use Rattle.desk_entries.specs.Forms.{is_below, source_text, is_stored}
 use Rattle.desk_entries.specs.Entries.{rename_of, rename_between}
 use Rattle.desk_entries.specs.declared.faults.EntryFault.{EntryFault}
 use Rattle.desk_entries.specs.declared.faults.EntryFault.TheVariants.{Key, Value}
@@ -20,21 +20,32 @@ use Rattle.desk_rules.specs.Files.{renames_name}
 use Rattle.desk_rules.specs.declared.RuleFault.{RuleFault}
 use Rattle.desk_rules.proofs.Cuts.{written-segments}
 
--- what a rename that was read says
-record Read (key value : Text) (r : Rename) : Type 0 where
-  source : is_dotted (source_text key) ≡ true
-  target : is_dotted (stripped value) ≡ true
-  is : record { source = segments dot (source_text key); target = segments dot (stripped value); below = is_below key } ≡ r
+-- what passes two tests, or is at fault
+record Passed {A : Type 0} (a b : Bool) (x y : A) : Type 0 where
+  first : a ≡ true
+  second : b ≡ true
+  same : x ≡ y
 
-read_parts : (key value : Text) (r : Rename) → rename_of key value ≡ Ok r → Read key value r
+passed : {A : Type 0} (a b : Bool) (fault : EntryFault) (x y : A) → cond (not a || not b) (Err fault) (Ok x) ≡ Ok y → Passed a b x y
+passed true true fault x y h = let same : x ≡ y = cc in record { first = refl; second = refl; same = same }
+passed true false fault x y h = absurd cc
+passed false b fault x y h = absurd cc
+
+-- what a rename that was read says
+pub record Read (key value : Text) (r : Rename) : Type 0 where
+  pub source : is_dotted (source_text key) ≡ true
+  pub target : is_dotted (stripped value) ≡ true
+  pub stored : is_stored (stripped value) ≡ true
+  pub is : record { source = segments dot (source_text key); target = segments dot (stripped value); below = is_below key } ≡ r
+
+pub read_parts : (key value : Text) (r : Rename) → rename_of key value ≡ Ok r → Read key value r
 read_parts key value r h =
     let R : Rename = record { source = segments dot (source_text key); target = segments dot (stripped value); below = is_below key } in
-    elim (is_dotted (source_text key)) as (λ (a : Bool). is_dotted (source_text key) ≡ a → cond (not a) (Err Key) (cond (not (is_dotted (stripped value))) (Err Value) (Ok R)) ≡ Ok r → Read key value r) [
+    elim (is_dotted (source_text key)) as (λ (a : Bool). is_dotted (source_text key) ≡ a → cond (not a) (Err Key) (cond (not (is_dotted (stripped value)) || not (is_stored (stripped value))) (Err Value) (Ok R)) ≡ Ok r → Read key value r) [
       | false ↦ λ p k. absurd cc
-      | true ↦ λ p k. elim (is_dotted (stripped value)) as (λ (b : Bool). is_dotted (stripped value) ≡ b → cond (not b) (Err Value) (Ok R) ≡ Ok r → Read key value r) [
-        | false ↦ λ q l. absurd cc
-        | true ↦ λ q l. let same : R ≡ r = cc in record { source = p; target = q; is = same }
-      ] refl k
+      | true ↦ λ p k.
+          let fine = passed (is_dotted (stripped value)) (is_stored (stripped value)) Value R r k in
+          record { source = p; target = fine.first; stored = fine.second; is = fine.same }
     ] refl h
 
 pub entry_formed : (key value : Text) (r : Rename) → rename_of key value ≡ Ok r → is_rename (renaming r.source r.target r.below) ≡ true

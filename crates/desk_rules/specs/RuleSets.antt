@@ -1,9 +1,10 @@
 -- What a rule set keeps, and what it answers.
 use Rattle.std.specs.Prelude.{◌≡◌, ◌≤◌, ℕ, Bool, List, Option, Some, None, length, not, option_map, if◌then◌else◌, IsTrue}
-use Rattle.std.specs.List.{list_all}
+use Rattle.std.specs.List.{list_all, AllByRecursion}
 use Rattle.std.specs.Str.{bytes_eq}
 use Rattle.std.specs.FinMap as finite
 use Rattle.desk_base.specs.Names.{Text, Package, segments, written, is_dotted, is_class_name, front, simple, dot, slash}
+use Rattle.desk_base.specs.Utf8.{bad_form}
 use Rattle.desk_patterns.specs.Selections.{Choice}
 use Rattle.desk_patterns.specs.PatternTexts.{PatternText}
 use Rattle.desk_rules.specs.Renames.{Renaming, pick, pkg, changes, is_rename}
@@ -23,7 +24,16 @@ rules_of renames versions bundles direct selection texts = record {
   texts = texts;
 }
 
--- what a rule set keeps: lists in byte order of their keys without a chain, and where the sources of the renames are found
+-- each target, as a rule has it, is modified UTF-8, as a class file stores texts (JVMS 4.4.7)
+abbrev pub HaveUtf8Targets : List Renaming → Type 0
+HaveUtf8Targets = AllByRecursion (λ r. bad_form (written dot r.target) ≡ None)
+
+-- each new text of a direct rule is modified UTF-8
+abbrev pub HaveUtf8Texts : TextMap Text → Type 0
+HaveUtf8Texts direct = (text value : Text) → finite.get direct text ≡ Some value → bad_form value ≡ None
+
+-- what a rule set keeps: lists in byte order of their keys without a chain, whose new packages and direct texts are modified
+-- UTF-8, and where the sources of the renames are found
 pub record IsKept (renames : List Renaming) (versions : List (Text × Versions)) (bundles : List BundleUpdate) (direct : List Exchange) (dotted_sources slashed_sources : List (List ℕ)) : Type 0 where
   pub table : IsTable renames
   pub versions_rise : RiseBy (λ v. v.0) versions
@@ -32,11 +42,15 @@ pub record IsKept (renames : List Renaming) (versions : List (Text × Versions))
   pub dotted_held : HoldsPlaces dotted_sources (sources_of dot renames)
   pub slashed_held : HoldsPlaces slashed_sources (sources_of slash renames)
   pub settled : first_chain_in renames direct bundles ≡ None
+  pub utf8 : HaveUtf8Targets renames
+  pub direct_utf8 : HaveUtf8Texts (finite.from_entries direct)
 
--- sources and targets are packages, and no image is changed again
+-- sources and targets are packages, no image is changed again, and targets and direct texts are modified UTF-8
 pub record IsRuleSet (rules : Rules) : Type 0 where
   pub formed : IsTrue (list_all is_rename rules.renames)
   pub settled : IsSettled rules
+  pub utf8 : HaveUtf8Targets rules.renames
+  pub direct_utf8 : HaveUtf8Texts rules.direct
 
 abbrev pub only_changing : Option Renaming → Option Renaming
 only_changing None = None

@@ -10,7 +10,7 @@ ghost use Rattle.desk_rules.specs.Keys.{is_separator, IsTable, RiseBy};
 ghost use Rattle.desk_rules.specs.Renames.{key_of};
 ghost use Rattle.desk_rules.specs.Builds.{IsFaultOf};
 ghost use Rattle.desk_rules.specs.RuleFiles.{rules_of_files, settled};
-ghost use Rattle.desk_rules.specs.RuleSets.{changing_pick, IsFrontOf, IsRuleSet, PackagesStay, ClassesStay, ClassesKeepForm, DottedStay, DottedKeepForm, StringsStay, BundlesStay, version_of, changing_update, update_of, rules_of};
+ghost use Rattle.desk_rules.specs.RuleSets.{changing_pick, IsFrontOf, IsRuleSet, HaveUtf8Targets, HaveUtf8Texts, PackagesStay, ClassesStay, ClassesKeepForm, DottedStay, DottedKeepForm, StringsStay, BundlesStay, version_of, changing_update, update_of, rules_of};
 
 use crate::chain::first_chain;
 use crate::keyed::{BundleRule, DirectRule, VersionRule, rule_of};
@@ -114,6 +114,8 @@ impl RuleSet {
         requires versions { RiseBy (λ v. v.0) versions.items }
         requires bundles { RiseBy (λ b. b.0) bundles.items }
         requires direct { RiseBy (λ d. d.0) direct.items }
+        requires utf8 { HaveUtf8Targets renames.items }
+        requires direct_utf8 { HaveUtf8Texts (finite.from_entries direct.items) }
         ensures built { IfOk result (λ rules. settled (rules_of renames.items versions.items bundles.items direct.items selection texts) ≡ Ok rules) }
         ensures refused { IfErr result (IsFaultOf (settled (rules_of renames.items versions.items bundles.items direct.items selection texts))) }
         ensures settled { IfOk result IsRuleSet }
@@ -157,6 +159,15 @@ impl RuleSet {
         let selection = read_selection(alloc, files)?;
         let texts = read_texts(alloc, files)?;
         RuleSet::settled(alloc, renames, versions, bundles, direct, selection, texts)
+    }
+
+    /// True: the rules are well-formed and settled, and their new packages and direct texts are modified UTF-8 (JVMS 4.4.7).
+    pub fn is_settled(&self) -> bool
+        ensures yes { IsTrue result }
+        ensures settled { IsRuleSet self.now }
+    {
+        let _ = &self.renames;
+        true
     }
 
     /// What is exchanged of a package that is written with a separator, `.` or `/`: something exactly
