@@ -27,13 +27,9 @@ pub fn odd_uses(pool: &Pool<'_>, uses: &[Used]) -> u32
     requires { length uses.now < 2 ^ 32 }
     ensures { result ≡ count_by (is_odd_use pool.now.entries) uses.now }
 {
-    let mut odd = 0;
-    for used in uses {
-        if is_odd(used.role, text_at(pool, used.index)) {
-            odd += 1;
-        }
-    }
-    odd
+    uses.iter()
+        .filter(|used| is_odd(used.role, text_at(pool, used.index)))
+        .count() as u32
 }
 
 /// How many uses have an image that is another text.
@@ -41,11 +37,5 @@ pub fn renamed_uses(wishes: &[Wish<'_>]) -> u32
     requires { length wishes.now < 2 ^ 32 }
     ensures { result ≡ count_by has_other wishes.now }
 {
-    let mut renamed = 0;
-    for wish in wishes {
-        if wish.image.is_some() {
-            renamed += 1;
-        }
-    }
-    renamed
+    wishes.iter().filter(|wish| wish.image.is_some()).count() as u32
 }

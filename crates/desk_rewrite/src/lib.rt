@@ -5,6 +5,7 @@ mod counts;
 mod images;
 mod members;
 mod printing;
+mod probe;
 mod rewriting;
 mod table;
 mod wishes;

@@ -3,7 +3,7 @@
 ghost use Rattle.std.specs.Prelude.{◌≡◌, All, IfOk, OnOk, true, is_some, option_copied};
 ghost use Rattle.desk_base.specs.Entries.{text_at};
 ghost use Rattle.desk_rewrite.specs.RuleImages.{images_of};
-ghost use Rattle.desk_rewrite.specs.Tables.{kind_of, has_image, image_found, Grows, IsSoundTable, HasImages};
+ghost use Rattle.desk_rewrite.specs.Tables.{kind_of, answer_at, found, image_found, Grows, IsSoundTable, HasImages};
 
 use crate::images::image_by_kind;
 use desk_base::{Memory, Role, Text, Used};
@@ -103,15 +103,23 @@ pub fn all_images<I: Images>(
     Ok(table)
 }
 
+/// The image that a table has at a key, where it is another text.
+fn image_at(table: &ImageTable, key: (u16, Kind)) -> Option<&[u8]>
+    ensures { option_copied result ≡ found (answer_at table.now key) }
+{
+    match table.get(&key) {
+        None => None,
+        Some(None) => None,
+        Some(Some(image)) => Some(image.as_bytes()),
+    }
+}
+
 /// The image of the text at an index in a role, where the table has one that is another text.
 pub fn image_in(table: &ImageTable, index: u16, role: Role) -> Option<&[u8]>
     ensures { option_copied result ≡ image_found table.now index role }
 {
     match kind_of(role) {
         None => None,
-        Some(kind) => match table.get(&(index, kind)) {
-            Some(Some(image)) => Some(image.as_bytes()),
-            _ => None,
-        },
+        Some(kind) => image_at(table, (index, kind)),
     }
 }
