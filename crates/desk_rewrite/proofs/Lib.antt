@@ -1,0 +1,6 @@
+pub mod Tables
+pub mod Described
+pub mod Wanting
+pub mod Parts
+pub mod Short
+pub mod Refusing

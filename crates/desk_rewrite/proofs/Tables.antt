@@ -1,0 +1,135 @@
+-- Tables of images.
+use Rattle.std.proofs.Common.{◌≡◌, ℕ, zero, suc, ◌+◌, ◌<◌, Bool, true, false, cond, ◌||◌, List, length, get_or, take, Option, Some, None, refl, ap, sym, ◌∙◌, subst, arith, All}
+use Rattle.std.specs.Option.{is_some}
+use Rattle.std.specs.Ordering.{nat_cmp, is_eq, ordering_then}
+use Rattle.std.specs.declared.cmp.Ordering.{Ordering}
+use Rattle.std.specs.declared.cmp.Ordering.TheVariants.{Less, Equal, Greater}
+use Rattle.std.specs.BTreeMap as tree
+use Rattle.std.specs.Map.{lookup}
+use Rattle.std.proofs.lemmas.Bool.{eq-eqb, le-ltb}
+use Rattle.std.proofs.lemmas.List.Elements.{All-more, All-weaker}
+use Rattle.std.proofs.lemmas.Map.Lookups.{exact_pairs, exact_unsigned}
+use Rattle.desk_base.specs.Names.{Text}
+use Rattle.desk_base.specs.Entries.{Pool}
+use Rattle.desk_base.specs.declared.kinds.Role.{Role}
+use Rattle.desk_base.specs.declared.kinds.Role.TheVariants as roles
+use Rattle.desk_base.specs.declared.kinds.Used.{Used}
+use Rattle.desk_format.specs.Resolved.{Images}
+use Rattle.desk_rewrite.specs.declared.table.Kind.{Kind}
+use Rattle.desk_rewrite.specs.declared.table.Kind.TheVariants as kinds
+use Rattle.desk_rewrite.specs.Tables.{rank, kind_of, Key, key_cmp, Table, answer_at, IsAnswer, IsSoundTable, has_kind, has_image, Grows, found, Finds, HasImages}
+
+-- ---- equal keys
+
+abbrev kind_at : ℕ → Kind
+kind_at zero = kinds.Class
+kind_at (suc zero) = kinds.Package
+kind_at (suc (suc zero)) = kinds.Descriptor
+kind_at (suc (suc (suc zero))) = kinds.ClassSig
+kind_at (suc (suc (suc (suc zero)))) = kinds.MethodSig
+kind_at (suc (suc (suc (suc (suc zero))))) = kinds.FieldSig
+kind_at _ = kinds.Str
+
+kind_at-rank : (k : Kind) → kind_at (rank k) ≡ k
+kind_at-rank kinds.Class = refl
+kind_at-rank kinds.Package = refl
+kind_at-rank kinds.Descriptor = refl
+kind_at-rank kinds.ClassSig = refl
+kind_at-rank kinds.MethodSig = refl
+kind_at-rank kinds.FieldSig = refl
+kind_at-rank kinds.Str = refl
+
+rank_same : (a b : Kind) → nat_cmp (rank a) (rank b) ≡ Equal → a ≡ b
+rank_same a b e = sym (kind_at-rank a) ∙ ap kind_at (exact_unsigned (rank a) (rank b) e) ∙ kind_at-rank b
+
+is_equal : (r : Ordering) → is_eq r ≡ true → r ≡ Equal
+is_equal Less h = absurd cc
+is_equal Equal h = refl
+is_equal Greater h = absurd cc
+
+key_same : (x y : Key) → is_eq (key_cmp x y) ≡ true → x ≡ y
+key_same x y h = exact_pairs nat_cmp (λ (a b : Kind). nat_cmp (rank a) (rank b)) exact_unsigned rank_same x y (is_equal (key_cmp x y) h)
+
+-- ---- no key
+
+pub sound_none : (im : Images) (pool : Pool) (table : Table) → tree.IsEmpty table → IsSoundTable im pool table
+sound_none im pool table e = λ key a h.
+    let none : answer_at table key ≡ None = ap (λ (es : List (Key × Option Text)). lookup (tree.is_at (key_cmp key)) es) e in
+    absurd cc
+
+-- ---- one key more
+
+same_by : (b : Bool) (table : Table) (key q : Key) → is_eq (key_cmp key q) ≡ b → is_some (answer_at table key) ≡ true → is_some (answer_at table q) ≡ (b || is_some (answer_at table q))
+same_by true table key q e h = subst (λ (k : Key). is_some (answer_at table k) ≡ true) (key_same key q e) h
+same_by false table key q e h = refl
+
+pub grows_same : (table : Table) (key : Key) → is_some (answer_at table key) ≡ true → Grows table key table
+grows_same table key h = λ q. same_by (is_eq (key_cmp key q)) table key q refl h
+
+some_by : (b : Bool) (answer : Option Text) (o : Option (Option Text)) → is_some (cond b (Some answer) o) ≡ (b || is_some o)
+some_by true answer o = refl
+some_by false answer o = refl
+
+pub grows_put : (old new : Table) (key : Key) (answer : Option Text) → tree.Updates key_cmp old new key (Some answer) → Grows old key new
+grows_put old new key answer up = λ q. ap is_some (up.0 q) ∙ some_by (is_eq (key_cmp key q)) answer (answer_at old q)
+
+sound_by : (b : Bool) (im : Images) (pool : Pool) (old : Table) (key q : Key) (answer a : Option Text) → is_eq (key_cmp key q) ≡ b → IsAnswer im pool key answer → IsSoundTable im pool old → cond b (Some answer) (answer_at old q) ≡ Some a → IsAnswer im pool q a
+sound_by true im pool old key q answer a e is s h =
+    let same : answer ≡ a = cc in
+    subst (λ (k : Key). IsAnswer im pool k a) (key_same key q e) (subst (IsAnswer im pool key) same is)
+sound_by false im pool old key q answer a e is s h = s q a h
+
+pub sound_put : (im : Images) (pool : Pool) (old new : Table) (key : Key) (answer : Option Text) → tree.Updates key_cmp old new key (Some answer) → IsAnswer im pool key answer → IsSoundTable im pool old → IsSoundTable im pool new
+sound_put im pool old new key answer up is s = λ q a h. sound_by (is_eq (key_cmp key q)) im pool old key q answer a refl is s (sym (up.0 q) ∙ h)
+
+-- ---- what is found
+
+finds_by : (im : Images) (pool : Pool) (table : Table) (key : Key) (o : Option (Option Text)) → IsSoundTable im pool table → answer_at table key ≡ o → is_some o ≡ true → IsAnswer im pool key (found o)
+finds_by im pool table key None s e h = absurd cc
+finds_by im pool table key (Some a) s e h = s key a e
+
+finds_key : (im : Images) (pool : Pool) (table : Table) (key : Key) → IsSoundTable im pool table → is_some (answer_at table key) ≡ true → IsAnswer im pool key (found (answer_at table key))
+finds_key im pool table key s h = finds_by im pool table key (answer_at table key) s refl h
+
+finds : (im : Images) (pool : Pool) (table : Table) (role : Role) (i : ℕ) → IsSoundTable im pool table → has_kind table i (kind_of role) ≡ true → Finds im pool table role i
+finds im pool table roles.Class i s h = finds_key im pool table (i, kinds.Class) s h
+finds im pool table roles.Package i s h = finds_key im pool table (i, kinds.Package) s h
+finds im pool table roles.Module i s h = refl
+finds im pool table roles.Descriptor i s h = finds_key im pool table (i, kinds.Descriptor) s h
+finds im pool table roles.ClassSig i s h = finds_key im pool table (i, kinds.ClassSig) s h
+finds im pool table roles.MethodSig i s h = finds_key im pool table (i, kinds.MethodSig) s h
+finds im pool table roles.FieldSig i s h = finds_key im pool table (i, kinds.FieldSig) s h
+finds im pool table roles.Str i s h = finds_key im pool table (i, kinds.Str) s h
+finds im pool table roles.Plain i s h = refl
+finds im pool table roles.AttrName i s h = refl
+
+pub has_images : (im : Images) (pool : Pool) (table : Table) (us : List Used) → IsSoundTable im pool table → All (λ (u : Used). has_image table u ≡ true) us → HasImages im pool us table
+has_images im pool table us s h = All-weaker (λ (u : Used). has_image table u ≡ true) (λ (u : Used). Finds im pool table u.role u.index) (λ u k. finds im pool table u.role u.index s k) us h
+
+-- ---- uses, one after the other
+
+or_right : (a b : Bool) → b ≡ true → (a || b) ≡ true
+or_right true b h = refl
+or_right false b h = h
+
+kind_more : (old new : Table) (key : Key) → Grows old key new → (i : ℕ) (o : Option Kind) → has_kind old i o ≡ true → has_kind new i o ≡ true
+kind_more old new key g i None h = refl
+kind_more old new key g i (Some k) h = g (i, k) ∙ or_right (is_eq (key_cmp key (i, k))) (is_some (answer_at old (i, k))) h
+
+-- the key itself
+number_self : (n : ℕ) → nat_cmp n n ≡ Equal
+number_self n = rw (le-ltb n n (omega arith), eq-eqb n n refl) refl
+
+key_self : (key : Key) → is_eq (key_cmp key key) ≡ true
+key_self key = ap (λ (r : Ordering). is_eq (ordering_then r (nat_cmp (rank key.1) (rank key.1)))) (number_self key.0) ∙ ap is_eq (number_self (rank key.1))
+
+pub next_has : (old new : Table) (us : List Used) (i : ℕ) (d : Used) (k : Kind) → i < length us → kind_of (get_or us i d).role ≡ Some k → Grows old ((get_or us i d).index, k) new → All (λ (u : Used). has_image old u ≡ true) (take i us)
+    → All (λ (u : Used). has_image new u ≡ true) (take (i + 1) us)
+next_has old new us i d k lt is g h =
+    let u : Used = get_or us i d in
+    let here : has_image new u ≡ true = ap (has_kind new u.index) is ∙ g (u.index, k) ∙ ap (λ (b : Bool). b || is_some (answer_at old (u.index, k))) (key_self (u.index, k)) in
+    All-more (λ (u : Used). has_image new u ≡ true) us i d lt
+    (All-weaker (λ (u : Used). has_image old u ≡ true) (λ (u : Used). has_image new u ≡ true) (λ v e. kind_more old new (u.index, k) g v.index (kind_of v.role) e) (take i us) h) here
+
+pub next_passed : (table : Table) (us : List Used) (i : ℕ) (d : Used) → i < length us → kind_of (get_or us i d).role ≡ None → All (λ (u : Used). has_image table u ≡ true) (take i us) → All (λ (u : Used). has_image table u ≡ true) (take (i + 1) us)
+next_passed table us i d lt is h = All-more (λ (u : Used). has_image table u ≡ true) us i d lt h (ap (has_kind table (get_or us i d).index) is)

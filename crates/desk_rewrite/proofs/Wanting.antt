@@ -1,0 +1,113 @@
+-- What uses want is what the definitions say.
+use Rattle.std.proofs.Common.{◌≡◌, ◌≢◌, ℕ, suc, ◌+◌, ◌<◌, ◌^◌, Bool, true, false, not, cond, List, [], ◌∷◌, map, length, Option, Some, None, refl, ap, ap₂, sym, ◌∙◌, subst, bytes_eq, count_by, arith, All}
+use denote.Ref.{Bor}
+use Rattle.std.specs.List.{AllByRecursion}
+use Rattle.std.specs.Option.{is_some, option_copied}
+use Rattle.std.proofs.lemmas.List.Elements.{All-head, All-tail, All-cons, All-nil}
+use Rattle.std.proofs.lemmas.List.Sums.{sum_by-cons}
+use Rattle.std.proofs.lemmas.Slice.Eq.{bytes_eq-Decides}
+use Rattle.desk_base.specs.Names.{Text}
+use Rattle.desk_base.specs.Entries.{Entry, utf8, Pool, entry_at, utf8_in, text_in, text_at, utf8_at}
+use Rattle.desk_base.specs.declared.kinds.Used.{Used}
+use Rattle.desk_base.specs.Utf8.{bad_form}
+use Rattle.desk_format.specs.Resolved.{Images, image}
+use Rattle.desk_format.specs.Split.{Want}
+use Rattle.desk_format.specs.NewPool.{wish, wants}
+use Rattle.desk_rules.specs.Images.{IsImage}
+use Rattle.desk_laws.specs.Sound.{IsTwoBytes, IsShaped}
+use Rattle.desk_laws.proofs.Bodies.{NamesText, sound_at}
+use Rattle.desk_laws.proofs.Moved.{is_utf8}
+use Rattle.desk_laws.proofs.Stable.{Own}
+use Rattle.desk_split.proofs.Wanted.{other}
+use Rattle.desk_split.specs.Wishes.{image_or, want_of, wants_of, Differs, IsWish}
+use Rattle.desk_split.specs.declared.wishes.Wish.{Wish}
+use Rattle.desk_rewrite.specs.Counts.{is_renamed}
+use Rattle.desk_rewrite.specs.Wanting.{used_in, has_other, IsWishOf}
+
+-- ---- wants
+
+image_is : (own image : Text) (o : Option (Bor Text)) → IsImage own image (option_copied o) → image_or own o ≡ image
+image_is own image None h = sym h
+image_is own image (Some t) h = h.0
+
+abbrev wanted_text : ℕ → Text → Want
+wanted_text i t = record { index = i; text = t }
+
+want_same : (im : Images) (pool : Pool) (w : Wish) → IsWishOf im pool w → want_of pool w ≡ wish im pool w.used.role w.used.index
+want_same im pool w h = ap (wanted_text w.used.index) (image_is (text_at pool w.used.index) (image im w.used.role (text_at pool w.used.index)) w.image h)
+
+wants_same : (im : Images) (pool : Pool) (ws : List Wish) → All (IsWishOf im pool) ws → wants_of pool ws ≡ wants im pool (map used_in ws)
+wants_same im pool [] h = refl
+wants_same im pool (w ∷ ws) h = ap₂ (λ (v : Want) (vs : List Want). v ∷ vs) (want_same im pool w (All-head (IsWishOf im pool) w ws h)) (wants_same im pool ws (All-tail (IsWishOf im pool) w ws h))
+
+pub wants_are : (im : Images) (pool : Pool) (us : List Used) (ws : List Wish) → map used_in ws ≡ us → All (IsWishOf im pool) ws → wants_of pool ws ≡ wants im pool us
+wants_are im pool us ws e h = wants_same im pool ws h ∙ ap (wants im pool) e
+
+-- ---- wishes
+
+text_is : (pool : Pool) (i : ℕ) (t : Text) → entry_at pool i ≡ Some (utf8 t) → text_at pool i ≡ t
+text_is pool i t e = ap text_in e
+
+differs : (own image : Text) (o : Option (Bor Text)) → IsImage own image (option_copied o) → Differs own o
+differs own image None h = tt
+differs own image (Some t) h = λ e. h.1 (sym (h.0) ∙ e)
+
+is_wish : (im : Images) (pool : Pool) (w : Wish) → IsShaped false pool → NamesText pool w.used → IsWishOf im pool w → IsWish pool w
+is_wish im pool w shaped named h =
+    let p = is_utf8 (entry_at pool w.used.index) named in
+    let sound : IsTwoBytes (length p.0) × (bad_form p.0 ≡ None) = sound_at false pool w.used.index (utf8 p.0) shaped p.1 in
+    let own : text_at pool w.used.index ≡ p.0 = text_is pool w.used.index p.0 p.1 in
+    record {
+      names = (p.0, ap utf8_in p.1);
+      short = subst (λ (t : Text). length t < 2 ^ 16) (sym own) (sound.0);
+      differs = differs (text_at pool w.used.index) (image im w.used.role (text_at pool w.used.index)) w.image h;
+    }
+
+pub are_wishes : (im : Images) (pool : Pool) (ws : List Wish) → IsShaped false pool → AllByRecursion (NamesText pool) (map used_in ws) → All (IsWishOf im pool) ws → All (IsWish pool) ws
+are_wishes im pool [] shaped named h = All-nil (IsWish pool)
+are_wishes im pool (w ∷ ws) shaped named h =
+    All-cons (IsWish pool) w ws (is_wish im pool w shaped (named.0) (All-head (IsWishOf im pool) w ws h)) (are_wishes im pool ws shaped (named.1) (All-tail (IsWishOf im pool) w ws h))
+
+-- ---- counts
+
+other_is : (own image : Text) (o : Option (Bor Text)) → IsImage own image (option_copied o) → is_some o ≡ not (bytes_eq image own)
+other_is own image None h = sym (ap not ((bytes_eq-Decides image own).1 h))
+other_is own image (Some t) h = sym (ap not (other image own (h.1)))
+
+renamed_same : (im : Images) (pool : Pool) (ws : List Wish) → All (IsWishOf im pool) ws → count_by has_other ws ≡ count_by (is_renamed im pool) (map used_in ws)
+renamed_same im pool [] h = refl
+renamed_same im pool (w ∷ ws) h =
+    sum_by-cons (λ (v : Wish). cond (has_other v) 1 0) w ws
+    ∙ ap₂ (λ (b : Bool) (n : ℕ). cond b 1 0 + n) (other_is (text_at pool w.used.index) (image im w.used.role (text_at pool w.used.index)) w.image (All-head (IsWishOf im pool) w ws h))
+    (renamed_same im pool ws (All-tail (IsWishOf im pool) w ws h))
+    ∙ sym (sum_by-cons (λ (u : Used). cond (is_renamed im pool u) 1 0) w.used (map used_in ws))
+
+pub renamed_are : (im : Images) (pool : Pool) (us : List Used) (ws : List Wish) → map used_in ws ≡ us → All (IsWishOf im pool) ws → count_by has_other ws ≡ count_by (is_renamed im pool) us
+renamed_are im pool us ws e h = renamed_same im pool ws h ∙ ap (count_by (is_renamed im pool)) e
+
+-- ---- where no image is another text
+
+none_here : (b : Bool) (n : ℕ) → cond b 1 0 + n ≡ 0 → (b ≡ false) × (n ≡ 0)
+none_here true n h = absurd (omega arith)
+none_here false n h = (refl, omega arith)
+
+own_image : (own image : Text) (o : Option (Bor Text)) → is_some o ≡ false → IsImage own image (option_copied o) → image ≡ own
+own_image own image None e h = h
+own_image own image (Some t) e h = absurd cc
+
+own_want : (im : Images) (pool : Pool) (w : Wish) → has_other w ≡ false → NamesText pool w.used → IsWishOf im pool w → Own pool (wish im pool w.used.role w.used.index)
+own_want im pool w e named h =
+    let p = is_utf8 (entry_at pool w.used.index) named in
+    let own : text_at pool w.used.index ≡ p.0 = text_is pool w.used.index p.0 p.1 in
+    let same : image im w.used.role (text_at pool w.used.index) ≡ text_at pool w.used.index = own_image (text_at pool w.used.index) (image im w.used.role (text_at pool w.used.index)) w.image e h in
+    record { names = p.1 ∙ ap (λ (t : Text). Some (utf8 t)) (sym own ∙ sym same) }
+
+own_same : (im : Images) (pool : Pool) (ws : List Wish) → count_by has_other ws ≡ 0 → AllByRecursion (NamesText pool) (map used_in ws) → All (IsWishOf im pool) ws → AllByRecursion (Own pool) (wants im pool (map used_in ws))
+own_same im pool [] e named h = tt
+own_same im pool (w ∷ ws) e named h =
+    let none = none_here (has_other w) (count_by has_other ws) (sym (sum_by-cons (λ (v : Wish). cond (has_other v) 1 0) w ws) ∙ e) in
+    (own_want im pool w (none.0) (named.0) (All-head (IsWishOf im pool) w ws h), own_same im pool ws (none.1) (named.1) (All-tail (IsWishOf im pool) w ws h))
+
+pub own_wants : (im : Images) (pool : Pool) (us : List Used) (ws : List Wish) → map used_in ws ≡ us → count_by has_other ws ≡ 0 → AllByRecursion (NamesText pool) us → All (IsWishOf im pool) ws → AllByRecursion (Own pool) (wants im pool us)
+own_wants im pool us ws e none named h =
+    subst (λ (vs : List Used). AllByRecursion (Own pool) (wants im pool vs)) e (own_same im pool ws none (subst (AllByRecursion (NamesText pool)) (sym e) named) h)

@@ -1,0 +1,5 @@
+pub mod RuleImages
+pub mod Tables
+pub mod Wanting
+pub mod Counts
+pub mod Refused

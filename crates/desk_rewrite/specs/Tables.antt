@@ -1,0 +1,111 @@
+-- The images of texts by index and kind, as the code keeps them.
+use Rattle.std.specs.Prelude.{◌≡◌, ◌↔◌, ℕ, Bool, true, List, Option, Some, None, All, is_some, ◌||◌}
+use Rattle.std.specs.Ordering.{nat_cmp, ordering_then, is_eq}
+use Rattle.std.specs.declared.cmp.Ordering.{Ordering}
+use Rattle.std.specs.BTreeMap.{BTreeMap, get}
+use Rattle.desk_base.specs.Names.{Text}
+use Rattle.desk_base.specs.Entries.{Pool, text_at}
+use Rattle.desk_base.specs.declared.kinds.Role.{Role}
+use Rattle.desk_base.specs.declared.kinds.Role.TheVariants as roles
+use Rattle.desk_base.specs.declared.kinds.Used.{Used}
+use Rattle.desk_format.specs.declared.members.Member.{Member}
+use Rattle.desk_format.specs.Resolved.{Images, image}
+use Rattle.desk_rules.specs.Images.{IsImage}
+use Rattle.desk_rewrite.specs.declared.table.Kind.{Kind}
+use Rattle.desk_rewrite.specs.declared.table.Kind.TheVariants as kinds
+
+-- ---- kinds
+
+-- the kind of a role; none where each text is its own image
+abbrev pub kind_of : Role → Option Kind
+kind_of roles.Class = Some kinds.Class
+kind_of roles.Package = Some kinds.Package
+kind_of roles.Module = None
+kind_of roles.Descriptor = Some kinds.Descriptor
+kind_of roles.ClassSig = Some kinds.ClassSig
+kind_of roles.MethodSig = Some kinds.MethodSig
+kind_of roles.FieldSig = Some kinds.FieldSig
+kind_of roles.Str = Some kinds.Str
+kind_of roles.Plain = None
+kind_of roles.AttrName = None
+
+abbrev pub role_of : Kind → Role
+role_of kinds.Class = roles.Class
+role_of kinds.Package = roles.Package
+role_of kinds.Descriptor = roles.Descriptor
+role_of kinds.ClassSig = roles.ClassSig
+role_of kinds.MethodSig = roles.MethodSig
+role_of kinds.FieldSig = roles.FieldSig
+role_of kinds.Str = roles.Str
+
+-- the place of a kind among the kinds
+abbrev pub rank : Kind → ℕ
+rank kinds.Class = 0
+rank kinds.Package = 1
+rank kinds.Descriptor = 2
+rank kinds.ClassSig = 3
+rank kinds.MethodSig = 4
+rank kinds.FieldSig = 5
+rank kinds.Str = 6
+
+-- ---- tables
+
+-- an index and a kind
+abbrev pub Key : Type 0
+Key = ℕ × Kind
+
+abbrev pub key_cmp : Key → Key → Ordering
+key_cmp x y = ordering_then (nat_cmp x.0 y.0) (nat_cmp (rank x.1) (rank y.1))
+
+abbrev pub Table : Type 0
+Table = BTreeMap Key (Option Text)
+
+-- what a table says of a key
+abbrev pub answer_at : Table → Key → Option (Option Text)
+answer_at table key = get key_cmp table key
+
+-- the image of the text at the index of a key, as an answer
+abbrev pub IsAnswer : Images → Pool → Key → Option Text → Type 0
+IsAnswer im pool key answer = IsImage (text_at pool key.0) (image im (role_of key.1) (text_at pool key.0)) answer
+
+-- each answer of a table is the image
+abbrev pub IsSoundTable : Images → Pool → Table → Type 0
+IsSoundTable im pool table = (key : Key) (answer : Option Text) → answer_at table key ≡ Some answer → IsAnswer im pool key answer
+
+-- whether a table has an answer for an index in a role that needs one
+abbrev pub has_kind : Table → ℕ → Option Kind → Bool
+has_kind table i None = true
+has_kind table i (Some kind) = is_some (answer_at table (i, kind))
+
+abbrev pub has_image : Table → Used → Bool
+has_image table u = has_kind table u.index (kind_of u.role)
+
+-- a table that answers one key more, or the same keys
+abbrev pub Grows : Table → Key → Table → Type 0
+Grows old key new = (q : Key) → is_some (answer_at new q) ≡ (is_eq (key_cmp key q) || is_some (answer_at old q))
+
+-- ---- what is found
+
+abbrev pub found : Option (Option Text) → Option Text
+found None = None
+found (Some answer) = answer
+
+abbrev pub found_by : Table → ℕ → Option Kind → Option Text
+found_by table i None = None
+found_by table i (Some kind) = found (answer_at table (i, kind))
+
+-- the image of the text at an index in a role, where a table has one that is another text
+abbrev pub image_found : Table → ℕ → Role → Option Text
+image_found table i role = found_by table i (kind_of role)
+
+-- What is found for an index in a role is the image of its text.
+abbrev pub Finds : Images → Pool → Table → Role → ℕ → Type 0
+Finds im pool table role i = IsImage (text_at pool i) (image im role (text_at pool i)) (image_found table i role)
+
+-- What is found for each use is the image of its text.
+abbrev pub HasImages : Images → Pool → List Used → Table → Type 0
+HasImages im pool us table = All (λ (u : Used). Finds im pool table u.role u.index) us
+
+-- What is found for the descriptor of each member is its image.
+abbrev pub HasDescriptors : Images → Pool → Table → List Member → Type 0
+HasDescriptors im pool table ms = All (λ (m : Member). Finds im pool table roles.Descriptor m.descriptor) ms

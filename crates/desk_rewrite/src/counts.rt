@@ -1,0 +1,41 @@
+//! How many uses are renamed, and how many have odd texts.
+
+ghost use Rattle.std.specs.Prelude.{◌≡◌, ◌<◌, ◌^◌, length, count_by};
+ghost use Rattle.desk_rewrite.specs.Counts.{is_odd, is_odd_use};
+ghost use Rattle.desk_rewrite.specs.Wanting.{has_other};
+
+use crate::table::text_at;
+use desk_base::{Role, Used};
+use desk_names::{Which, read_signature};
+use desk_pool::Pool;
+use desk_split::Wish;
+
+/// Whether a text is used as a signature, and is no signature of that kind or nests more than 64 deep.
+fn is_odd(role: Role, text: &[u8]) -> bool
+    ensures { result ≡ is_odd role text.now }
+{
+    match role {
+        Role::ClassSig => read_signature(text, Which::Class).is_none(),
+        Role::MethodSig => read_signature(text, Which::Method).is_none(),
+        Role::FieldSig => read_signature(text, Which::Field).is_none(),
+        _ => false,
+    }
+}
+
+/// How many uses have an odd text.
+pub fn odd_uses(pool: &Pool<'_>, uses: &[Used]) -> u32
+    requires { length uses.now < 2 ^ 32 }
+    ensures { result ≡ count_by (is_odd_use pool.now.entries) uses.now }
+{
+    uses.iter()
+        .filter(|used| is_odd(used.role, text_at(pool, used.index)))
+        .count() as u32
+}
+
+/// How many uses have an image that is another text.
+pub fn renamed_uses(wishes: &[Wish<'_>]) -> u32
+    requires { length wishes.now < 2 ^ 32 }
+    ensures { result ≡ count_by has_other wishes.now }
+{
+    wishes.iter().filter(|wish| wish.image.is_some()).count() as u32
+}

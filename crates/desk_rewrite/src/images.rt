@@ -1,0 +1,66 @@
+//! The image of a text by what it is used as.
+
+ghost use Rattle.std.specs.Prelude.{◌≡◌, IfOk};
+ghost use Rattle.desk_rules.specs.Images.{IsImage};
+ghost use Rattle.desk_rename.specs.Images.{cls};
+ghost use Rattle.desk_format.specs.Resolved.{image};
+ghost use Rattle.desk_rewrite.specs.RuleImages.{images_of};
+ghost use Rattle.desk_rewrite.specs.Tables.{role_of};
+
+use crate::table::Kind;
+use desk_base::{Memory, Text};
+use desk_names::Which;
+use desk_rename::{
+    Images, rename_class, rename_descriptor, rename_package, rename_signature, rename_string,
+};
+use desk_rules::RuleSet;
+use std::alloc::Global;
+
+/// An image as an answer: none where it is the text itself.
+fn unless_same(alloc: Global, text: &[u8], image: &[u8]) -> Result<Option<Text>, Memory>
+    ensures { IfOk result (IsImage text.now image.now) }
+{
+    if image == text {
+        Ok(None)
+    } else {
+        Ok(Some(Text::from_bytes(alloc, image)?))
+    }
+}
+
+/// The image of the name of a class or an array, which is looked up first.
+fn image_of_class<I: Images>(
+    alloc: Global,
+    rules: &RuleSet,
+    images: &I,
+    text: &[u8],
+) -> Result<Option<Text>, Memory>
+    requires { I.renames images.now ≡ rules.now.renames }
+    ensures { IfOk result (IsImage text.now (cls rules.now.renames text.now)) }
+{
+    match images.image_of(text) {
+        Some(image) => unless_same(alloc, text, image),
+        None => rename_class(alloc, rules, text),
+    }
+}
+
+/// The image of a text by its kind; none exactly where it is the text itself. The only error is want of memory.
+pub fn image_by_kind<I: Images>(
+    alloc: Global,
+    rules: &RuleSet,
+    images: &I,
+    kind: Kind,
+    text: &[u8],
+) -> Result<Option<Text>, Memory>
+    requires { I.renames images.now ≡ rules.now.renames }
+    ensures { IfOk result (IsImage text.now (image (images_of rules.now) (role_of kind) text.now)) }
+{
+    match kind {
+        Kind::Class => image_of_class(alloc, rules, images, text),
+        Kind::Package => rename_package(alloc, rules, text),
+        Kind::Descriptor => rename_descriptor(alloc, rules, text),
+        Kind::ClassSig => rename_signature(alloc, rules, Which::Class, text),
+        Kind::MethodSig => rename_signature(alloc, rules, Which::Method, text),
+        Kind::FieldSig => rename_signature(alloc, rules, Which::Field, text),
+        Kind::Str => rename_string(alloc, rules, text),
+    }
+}

@@ -1,0 +1,56 @@
+//! The bytes of a new class.
+
+ghost use Rattle.std.specs.Prelude.{◌≡◌, ◌≤◌, ℕ, List, None, Ok, All, IfOk, length};
+ghost use Rattle.desk_format.specs.Classes.{Class, class_fault, read_class};
+ghost use Rattle.desk_format.specs.Laws.{IsBytes};
+ghost use Rattle.desk_format.specs.NewClass.{new_bytes};
+ghost use Rattle.desk_format.specs.Resolved.{Images};
+ghost use Rattle.desk_format.specs.Servlet.{uses_in};
+ghost use Rattle.desk_format.specs.Split.{Want, split};
+ghost use Rattle.desk_class.specs.Parts.{pool_in};
+ghost use Rattle.desk_split.specs.Keeps.{TextsAre};
+ghost use Rattle.desk_split.specs.Printing.{IsShortText};
+ghost use Rattle.desk_rewrite.specs.Wanting.{IsNewTexts};
+
+use desk_base::{Memory, Text};
+use desk_class::ClassView;
+use desk_split::{NewTexts, append_body, append_pool};
+use std::alloc::Global;
+
+/// The bytes of a class.
+pub fn bytes_of<'a>(view: &ClassView<'a>) -> &'a [u8]
+    ensures bytes { result.now ≡ view.now }
+    ensures each { IsBytes view.now }
+    ensures sound { class_fault view.now ≡ None }
+    ensures short { length view.now ≤ 67108864 }
+{
+    let bytes = view.bytes();
+    bytes
+}
+
+/// The bytes of the new class with these texts: magic and version, the new pool, and the body with its new indices. The
+/// only error is want of memory.
+pub fn new_bytes(
+    alloc: Global,
+    view: &ClassView<'_>,
+    new: &NewTexts<'_>,
+) -> Result<Text, Memory>
+    requires texts { (ws : List Want) × TextsAre (split ws (pool_in view.now)) new.now.texts.items }
+    requires limit { length new.now.texts.items ≤ 65535 }
+    requires short { All IsShortText new.now.texts.items }
+    requires indices { length new.now.indices.items ≡ length (uses_in view.now) }
+    ensures { IfOk result (λ bytes. (im : Images) (c : Class) → read_class view.now ≡ Ok c → IsNewTexts im c new.now → bytes ≡ new_bytes im view.now c) }
+{
+    let bytes = bytes_of(view);
+    let pool = view.pool();
+    let first = pool.uses().len();
+    let (_, uses) = view.uses().split_at(first);
+    let (_, indices) = new.indices.split_at(first);
+    let (front, _) = bytes.split_at(8);
+    let (_, entries) = bytes.split_at(10);
+    let (_, body) = bytes.split_at(view.body_at() as usize);
+    let mut out = Text::from_bytes(alloc, front)?;
+    append_pool(&mut out, pool, pool.count(), entries, new)?;
+    append_body(&mut out, view.body_at(), body, uses, indices)?;
+    Ok(out)
+}

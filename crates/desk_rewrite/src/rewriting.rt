@@ -1,0 +1,158 @@
+//! The new class, or why there is none.
+
+ghost use Rattle.std.specs.Prelude.{◌≡◌, All, IfOk, IfErr, OnOk, None, Ok, map, count_by, length};
+ghost use Rattle.desk_format.specs.Classes.{Class, class_uses, read_class};
+ghost use Rattle.desk_format.specs.NewClass.{new_bytes, refusal};
+ghost use Rattle.desk_format.specs.NewPool.{added};
+ghost use Rattle.desk_format.specs.Resolved.{Images};
+ghost use Rattle.desk_format.specs.Members.{members};
+ghost use Rattle.desk_format.specs.Servlet.{uses_in};
+ghost use Rattle.desk_class.specs.Parts.{pool_in};
+ghost use Rattle.desk_split.specs.Wishes.{IsWish};
+ghost use Rattle.desk_rewrite.specs.Counts.{renamed_count, odd_count};
+ghost use Rattle.desk_rewrite.specs.Refused.{Refuses};
+ghost use Rattle.desk_rewrite.specs.RuleImages.{images_of};
+ghost use Rattle.desk_rewrite.specs.Tables.{HasDescriptors};
+ghost use Rattle.desk_rewrite.specs.Wanting.{used_in, AreWishes};
+
+use crate::counts::{odd_uses, renamed_uses};
+use crate::members::named_members;
+use crate::printing::{bytes_of, new_bytes};
+use crate::table::{ImageTable, all_images};
+use crate::wishes::wishes_of;
+use desk_base::{Memory, Text};
+use desk_class::ClassView;
+use desk_rename::Images;
+use desk_rules::RuleSet;
+use desk_split::{SplitFault, TwinPlaces, Wish, first_twins, split};
+use std::alloc::Global;
+
+/// A class that was rewritten.
+#[derive(Debug, Drop)]
+pub struct Rewritten {
+    /// The bytes of the new class.
+    pub bytes: Text,
+    /// How many uses of texts have an image that differs from their text.
+    pub renamed: u32,
+    /// How many texts were added to the constant pool.
+    pub added: u32,
+    /// How many uses as a signature have a text that is no signature of their kind, or one whose type arguments nest more
+    /// than 64 deep.
+    pub odd: u32,
+}
+
+/// Why a class isn't rewritten.
+#[derive(Clone, Copy, Debug, PartialEq, Eq)]
+pub enum RewriteFault {
+    /// A text of the new class would have more than 65,535 bytes (JVMS 4.4.7).
+    Overlong {
+        /// The least index whose uses want such a text.
+        index: u16,
+        /// The greatest length of a text that the uses of this index want, in bytes.
+        length: u64,
+    },
+    /// The new constant pool would have more than 65,535 as its count (JVMS 4.1).
+    PoolFull {
+        /// The count of the old pool.
+        count: u16,
+        /// How many texts would be added.
+        needed: u32,
+    },
+    /// Two fields or two methods of the new class would share name and descriptor (JVMS 4.5, 4.6).
+    Twins {
+        /// The offset of the first in the old class, in bytes.
+        first: u32,
+        /// The offset of the second in the old class, in bytes. No member before it is one of twins with a lesser second.
+        second: u32,
+    },
+    /// Memory ran out.
+    Memory,
+}
+
+impl From<Memory> for RewriteFault {
+    ghost use Rattle.desk_rewrite.specs.declared.rewriting.RewriteFault.TheVariants as rewrite_faults;
+
+    ghost from_gives = { λ _ fault. fault ≡ rewrite_faults.Memory };
+
+    fn from(_: Memory) -> RewriteFault {
+        RewriteFault::Memory
+    }
+}
+
+impl From<SplitFault> for RewriteFault {
+    ghost use Rattle.desk_rewrite.specs.Refused.{fault_of};
+
+    ghost from_gives = { λ split fault. fault ≡ fault_of split };
+
+    fn from(split: SplitFault) -> RewriteFault {
+        match split {
+            SplitFault::Overlong { index, length } => RewriteFault::Overlong { index, length },
+            SplitFault::PoolFull { count, needed } => RewriteFault::PoolFull { count, needed },
+            SplitFault::Memory => RewriteFault::Memory,
+        }
+    }
+}
+
+/// The bytes of the new class, and how many texts were added.
+fn new_class(
+    alloc: Global,
+    view: &ClassView<'_>,
+    table: &ImageTable,
+    wishes: &[Wish<'_>],
+) -> Result<(Text, u32), RewriteFault>
+    requires wishes { All (IsWish (pool_in view.now)) wishes.now }
+    requires used { map used_in wishes.now ≡ uses_in view.now }
+    ensures bytes { IfOk result (λ new. (im : Images) (c : Class) → read_class view.now ≡ Ok c → AreWishes im c wishes.now → new.0 ≡ new_bytes im view.now c) }
+    ensures added { IfOk result (λ new. (im : Images) (c : Class) → read_class view.now ≡ Ok c → AreWishes im c wishes.now → new.1 ≡ length (added im c.pool (class_uses c))) }
+    ensures accepted { OnOk result ((im : Images) (c : Class) → read_class view.now ≡ Ok c → AreWishes im c wishes.now → HasDescriptors im c.pool table.now (members c.body) → refusal im c ≡ None) }
+    ensures refused { IfErr result (λ fault. (im : Images) (c : Class) → read_class view.now ≡ Ok c → AreWishes im c wishes.now → HasDescriptors im c.pool table.now (members c.body) → Refuses fault (refusal im c)) }
+{
+    let pool = view.pool();
+    let count = pool.count();
+    let new = split(alloc, pool, count, wishes)?;
+    let members = named_members(alloc, pool, table, view.members())?;
+    if let Some(TwinPlaces { first, second }) = first_twins(alloc, &members)? {
+        return Err(RewriteFault::Twins { first, second });
+    }
+    let added = (new.texts.len() - count as usize) as u32;
+    let bytes = new_bytes(alloc, view, &new)?;
+    Ok((bytes, added))
+}
+
+/// The new class of a class under a rule set: its bytes, and how many of its uses changed. Each use of a text gets the
+/// image of that text by its role, and all other bytes stay. A class name is looked up in `images` first. A class in which
+/// nothing changes is copied.
+///
+/// The errors are, in this order, a text of more than 65,535 bytes, a constant pool whose count would be above 65,535, two
+/// members that become one, and want of memory.
+pub fn rewrite<I: Images>(
+    alloc: Global,
+    view: &ClassView<'_>,
+    rules: &RuleSet,
+    images: &I,
+) -> Result<Rewritten, RewriteFault>
+    requires { I.renames images.now ≡ rules.now.renames }
+    ensures bytes { IfOk result (λ new. (c : Class) → read_class view.now ≡ Ok c → new.bytes ≡ new_bytes (images_of rules.now) view.now c) }
+    ensures renamed { IfOk result (λ new. (c : Class) → read_class view.now ≡ Ok c → new.renamed ≡ renamed_count (images_of rules.now) c) }
+    ensures added { IfOk result (λ new. (c : Class) → read_class view.now ≡ Ok c → new.added ≡ length (added (images_of rules.now) c.pool (class_uses c))) }
+    ensures odd { IfOk result (λ new. (c : Class) → read_class view.now ≡ Ok c → new.odd ≡ odd_count c) }
+    ensures accepted { OnOk result ((c : Class) → read_class view.now ≡ Ok c → refusal (images_of rules.now) c ≡ None) }
+    ensures refused { IfErr result (λ fault. (c : Class) → read_class view.now ≡ Ok c → Refuses fault (refusal (images_of rules.now) c)) }
+{
+    let bytes = bytes_of(view);
+    let table = all_images(alloc, rules, images, view.pool(), view.uses())?;
+    let wishes = wishes_of(alloc, &table, view.uses())?;
+    let odd = odd_uses(view.pool(), view.uses());
+    let renamed = renamed_uses(&wishes);
+    let (bytes, added) = if renamed == 0 {
+        (Text::from_bytes(alloc, bytes)?, 0)
+    } else {
+        new_class(alloc, view, &table, &wishes)?
+    };
+    Ok(Rewritten {
+        bytes,
+        renamed,
+        added,
+        odd,
+    })
+}

@@ -1,0 +1,125 @@
+//! The images of the texts of a class, each computed once.
+
+ghost use Rattle.std.specs.Prelude.{◌≡◌, All, IfOk, OnOk, true, is_some, option_copied};
+ghost use Rattle.desk_base.specs.Entries.{text_at};
+ghost use Rattle.desk_rewrite.specs.RuleImages.{images_of};
+ghost use Rattle.desk_rewrite.specs.Tables.{kind_of, answer_at, found, image_found, Grows, IsSoundTable, HasImages};
+
+use crate::images::image_by_kind;
+use desk_base::{Memory, Role, Text, Used};
+use desk_pool::Pool;
+use desk_rename::Images;
+use desk_rules::RuleSet;
+use std::alloc::Global;
+use std::collections::BTreeMap;
+
+/// What a text is used as, where its image may be another text.
+#[derive(Clone, Copy, Debug, PartialEq, Eq, PartialOrd, Ord)]
+pub enum Kind {
+    /// A class name in internal form, or the descriptor of an array.
+    Class,
+    /// A package in internal form.
+    Package,
+    /// A field, method or return descriptor.
+    Descriptor,
+    /// The signature of a class.
+    ClassSig,
+    /// The signature of a method.
+    MethodSig,
+    /// The signature of a field, a local variable or a record component.
+    FieldSig,
+    /// The text of a string constant.
+    Str,
+}
+
+/// The image of the text at each index in each kind, and none where it is the text itself.
+pub type ImageTable = BTreeMap<(u16, Kind), Option<Text>>;
+
+/// The kind of a role; none where each text is its own image.
+fn kind_of(role: Role) -> Option<Kind>
+    ensures { result ≡ kind_of role }
+{
+    match role {
+        Role::Class => Some(Kind::Class),
+        Role::Package => Some(Kind::Package),
+        Role::Descriptor => Some(Kind::Descriptor),
+        Role::ClassSig => Some(Kind::ClassSig),
+        Role::MethodSig => Some(Kind::MethodSig),
+        Role::FieldSig => Some(Kind::FieldSig),
+        Role::Str => Some(Kind::Str),
+        Role::Module | Role::Plain | Role::AttrName => None,
+    }
+}
+
+/// The text that an index names, or the empty text.
+pub fn text_at<'a>(pool: &Pool<'a>, index: u16) -> &'a [u8]
+    ensures { result.now ≡ text_at pool.now.entries index }
+{
+    match pool.utf8(index) {
+        Some(text) => text,
+        None => &[],
+    }
+}
+
+/// Adds the image of a text, if the table lacks it.
+fn add_image<I: Images>(
+    alloc: Global,
+    rules: &RuleSet,
+    images: &I,
+    pool: &Pool<'_>,
+    table: &mut ImageTable,
+    key: (u16, Kind),
+) -> Result<(), Memory>
+    requires images { I.renames images.now ≡ rules.now.renames }
+    requires sound { IsSoundTable (images_of rules.now) pool.now.entries table.old }
+    ensures sound { OnOk result (IsSoundTable (images_of rules.now) pool.now.entries table.new) }
+    ensures grows { OnOk result (Grows table.old key table.new) }
+{
+    if table.contains_key(&key) {
+        return Ok(());
+    }
+    let image = image_by_kind(alloc, rules, images, key.1, text_at(pool, key.0))?;
+    table.insert(key, image)?;
+    Ok(())
+}
+
+/// The images of the texts of all uses. Each is computed once, at its first use. The only error is want of memory.
+pub fn all_images<I: Images>(
+    alloc: Global,
+    rules: &RuleSet,
+    images: &I,
+    pool: &Pool<'_>,
+    uses: &[Used],
+) -> Result<ImageTable, Memory>
+    requires { I.renames images.now ≡ rules.now.renames }
+    ensures { IfOk result (HasImages (images_of rules.now) pool.now.entries uses.now) }
+{
+    let mut table = BTreeMap::new(alloc);
+    for used in uses {
+        if let Some(kind) = kind_of(used.role) {
+            add_image(alloc, rules, images, pool, &mut table, (used.index, kind))?;
+        }
+    }
+    Ok(table)
+}
+
+/// The image that a table has at a key, where it is another text.
+fn image_at(table: &ImageTable, key: (u16, Kind)) -> Option<&[u8]>
+    ensures { option_copied result ≡ found (answer_at table.now key) }
+{
+    match table.get(&key) {
+        None => None,
+        Some(None) => None,
+        Some(Some(image)) => Some(image.as_bytes()),
+    }
+}
+
+/// The image of the text at an index in a role, where the table has one that is another text.
+pub fn image_in(table: &ImageTable, index: u16, role: Role) -> Option<&[u8]>
+    ensures { option_copied result ≡ image_found table.now index role }
+{
+    match kind_of(role) {
+        None => None,
+        Some(kind) => image_at(table, (index, kind)),
+    }
+}

@@ -1,0 +1,145 @@
+use super::*;
+use desk_base::Text;
+use desk_class::ClassView;
+use desk_format::servlet::{NEW_SERVLET, SERVLET};
+use desk_rename::NoImages;
+use desk_rules::{RuleFiles, RuleSet};
+use std::alloc::Global;
+use std::test::Fail;
+
+/// Rule files with one more, if its name is new.
+fn with_file(
+    alloc: Global,
+    mut files: RuleFiles,
+    name: &[u8],
+    content: &[u8],
+) -> Result<RuleFiles, Fail> {
+    let name = Text::from_bytes(alloc, name)?;
+    if content.len() > 1_048_576 {
+        return Ok(files);
+    }
+    if let Some(_) = files.content(&name) {
+        return Ok(files);
+    }
+    let content = Text::from_bytes(alloc, content)?;
+    files.add(name, content)?;
+    Ok(files)
+}
+
+/// The rules of these tests, with direct rules.
+fn rules_with(alloc: Global, direct: &[u8]) -> Result<RuleSet, Fail> {
+    let renames = b"javax.servlet.*=jakarta.servlet";
+    let files = with_file(
+        alloc,
+        RuleFiles::new(alloc),
+        b"renames.properties",
+        renames,
+    )?;
+    let files = with_file(alloc, files, b"direct.properties", direct)?;
+    Ok(RuleSet::build(alloc, &files)?)
+}
+
+/// What a class becomes; the outer error is one of reading it or the rules.
+fn rewritten(
+    alloc: Global,
+    class: &[u8],
+    direct: &[u8],
+) -> Result<Result<Rewritten, RewriteFault>, Fail> {
+    if class.len() > 1000 {
+        return Ok(Err(RewriteFault::Memory));
+    }
+    let rules = rules_with(alloc, direct)?;
+    let view = ClassView::read(alloc, class)?;
+    Ok(rewrite(alloc, &view, &rules, &NoImages::new(&rules)))
+}
+
+/// Whether a class becomes these bytes, with so many uses renamed, texts added and odd uses.
+fn becomes(
+    alloc: Global,
+    class: &[u8],
+    direct: &[u8],
+    bytes: &[u8],
+    counts: [u32; 3],
+) -> Result<bool, Fail> {
+    let new = rewritten(alloc, class, direct)??;
+    Ok(new.bytes.as_bytes() == bytes && [new.renamed, new.added, new.odd] == counts)
+}
+
+/// `class javax.servlet.F`.
+const F: &[u8] = b"\xCA\xFE\xBA\xBE\x00\x00\x00\x34\x00\x05\x01\x00\x0Fjavax/servlet/F\x07\x00\x01\x01\x00\x10java/lang/Object\x07\x00\x03\x00\x21\x00\x02\x00\x04\x00\x00\x00\x00\x00\x00\x00\x00";
+
+/// `class jakarta.servlet.F`.
+const NEW_F: &[u8] = b"\xCA\xFE\xBA\xBE\x00\x00\x00\x34\x00\x05\x01\x00\x11jakarta/servlet/F\x07\x00\x01\x01\x00\x10java/lang/Object\x07\x00\x03\x00\x21\x00\x02\x00\x04\x00\x00\x00\x00\x00\x00\x00\x00";
+
+#[test]
+fn a_text_grows_in_place(rt: HostRuntime) -> Result<(), Fail> {
+    assert!(rt; becomes(rt.alloc(), F, b"", NEW_F, [1, 0, 0])?);
+    Ok(())
+}
+
+#[test]
+fn a_class_that_was_rewritten_stays(rt: HostRuntime) -> Result<(), Fail> {
+    assert!(rt; becomes(rt.alloc(), NEW_F, b"", NEW_F, [0, 0, 0])?);
+    Ok(())
+}
+
+/// The same with a String of the text of its name.
+const SHARED: &[u8] = b"\xCA\xFE\xBA\xBE\x00\x00\x00\x34\x00\x06\x01\x00\x0Fjavax/servlet/F\x07\x00\x01\x01\x00\x10java/lang/Object\x07\x00\x03\x08\x00\x01\x00\x21\x00\x02\x00\x04\x00\x00\x00\x00\x00\x00\x00\x00";
+
+/// The shared text is split: the new text is added.
+const SPLIT: &[u8] = b"\xCA\xFE\xBA\xBE\x00\x00\x00\x34\x00\x07\x01\x00\x0Fjavax/servlet/F\x07\x00\x06\x01\x00\x10java/lang/Object\x07\x00\x03\x08\x00\x01\x01\x00\x11jakarta/servlet/F\x00\x21\x00\x02\x00\x04\x00\x00\x00\x00\x00\x00\x00\x00";
+
+#[test]
+fn a_shared_text_is_split(rt: HostRuntime) -> Result<(), Fail> {
+    assert!(rt; becomes(rt.alloc(), SHARED, b"", SPLIT, [1, 1, 0])?);
+    Ok(())
+}
+
+/// The class with the shared text, which has the image of its name already.
+const WITH_IMAGE: &[u8] = b"\xCA\xFE\xBA\xBE\x00\x00\x00\x34\x00\x07\x01\x00\x0Fjavax/servlet/F\x07\x00\x01\x01\x00\x10java/lang/Object\x07\x00\x03\x08\x00\x01\x01\x00\x11jakarta/servlet/F\x00\x21\x00\x02\x00\x04\x00\x00\x00\x00\x00\x00\x00\x00";
+
+#[test]
+fn an_image_that_is_there_is_taken(rt: HostRuntime) -> Result<(), Fail> {
+    assert!(rt; becomes(rt.alloc(), WITH_IMAGE, b"", SPLIT, [1, 0, 0])?);
+    Ok(())
+}
+
+/// The class with the shared text, whose String becomes `x`.
+const DIRECT: &[u8] = b"\xCA\xFE\xBA\xBE\x00\x00\x00\x34\x00\x07\x01\x00\x11jakarta/servlet/F\x07\x00\x01\x01\x00\x10java/lang/Object\x07\x00\x03\x08\x00\x06\x01\x00\x01x\x00\x21\x00\x02\x00\x04\x00\x00\x00\x00\x00\x00\x00\x00";
+
+#[test]
+fn a_string_goes_by_its_direct_rule(rt: HostRuntime) -> Result<(), Fail> {
+    assert!(rt; becomes(rt.alloc(), SHARED, b"javax/servlet/F=x", DIRECT, [2, 1, 0])?);
+    Ok(())
+}
+
+/// `abstract class A` with a method `f(javax.servlet.F)` and a method `f(jakarta.servlet.F)`.
+const TWINS: &[u8] = b"\xCA\xFE\xBA\xBE\x00\x00\x00\x34\x00\x08\x01\x00\x01A\x07\x00\x01\x01\x00\x10java/lang/Object\x07\x00\x03\x01\x00\x01f\x01\x00\x14(Ljavax/servlet/F;)V\x01\x00\x16(Ljakarta/servlet/F;)V\x04\x21\x00\x02\x00\x04\x00\x00\x00\x00\x00\x02\x04\x01\x00\x05\x00\x06\x00\x00\x04\x01\x00\x05\x00\x07\x00\x00\x00\x00";
+
+#[test]
+fn two_methods_that_become_one_are_twins(rt: HostRuntime) -> Result<(), Fail> {
+    let fault = rewritten(rt.alloc(), TWINS, b"")?.err();
+    assert_eq!(rt;
+        fault,
+        Some(RewriteFault::Twins {
+            first: 103,
+            second: 111
+        })
+    );
+    Ok(())
+}
+
+/// `class A` with a signature that lacks its last `;`.
+const ODD: &[u8] = b"\xCA\xFE\xBA\xBE\x00\x00\x00\x34\x00\x07\x01\x00\x01A\x07\x00\x01\x01\x00\x10java/lang/Object\x07\x00\x03\x01\x00\x09Signature\x01\x00\x47<T::Ljavax/servlet/S;>Lq/A<+Ljavax/servlet/G;*>.B;Ljavax/servlet/I<TT;>\x00\x21\x00\x02\x00\x04\x00\x00\x00\x00\x00\x00\x00\x01\x00\x05\x00\x00\x00\x02\x00\x06";
+
+#[test]
+fn a_text_that_is_no_signature_is_odd(rt: HostRuntime) -> Result<(), Fail> {
+    assert!(rt; becomes(rt.alloc(), ODD, b"", ODD, [0, 0, 1])?);
+    Ok(())
+}
+
+#[test]
+fn a_servlet_is_rewritten(rt: HostRuntime) -> Result<(), Fail> {
+    assert!(rt; becomes(rt.alloc(), &SERVLET, b"", &NEW_SERVLET, [4, 0, 0])?);
+    Ok(())
+}
