@@ -1,7 +1,11 @@
 -- When a file has no image.
 use Rattle.std.specs.Prelude.{◌≡◌, ⊤, Err}
 use Rattle.desk_base.specs.Names.{Text}
+use Rattle.desk_report.specs.declared.lines.Reason.TheVariants as reason
+use Rattle.desk_rewrite.specs.declared.rewriting.RewriteFault.{RewriteFault}
+use Rattle.desk_rewrite.specs.declared.rewriting.RewriteFault.TheVariants as rewrite
 use Rattle.desk_rules.specs.Rules.{Rules}
+use Rattle.desk_file.specs.Classes.{class_image}
 use Rattle.desk_file.specs.Images.{image, service_image}
 use Rattle.desk_file.specs.declared.images.FileFault.{FileFault}
 use Rattle.desk_file.specs.declared.images.FileFault.TheVariants.{Refused, Memory}
@@ -10,6 +14,18 @@ use Rattle.desk_file.specs.declared.images.FileFault.TheVariants.{Refused, Memor
 abbrev pub IsServiceFault : Rules → Text → FileFault → Type 0
 IsServiceFault rules bytes (Refused reason) = service_image rules bytes ≡ Err reason
 IsServiceFault rules bytes Memory = ⊤
+
+-- why a class that reads has none
+abbrev pub file_fault : RewriteFault → FileFault
+file_fault (rewrite.Overlong index size) = Refused (reason.Overlong index size)
+file_fault (rewrite.PoolFull count needed) = Refused (reason.PoolFull count needed)
+file_fault (rewrite.Twins first second) = Refused (reason.Twins first second)
+file_fault rewrite.Memory = Memory
+
+-- a class has none for this reason; want of memory comes freely
+abbrev pub IsClassFault : Rules → Text → FileFault → Type 0
+IsClassFault rules bytes (Refused reason) = class_image rules bytes ≡ Err reason
+IsClassFault rules bytes Memory = ⊤
 
 -- a file has none for this reason; want of memory comes freely
 abbrev pub IsFileFault : Rules → Text → Text → FileFault → Type 0

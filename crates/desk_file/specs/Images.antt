@@ -15,7 +15,8 @@ use Rattle.desk_report.specs.declared.lines.Reason.TheVariants as reason
 use Rattle.desk_rules.specs.Rules.{Rules}
 use Rattle.desk_file.specs.declared.images.Image.{Image}
 use Rattle.desk_file.specs.declared.treatments.Treatment.{Treatment}
-use Rattle.desk_file.specs.declared.treatments.Treatment.TheVariants.{Providers, Copy, NotBuilt}
+use Rattle.desk_file.specs.declared.treatments.Treatment.TheVariants.{Providers, Names, Copy, NotBuilt}
+use Rattle.desk_file.specs.Classes.{class_image}
 
 -- where a file goes
 unfoldable pub target : Rules → Text → Text
@@ -32,7 +33,7 @@ other_treatment rules path = if has_texts rules path || has_texts rules (target 
 abbrev pub treatment_by : Rules → Text → Kind → Treatment
 treatment_by rules path kind.Service = Providers
 treatment_by rules path kind.Manifest = NotBuilt
-treatment_by rules path kind.Class = NotBuilt
+treatment_by rules path kind.Class = Names
 treatment_by rules path kind.Other = other_treatment rules path
 
 -- how a file is treated: an unselected file is copied
@@ -52,6 +53,7 @@ copied bytes = record { bytes = bytes; detail = detail.Copy }
 
 abbrev pub image_by : Rules → Text → Treatment → Result Image Reason
 image_by rules bytes Providers = service_image rules bytes
+image_by rules bytes Names = class_image rules bytes
 image_by rules bytes Copy = Ok (copied bytes)
 image_by rules bytes NotBuilt = Err reason.NotBuilt
 

@@ -1,3 +1,4 @@
+pub mod Classes
 pub mod Images
 pub mod Faults
 pub mod Outcomes

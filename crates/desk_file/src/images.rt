@@ -4,6 +4,7 @@ ghost use Rattle.std.specs.Prelude.{◌≡◌, ◌≤◌, Ok, IfOk, IfErr, lengt
 ghost use Rattle.desk_file.specs.Faults.{IsFileFault, IsServiceFault};
 ghost use Rattle.desk_file.specs.Images.{image, service_image};
 
+use crate::classes::class_image;
 use crate::treatments::{Treatment, treatment_of};
 use desk_base::{Memory, Text};
 use desk_metainf::{MetaFault, migrate_service};
@@ -55,9 +56,10 @@ fn service_image(alloc: Global, rules: &RuleSet, bytes: &[u8]) -> Result<Image, 
 }
 
 /// The image of a file of at most 67,108,864 bytes, by its path. A file that is copied keeps its bytes,
-/// and no others are made. `Refused` comes exactly where the file has no image: `BadLine` for a selected
-/// service file with a provider that holds a blank, with the offset of the first byte of the first such
-/// line; `NotBuilt` for a selected file whose kind isn't built. The only other error is want of memory.
+/// and no others are made. `Refused` comes exactly where the file has no image: `Malformed`, `Overlong`,
+/// `PoolFull` or `Twins` for a selected class; `BadLine` for a selected service file with a provider that
+/// holds a blank, with the offset of the first byte of the first such line; `NotBuilt` for a selected file
+/// whose kind isn't built. The only other error is want of memory.
 #[tactic(auto, unfolding(crate::specs::Images::image))]
 pub fn image_of(
     alloc: Global,
@@ -71,6 +73,7 @@ pub fn image_of(
 {
     match treatment_of(alloc, rules, path)? {
         Treatment::Providers => service_image(alloc, rules, bytes.as_bytes()),
+        Treatment::Names => class_image(alloc, rules, bytes.as_bytes()),
         Treatment::Copy => Ok(Image {
             bytes,
             detail: Detail::Copy,
@@ -93,6 +96,7 @@ pub(crate) fn image_of_bytes(
 {
     match treatment_of(alloc, rules, path)? {
         Treatment::Providers => service_image(alloc, rules, bytes),
+        Treatment::Names => class_image(alloc, rules, bytes),
         Treatment::Copy => Ok(Image {
             bytes: Text::from_bytes(alloc, bytes)?,
             detail: Detail::Copy,

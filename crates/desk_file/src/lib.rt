@@ -1,6 +1,7 @@
 //! One file: where it goes, and what it becomes there.
 #![tactic(auto)]
 
+mod classes;
 mod files;
 mod images;
 #[cfg(test)]

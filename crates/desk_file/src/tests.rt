@@ -5,7 +5,7 @@ ghost use Rattle.std.specs.Prelude.{◌≤◌, length};
 use crate::{
     FileFault, Image, Outcome, Treatment, image_of, migrate_file, target_of, treatment_of,
 };
-use desk_base::Text;
+use desk_base::{FaultKind, Malformed, Text};
 use desk_report::{Detail, Reason};
 use desk_rules::{RuleFiles, RuleSet};
 use std::alloc::Global;
@@ -85,9 +85,41 @@ fn other_files_are_copied(rt: HostRuntime) -> Result<(), Fail> {
 }
 
 #[test]
-fn a_class_is_refused(rt: HostRuntime) -> Result<(), Fail> {
-    let outcome = migrated(rt.alloc(), b"A.class", b"")?;
+fn a_class_that_is_cut_is_refused(rt: HostRuntime) -> Result<(), Fail> {
+    let outcome = migrated(rt.alloc(), b"A.class", b"\xCA\xFE\xBA\xBE\x00")?;
+    let fault = Malformed {
+        kind: FaultKind::Truncated,
+        at: 4,
+    };
+    assert!(rt; is_refused(&outcome, Reason::Malformed(fault)));
+    Ok(())
+}
+
+#[test]
+fn a_manifest_is_refused(rt: HostRuntime) -> Result<(), Fail> {
+    let outcome = migrated(rt.alloc(), b"META-INF/MANIFEST.MF", b"")?;
     assert!(rt; is_refused(&outcome, Reason::NotBuilt));
+    Ok(())
+}
+
+/// `class javax.servlet.F`.
+const F: &[u8] =
+    b"\xCA\xFE\xBA\xBE\x00\x00\x00\x34\x00\x05\x01\x00\x0Fjavax/servlet/F\x07\x00\x01\x01\x00\x10java/lang/Object\x07\x00\x03\x00\x21\x00\x02\x00\x04\x00\x00\x00\x00\x00\x00\x00\x00";
+
+/// `class jakarta.servlet.F`.
+const NEW_F: &[u8] =
+    b"\xCA\xFE\xBA\xBE\x00\x00\x00\x34\x00\x05\x01\x00\x11jakarta/servlet/F\x07\x00\x01\x01\x00\x10java/lang/Object\x07\x00\x03\x00\x21\x00\x02\x00\x04\x00\x00\x00\x00\x00\x00\x00\x00";
+
+#[test]
+fn a_class_has_its_names_exchanged(rt: HostRuntime) -> Result<(), Fail> {
+    let outcome = migrated(rt.alloc(), b"javax/servlet/F.class", F)?;
+    let detail = Detail::Class {
+        renamed: 1,
+        added: 0,
+        odd: 0,
+        links: 0,
+    };
+    assert!(rt; is_written(&outcome, b"jakarta/servlet/F.class", NEW_F, detail));
     Ok(())
 }
 
@@ -109,7 +141,7 @@ fn images_are_those_of_the_files(rt: HostRuntime) -> Result<(), Fail> {
     };
     assert!(rt; copy.bytes.as_bytes() == b"x".as_slice());
     assert!(rt; copy.detail == Detail::Copy);
-    let fault = made(alloc, b"a.class", b"x")?.err();
+    let fault = made(alloc, b"META-INF/MANIFEST.MF", b"x")?.err();
     assert!(rt; fault == Some(FileFault::Refused(Reason::NotBuilt)));
     Ok(())
 }
@@ -126,7 +158,7 @@ fn treatments_go_by_paths(rt: HostRuntime) -> Result<(), Fail> {
     let target = target_of(alloc, &rules, &service)?;
     assert!(rt; target.as_bytes() == b"META-INF/services/jakarta.servlet.F".as_slice());
     let class = Text::from_bytes(alloc, b"A.class")?;
-    assert_eq!(rt; treatment_of(alloc, &rules, &class)?, Treatment::NotBuilt);
+    assert_eq!(rt; treatment_of(alloc, &rules, &class)?, Treatment::Names);
     Ok(())
 }
 
@@ -174,10 +206,7 @@ fn unselected_files_are_copied(rt: HostRuntime) -> Result<(), Fail> {
         treated(alloc, selection, b"legacy/Old.class")?,
         Treatment::Copy
     );
-    assert_eq!(rt;
-        treated(alloc, selection, b"Old.class")?,
-        Treatment::NotBuilt
-    );
+    assert_eq!(rt; treated(alloc, selection, b"Old.class")?, Treatment::Names);
     Ok(())
 }
 

@@ -14,6 +14,8 @@ use std::alloc::Global;
 pub enum Treatment {
     /// Its providers are exchanged.
     Providers,
+    /// The names in a class are exchanged.
+    Names,
     /// Its bytes stay.
     Copy,
     /// Its kind isn't built.
@@ -65,7 +67,8 @@ pub fn treatment_of(alloc: Global, rules: &RuleSet, path: &Text) -> Result<Treat
     }
     match place(path.as_bytes()).kind {
         Kind::Service => Ok(Treatment::Providers),
-        Kind::Manifest | Kind::Class => Ok(Treatment::NotBuilt),
+        Kind::Class => Ok(Treatment::Names),
+        Kind::Manifest => Ok(Treatment::NotBuilt),
         Kind::Other => other_treatment(alloc, rules, path),
     }
 }

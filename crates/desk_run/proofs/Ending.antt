@@ -1,7 +1,7 @@
 -- From the plan and the writing to where a run stands, and to what is promised of it.
 use Rattle.std.proofs.Common.{◌≡◌, inl, inr, ℕ, ◌+◌, ◌≤◌, List, [], ◌∷◌, ◌++◌, Option, Some, None, refl, sym, ap, ◌∙◌, subst, true, false, Bool, cond, append-nil, is_some, length, Result, Ok, Err}
 use Rattle.std.specs.Prelude.{not, ◌&&◌, ◌||◌, count_by, is_ok, is_err, IsOkAnd, if◌then◌else◌}
-use Rattle.std.specs.List.{flat_map, fold, list_any}
+use Rattle.std.specs.List.{flat_map, fold, list_any, sum_by}
 use Rattle.std.proofs.lemmas.List.{length-map}
 use Rattle.desk_base.specs.Names.{Text}
 use Rattle.desk_base.specs.Paths.{full}
@@ -9,6 +9,7 @@ use Rattle.desk_folders.specs.Contents.{Contents, File, setting, files_below}
 use Rattle.desk_folders.specs.ContentsLaws.{Rose-earlier}
 use Rattle.desk_ledger.specs.declared.keeper.Header.{Header}
 use Rattle.desk_ledger.specs.Ledger.{Ledger, Rows, with_header}
+use Rattle.desk_report.specs.declared.lines.Detail.{Detail}
 use Rattle.desk_report.specs.declared.status.Status.{Status}
 use Rattle.desk_report.specs.declared.status.Status.TheVariants.{Done, Refusals, Memory, FolderFault, LedgerFault, OutputFault, Usage, NestedRoots, BadRules, Limit, PathClash, OtherRun}
 use Rattle.desk_report.specs.Texts.{summary_text}
@@ -26,7 +27,7 @@ use Rattle.desk_run.specs.Stops.{Broken, StoppedAt, status_of_halt}
 use Rattle.desk_run.specs.Stands.{Unchanged}
 use Rattle.desk_run.specs.Meaning.{run_of_words}
 use Rattle.desk_run.specs.Answers.{other_run, or_else, answer_of_run, first_answer, is_answer, WordsCause}
-use Rattle.desk_run.specs.Reports.{report, line_of, file_line, summary_of, ending, ending_of_works, line_of_work, plan_line, summary_of_works, report_of_works}
+use Rattle.desk_run.specs.Reports.{report, line_of, file_line, summary_of, ending, ending_of_works, line_of_work, plan_line, summary_of_works, report_of_works, renamed_uses, added_texts, number_in_file, number_of, number_in_plan}
 use Rattle.desk_run.specs.Endings.{WhereTold, Tells, Planned, LedgerEarly, HaltsEarly, AllWritten, Finishes, Reported, ReportedOf, HasCauses, StandsAt, IsDone, StandsAfter, is_final, Named, NamedBy, NamedByRoots, IsAttached}
 use Rattle.desk_run.proofs.Splits.{Mapped, mapped}
 
@@ -228,13 +229,26 @@ left_same true found o = refl
 left_same false found (Ok image) = refl
 left_same false found (Err reason) = refl
 
+number_same : (number : Detail → ℕ) (kept found : Bool) (o : Result Image Reason) → number_in_plan number (cond kept Keep (fresh found o)) ≡ number_in_file number kept o
+number_same number true found o = refl
+number_same number false found (Ok image) = refl
+number_same number false found (Err reason) = refl
+
+summed : (number : Detail → ℕ) (run : Run) (rows : Rows) (files : List File) → sum_by (λ (w : Work). number_in_plan number w.plan) (works_of run rows files) ≡ sum_by (number_of number run rows) files
+summed number run rows files = by 0 files where
+  by : (n : ℕ) (files : List File) → fold (λ a (w : Work). a + number_in_plan number w.plan) n (works_of run rows files) ≡ fold (λ a f. a + number_of number run rows f) n files
+  by n [] = refl
+  by n (file ∷ files) =
+      by (n + number_in_plan number (work_of run rows file).plan) files
+      ∙ ap (λ b. fold (λ a f. a + number_of number run rows f) (n + b) files) (number_same number (is_kept_file run rows file) _ (run.image file.path file.bytes))
+
 summary_works : (run : Run) (rows : Rows) (files : List File) → summary_of_works (works_of run rows files) ≡ summary_of run rows files
 summary_works run rows files =
     let all : length (works_of run rows files) ≡ length files = length-map files (work_of run rows) in
     let written = counted (λ (w : Work). writes w.plan) (is_fresh run rows) run rows (λ file. written_same (is_kept_file run rows file) _ (run.image file.path file.bytes)) files in
     let kept = counted (λ (w : Work). keeps w.plan) (is_kept_file run rows) run rows (λ file. kept_same (is_kept_file run rows file) _ (run.image file.path file.bytes)) files in
     let left = counted (λ (w : Work). leaves w.plan) (is_refused run rows) run rows (λ file. left_same (is_kept_file run rows file) _ (run.image file.path file.bytes)) files in
-    λ i. record { files = all i; written = written i; kept = kept i; refused = left i; renamed = 0; added = 0 }
+    λ i. record { files = all i; written = written i; kept = kept i; refused = left i; renamed = summed renamed_uses run rows files i; added = summed added_texts run rows files i }
 
 report_works : (words : List Text) (m0 : Contents) (l0 : Ledger) (to : Text) (header : Header) (works : List Work) (p : Planned words m0 l0 to header works)
     → report_of_works works ≡ report p.run l0.rows (files_below p.run.from m0)

@@ -1,9 +1,11 @@
 -- The report of a run that completes.
-use Rattle.std.specs.Prelude.{◌++◌, List, Bool, true, false, Result, Ok, Err, length, count_by, if◌then◌else◌}
-use Rattle.std.specs.List.{flat_map, list_any}
+use Rattle.std.specs.Prelude.{ℕ, ◌++◌, List, Bool, true, false, Result, Ok, Err, length, count_by, if◌then◌else◌}
+use Rattle.std.specs.List.{flat_map, list_any, sum_by}
 use Rattle.desk_base.specs.Names.{Text}
 use Rattle.desk_folders.specs.Contents.{File}
 use Rattle.desk_ledger.specs.Ledger.{Rows}
+use Rattle.desk_report.specs.declared.lines.Detail.{Detail}
+use Rattle.desk_report.specs.declared.lines.Detail.TheVariants.{Class, Service, Copy}
 use Rattle.desk_report.specs.declared.lines.Line.TheVariants.{Written, Kept, Refused}
 use Rattle.desk_report.specs.declared.lines.Summary.{Summary}
 use Rattle.desk_report.specs.declared.status.Status.{Status}
@@ -26,14 +28,35 @@ file_line path target false (Err reason) = line_text (Refused path reason)
 abbrev pub line_of : Run → Rows → File → Text
 line_of run rows file = file_line file.path (run.target file.path) (is_kept_file run rows file) (run.image file.path file.bytes)
 
+-- how many uses were renamed in a class
+abbrev pub renamed_uses : Detail → ℕ
+renamed_uses (Class renamed added odd links) = renamed
+renamed_uses (Service changed) = 0
+renamed_uses Copy = 0
+
+-- how many texts were added to a class
+abbrev pub added_texts : Detail → ℕ
+added_texts (Class renamed added odd links) = added
+added_texts (Service changed) = 0
+added_texts Copy = 0
+
+-- a number of a file that is written
+abbrev pub number_in_file : (Detail → ℕ) → Bool → Result Image Reason → ℕ
+number_in_file number true image = 0
+number_in_file number false (Ok image) = number image.detail
+number_in_file number false (Err reason) = 0
+
+abbrev pub number_of : (Detail → ℕ) → Run → Rows → File → ℕ
+number_of number run rows file = number_in_file number (is_kept_file run rows file) (run.image file.path file.bytes)
+
 abbrev pub summary_of : Run → Rows → List File → Summary
 summary_of run rows files = record {
   files = length files;
   written = count_by (is_fresh run rows) files;
   kept = count_by (is_kept_file run rows) files;
   refused = count_by (is_refused run rows) files;
-  renamed = 0;
-  added = 0;
+  renamed = sum_by (number_of renamed_uses run rows) files;
+  added = sum_by (number_of added_texts run rows) files;
 }
 
 -- one line a file in the order of their paths, and the line of the totals
@@ -53,6 +76,12 @@ plan_line path target (Write found image) = line_text (Written path target image
 abbrev pub line_of_work : Work → Text
 line_of_work work = plan_line work.path work.target work.plan
 
+-- a number of a plan that writes
+abbrev pub number_in_plan : (Detail → ℕ) → Plan → ℕ
+number_in_plan number Keep = 0
+number_in_plan number (Leave reason) = 0
+number_in_plan number (Write found image) = number image.detail
+
 -- the totals of works
 abbrev pub summary_of_works : List Work → Summary
 summary_of_works works = record {
@@ -60,8 +89,8 @@ summary_of_works works = record {
   written = count_by (λ work. writes work.plan) works;
   kept = count_by (λ work. keeps work.plan) works;
   refused = count_by (λ work. leaves work.plan) works;
-  renamed = 0;
-  added = 0;
+  renamed = sum_by (λ work. number_in_plan renamed_uses work.plan) works;
+  added = sum_by (λ work. number_in_plan added_texts work.plan) works;
 }
 
 abbrev pub report_of_works : List Work → Text

@@ -1,15 +1,15 @@
 //! Writes the report of a run.
 
 ghost use Rattle.std.specs.Prelude.{◌≡◌, ◌≤◌, ◌<◌, ◌^◌, ◌++◌, OnOk, OnErr, length, count_by};
-ghost use Rattle.std.specs.List.{flat_map};
+ghost use Rattle.std.specs.List.{flat_map, sum_by};
 ghost use Rattle.desk_folders.specs.Contents.{Rose};
 ghost use Rattle.desk_report.specs.Texts.{line_text, summary_text};
 ghost use Rattle.desk_report.specs.Written.{WritesFront, writing};
 ghost use Rattle.desk_run.specs.Works.{writes, keeps, leaves};
-ghost use Rattle.desk_run.specs.Reports.{line_of_work, report_of_works, summary_of_works};
+ghost use Rattle.desk_run.specs.Reports.{added_texts, line_of_work, number_in_plan, renamed_uses, report_of_works, summary_of_works};
 
 use crate::planning::{Plan, Work};
-use desk_report::{Line, Sink, SinkFault, Summary, write_line, write_summary};
+use desk_report::{Detail, Line, Sink, SinkFault, Summary, write_line, write_summary};
 
 /// How many works write.
 fn count_written(works: &[Work]) -> usize
@@ -32,18 +32,67 @@ fn count_left(works: &[Work]) -> usize
     works.iter().filter(|work| work.plan.leaves()).count()
 }
 
+/// How many uses were renamed in a class that is written.
+fn renamed_in(plan: &Plan) -> u32
+    ensures { result ≡ number_in_plan renamed_uses plan.now }
+{
+    match plan {
+        Plan::Write { image, .. } => match image.detail {
+            Detail::Class { renamed, .. } => renamed,
+            _ => 0,
+        },
+        _ => 0,
+    }
+}
+
+/// How many texts were added to a class that is written.
+fn added_in(plan: &Plan) -> u32
+    ensures { result ≡ number_in_plan added_texts plan.now }
+{
+    match plan {
+        Plan::Write { image, .. } => match image.detail {
+            Detail::Class { added, .. } => added,
+            _ => 0,
+        },
+        _ => 0,
+    }
+}
+
+/// The sums over the classes that are written.
+#[derive(Clone, Copy)]
+struct ClassTotals {
+    renamed: u64,
+    added: u64,
+}
+
+/// How many uses were renamed, and how many texts added, in all classes that are written.
+fn class_totals(works: &[Work]) -> ClassTotals
+    requires { length works.now < 2 ^ 32 }
+    ensures renamed { result.renamed ≡ sum_by (λ work. number_in_plan renamed_uses work.plan) works.now }
+    ensures added { result.added ≡ sum_by (λ work. number_in_plan added_texts work.plan) works.now }
+{
+    let mut renamed = 0;
+    let mut added = 0;
+    for work in works {
+        renamed += u64::from(renamed_in(&work.plan));
+        added += u64::from(added_in(&work.plan));
+    }
+    ClassTotals { renamed, added }
+}
+
 /// The totals of works.
 fn summary_of(works: &[Work]) -> Summary
     requires { length works.now < 2 ^ 32 }
     ensures { result ≡ summary_of_works works.now }
 {
+    let ClassTotals { renamed, added } = class_totals(works);
     Summary {
         files: works.len() as u32,
         written: count_written(works) as u32,
         kept: count_kept(works) as u32,
         refused: count_left(works) as u32,
-        renamed: 0,
-        added: 0,
+        renamed,
+        added,
     }
 }
 

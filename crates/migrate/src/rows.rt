@@ -119,11 +119,11 @@ fn run_of_one(alloc: Global, rule: &[u8], path: &[u8], content: &[u8]) -> Result
 const BELOW: &[u8] = b"javax.servlet.*=jakarta.servlet";
 
 #[test]
-fn a_class_is_refused(rt: HostRuntime) -> Result<(), Fail> {
+fn a_class_that_is_cut_is_refused(rt: HostRuntime) -> Result<(), Fail> {
     let ended = run_of_one(rt.alloc(), BELOW, b"in/A.class", b"")?;
     assert_eq!(rt;
         text_of(&ended),
-        "refused A.class not-built\ntotal files=1 written=0 kept=0 refused=1 renamed=0 added=0\n"
+        "refused A.class malformed truncated at=0\ntotal files=1 written=0 kept=0 refused=1 renamed=0 added=0\n"
     );
     assert_eq!(rt; ended.code, 2);
     Ok(())
@@ -153,7 +153,7 @@ fn refused_files_leave_the_others_to_be_written(rt: HostRuntime) -> Result<(), F
     let ended = run(alloc, &WORDS, &mut folders, &mut keeper, 10000)?;
     assert_eq!(rt;
         text_of(&ended),
-        "refused A.class not-built\nwritten a/b.txt a/b.txt copy\ntotal files=2 written=1 kept=0 refused=1 renamed=0 added=0\n"
+        "refused A.class malformed truncated at=0\nwritten a/b.txt a/b.txt copy\ntotal files=2 written=1 kept=0 refused=1 renamed=0 added=0\n"
     );
     assert_eq!(rt; ended.code, 2);
     assert_eq!(rt; folders.content(b"out/A.class"), None);
@@ -161,7 +161,7 @@ fn refused_files_leave_the_others_to_be_written(rt: HostRuntime) -> Result<(), F
     let again = run(alloc, &WORDS, &mut folders, &mut keeper, 10000)?;
     assert_eq!(rt;
         text_of(&again),
-        "refused A.class not-built\nkept a/b.txt a/b.txt\ntotal files=2 written=0 kept=1 refused=1 renamed=0 added=0\n"
+        "refused A.class malformed truncated at=0\nkept a/b.txt a/b.txt\ntotal files=2 written=0 kept=1 refused=1 renamed=0 added=0\n"
     );
     assert_eq!(rt; again.code, 2);
     Ok(())

@@ -1,0 +1,74 @@
+-- What becomes of a class.
+use Rattle.std.proofs.Common.{◌≡◌, Option, Some, None, refl, sym, ap, ◌∙◌, Result, Ok, Err}
+use Rattle.desk_base.specs.Names.{Text}
+use Rattle.desk_base.specs.declared.faults.Malformed.{Malformed}
+use Rattle.desk_format.specs.Classes.{Class, read_class, fault_in, class_fault}
+use Rattle.desk_format.specs.NewClass.{Refusal, refusal}
+use Rattle.desk_report.specs.declared.lines.Reason.{Reason}
+use Rattle.desk_rewrite.specs.Refused.{Refuses}
+use Rattle.desk_rewrite.specs.RuleImages.{images_of}
+use Rattle.desk_rewrite.specs.declared.rewriting.RewriteFault.{RewriteFault}
+use Rattle.desk_rewrite.specs.declared.rewriting.RewriteFault.TheVariants as rewrite
+use Rattle.desk_rules.specs.Rules.{Rules}
+use Rattle.desk_file.specs.Classes.{renamed_image, unless_refused, reason_of, image_of_read, class_image}
+use Rattle.desk_file.specs.Faults.{IsClassFault, file_fault}
+use Rattle.desk_file.specs.declared.images.Image.{Image}
+
+-- well-formed bytes read into a class
+pub record Reads (bytes : Text) : Type 0 where
+  pub class : Class
+  pub is : read_class bytes ≡ Ok class
+
+pub reads : (bytes : Text) → class_fault bytes ≡ None → Reads bytes
+reads bytes h = elim (read_class bytes) as (λ (r : Result Class Malformed). read_class bytes ≡ r → fault_in r ≡ None → Reads bytes) [
+  | Ok c ↦ λ q k. record { class = c; is = q }
+  | Err f ↦ λ q k. absurd cc
+] refl h
+
+-- the image that the rewriter makes
+pub image_made : (rules : Rules) (bytes : Text) (image : Image) → class_fault bytes ≡ None → ((c : Class) → read_class bytes ≡ Ok c → image ≡ renamed_image rules bytes c)
+    → ((c : Class) → read_class bytes ≡ Ok c → refusal (images_of rules) c ≡ None) → class_image rules bytes ≡ Ok image
+unfolding class_image
+image_made rules bytes image sound is accepted =
+    let r = reads bytes sound in
+    ap (image_of_read rules bytes) r.is ∙ ap (unless_refused (renamed_image rules bytes r.class)) (accepted r.class r.is) ∙ ap Ok (sym (is r.class r.is))
+
+-- the reason why it makes none
+pub fault_made : (rules : Rules) (bytes : Text) (fault : RewriteFault) → class_fault bytes ≡ None → ((c : Class) → read_class bytes ≡ Ok c → Refuses fault (refusal (images_of rules) c))
+    → IsClassFault rules bytes (file_fault fault)
+unfolding class_image
+fault_made rules bytes (rewrite.Overlong index size) sound h =
+    let r = reads bytes sound in
+    ap (image_of_read rules bytes) r.is ∙ ap (unless_refused (renamed_image rules bytes r.class)) (h r.class r.is)
+fault_made rules bytes (rewrite.PoolFull count needed) sound h =
+    let r = reads bytes sound in
+    ap (image_of_read rules bytes) r.is ∙ ap (unless_refused (renamed_image rules bytes r.class)) (h r.class r.is)
+fault_made rules bytes (rewrite.Twins first second) sound h =
+    let r = reads bytes sound in
+    ap (image_of_read rules bytes) r.is ∙ ap (unless_refused (renamed_image rules bytes r.class)) (h r.class r.is)
+fault_made rules bytes rewrite.Memory sound h = tt
+
+-- bytes with a fault have it for their image
+pub malformed : (rules : Rules) (bytes : Text) (f : Malformed) → class_fault bytes ≡ Some f → class_image rules bytes ≡ image_of_read rules bytes (Err f)
+unfolding class_image
+malformed rules bytes f h = elim (read_class bytes) as (λ (r : Result Class Malformed). fault_in r ≡ Some f → image_of_read rules bytes r ≡ image_of_read rules bytes (Err f)) [
+  | Ok c ↦ λ k. absurd cc
+  | Err g ↦ λ k. let same : g ≡ f = cc in ap (λ (x : Malformed). image_of_read rules bytes (Err x)) same
+] h
+
+-- a class that has an image reads, and its image is the new class
+pub record Made (rules : Rules) (bytes : Text) (image : Image) : Type 0 where
+  pub class : Class
+  pub reads : read_class bytes ≡ Ok class
+  pub accepted : refusal (images_of rules) class ≡ None
+  pub is : image ≡ renamed_image rules bytes class
+
+pub made : (rules : Rules) (bytes : Text) (image : Image) → class_image rules bytes ≡ Ok image → Made rules bytes image
+unfolding class_image
+made rules bytes image h = elim (read_class bytes) as (λ (r : Result Class Malformed). read_class bytes ≡ r → image_of_read rules bytes r ≡ Ok image → Made rules bytes image) [
+  | Err f ↦ λ q k. absurd cc
+  | Ok c ↦ λ q k. elim (refusal (images_of rules) c) as (λ (o : Option Refusal). refusal (images_of rules) c ≡ o → unless_refused (renamed_image rules bytes c) o ≡ Ok image → Made rules bytes image) [
+    | Some r ↦ λ n l. absurd cc
+    | None ↦ λ n l. let same : renamed_image rules bytes c ≡ image = cc in record { class = c; reads = q; accepted = n; is = sym same }
+  ] refl k
+] refl h

@@ -1,0 +1,70 @@
+//! The image of a class.
+
+ghost use Rattle.std.specs.Prelude.{◌≡◌, ◌≤◌, None, Ok, IfOk, IfErr, length};
+ghost use Rattle.desk_format.specs.Classes.{class_fault};
+ghost use Rattle.desk_file.specs.Classes.{class_image};
+ghost use Rattle.desk_file.specs.Faults.{IsClassFault, file_fault};
+
+use crate::images::{FileFault, Image};
+use desk_base::ReadFault;
+use desk_class::ClassView;
+use desk_rename::NoImages;
+use desk_report::{Detail, Reason};
+use desk_rewrite::{RewriteFault, rewrite};
+use desk_rules::RuleSet;
+use std::alloc::Global;
+
+/// Why a class that reads has no image.
+fn refused(fault: RewriteFault) -> FileFault
+    ensures { result ≡ file_fault fault }
+{
+    match fault {
+        RewriteFault::Overlong { index, length } => {
+            FileFault::Refused(Reason::Overlong { index, length })
+        }
+        RewriteFault::PoolFull { count, needed } => {
+            FileFault::Refused(Reason::PoolFull { count, needed })
+        }
+        RewriteFault::Twins { first, second } => {
+            FileFault::Refused(Reason::Twins { first, second })
+        }
+        RewriteFault::Memory => FileFault::Memory,
+    }
+}
+
+/// The image of a class that reads.
+#[tactic(auto, using(crate::proofs::Classes::image_made, crate::proofs::Classes::fault_made))]
+fn rewritten(alloc: Global, rules: &RuleSet, view: &ClassView<'_>) -> Result<Image, FileFault>
+    requires { class_fault view.now ≡ None }
+    ensures ok { IfOk result (λ found. class_image rules.now view.now ≡ Ok found) }
+    ensures err { IfErr result (IsClassFault rules.now view.now) }
+{
+    match rewrite(alloc, view, rules, &NoImages::new(rules)) {
+        Ok(new) => Ok(Image {
+            bytes: new.bytes,
+            detail: Detail::Class {
+                renamed: new.renamed,
+                added: new.added,
+                odd: new.odd,
+                links: 0,
+            },
+        }),
+        Err(fault) => Err(refused(fault)),
+    }
+}
+
+/// The image of a class of at most 67,108,864 bytes: the new class, in which each use of a text has the image of the text,
+/// and all else stays. `Refused` comes exactly where there is none: `Malformed` with the first fault of bytes that are no
+/// well-formed class, else `Overlong`, `PoolFull` or `Twins`, in this order. The only other error is want of memory.
+#[tactic(auto, using(crate::proofs::Classes::malformed))]
+pub(crate) fn class_image(alloc: Global, rules: &RuleSet, bytes: &[u8]) -> Result<Image, FileFault>
+    requires { length bytes.now ≤ 67108864 }
+    ensures ok { IfOk result (λ found. class_image rules.now bytes.now ≡ Ok found) }
+    ensures err { IfErr result (IsClassFault rules.now bytes.now) }
+{
+    match ClassView::read(alloc, bytes) {
+        Ok(view) => rewritten(alloc, rules, &view),
+        Err(ReadFault::Malformed(fault)) => Err(FileFault::Refused(Reason::Malformed(fault))),
+        Err(ReadFault::Memory) => Err(FileFault::Memory),
+    }
+}
