@@ -1,4 +1,3 @@
-pub mod RuleImages
 pub mod Tables
 pub mod Wanting
 pub mod Counts

@@ -4,7 +4,7 @@ ghost use Rattle.std.specs.Prelude.{◌≡◌, IfOk};
 ghost use Rattle.desk_rules.specs.Images.{IsImage};
 ghost use Rattle.desk_rename.specs.Images.{cls};
 ghost use Rattle.desk_format.specs.Resolved.{image};
-ghost use Rattle.desk_rewrite.specs.RuleImages.{images_of};
+ghost use Rattle.desk_images.specs.RuleImages.{images_of};
 ghost use Rattle.desk_rewrite.specs.Tables.{role_of};
 
 use crate::table::Kind;

@@ -11,7 +11,7 @@ ghost use Rattle.desk_class.specs.Parts.{pool_in};
 ghost use Rattle.desk_split.specs.Wishes.{IsWish};
 ghost use Rattle.desk_rewrite.specs.Counts.{renamed_count, odd_count};
 ghost use Rattle.desk_rewrite.specs.Refused.{Refuses};
-ghost use Rattle.desk_rewrite.specs.RuleImages.{images_of};
+ghost use Rattle.desk_images.specs.RuleImages.{images_of};
 ghost use Rattle.desk_rewrite.specs.Tables.{HasDescriptors};
 ghost use Rattle.desk_rewrite.specs.Wanting.{used_in, AreWishes};
 

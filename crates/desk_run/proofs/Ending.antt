@@ -42,6 +42,7 @@ all_written words m0 l0 to header works f' k' p a = record {
   holds = record {
     run = p.run;
     is = p.ready.is;
+    runs = p.runs;
     stands = record {
       before = files_below p.run.from m0;
       rest = [];

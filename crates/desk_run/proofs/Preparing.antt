@@ -1,6 +1,9 @@
 -- From what was gathered and planned to a run that is ready.
-use Rattle.std.proofs.Common.{◌≡◌, inl, inr, ℕ, ◌+◌, ◌<◌, ◌≤◌, ◌^◌, Bool, true, false, List, [], ◌∷◌, ◌++◌, length, Option, Some, None, refl, sym, ap, ◌∙◌, subst, cond, map, arith, Result, Ok, Err, IfOk, IfErr, IfSome, OnOk, is_some, zero-add, append_assoc}
+use Rattle.std.proofs.Common.{All, ◌≡◌, inl, inr, ℕ, ◌+◌, ◌<◌, ◌≤◌, ◌^◌, Bool, true, false, List, [], ◌∷◌, ◌++◌, length, Option, Some, None, refl, sym, ap, ◌∙◌, subst, cond, map, arith, Result, Ok, Err, IfOk, IfErr, IfSome, OnOk, is_some, zero-add, append_assoc}
 use Rattle.std.proofs.lemmas.List.{length-map}
+use Rattle.std.proofs.lemmas.List.Elements.{All-nil, All-cons, All-head, All-tail}
+use Rattle.desk_format.specs.Laws.{IsBytes}
+use Rattle.desk_rules.specs.RuleSets.{IsRuleSet}
 use Rattle.desk_base.specs.Names.{Text}
 use Rattle.desk_clashes.specs.ClashLaws.{ApartFromAll, AllApart, all_apart}
 use Rattle.desk_clashes.specs.declared.Clash.{Clash}
@@ -77,17 +80,31 @@ works_inputs : (run : Run) (rows : Rows) (files : List File) → map (work_of_in
 works_inputs run rows [] = refl
 works_inputs run rows (file ∷ files) = ap (λ ws. work_of run rows file ∷ ws) (works_inputs run rows files)
 
+-- the files of inputs are bytes where the inputs are
+bytes_inputs : (run : Run) (files : List File) → All (λ (i : Input). IsBytes i.bytes) (map (input_of run) files) → All (λ (file : File). IsBytes file.bytes) files
+bytes_inputs run [] h = All-nil (λ (file : File). IsBytes file.bytes)
+bytes_inputs run (file ∷ files) h =
+    All-cons (λ (f : File). IsBytes f.bytes) file files (All-head (λ (i : Input). IsBytes i.bytes) (input_of run file) (map (input_of run) files) h)
+    (bytes_inputs run files (All-tail (λ (i : Input). IsBytes i.bytes) (input_of run file) (map (input_of run) files) h))
+
 -- what was planned
-pub planned : (words : List Text) (names : Roots) (r : Ruled) (header : Header) (inputs : List Input) (f0 : Option Contents) (k0 : Option Ledger) (p : Prepared) → AreRoots names → header ≡ (run_of names r).header
+pub planned : (words : List Text) (names : Roots) (r : Ruled) (header : Header) (inputs : List Input) (f0 : Option Contents) (k0 : Option Ledger) (p : Prepared) → IsRuleSet r.rules → All (λ (i : Input). IsBytes i.bytes) inputs → AreRoots names → header ≡ (run_of names r).header
     → IfSome f0 (λ m. run_of_words words m ≡ Ok (run_of names r)) → IfSome f0 (λ m. AreInputs (run_of names r) m inputs) → AllRelative (map (λ (i : Input). i.target) inputs)
     → p.header ≡ header → p.to ≡ names.to → IfSome k0 (λ l. p.works.items ≡ map (work_of_input (run_of names r).image l.rows) inputs) → IfSome k0 (λ l. IsOurs header l.header)
     → IfSome k0 (λ l. other_run header l.header ≡ None) → WhereTold f0 k0 (λ m l. Planned words m l p.to p.header p.works.items)
-planned words names r header inputs f0 k0 p sound same is are rel head to works ours other = λ m l ef ek.
+planned words names r header inputs f0 k0 p settled bytes sound same is are rel head to works ours other = λ m l ef ek.
     let run = run_of names r in
     let inputs_are = at_some (λ m. AreInputs run m inputs) f0 m ef are in
     record {
       run = run;
       ready = ready words names r m inputs sound (at_some (λ m. run_of_words words m ≡ Ok run) f0 m ef is) inputs_are rel;
+      runs = record {
+        roots = names;
+        ruled = r;
+        is = refl;
+        settled = settled;
+        bytes = bytes_inputs run (files_below run.from m) (subst (All (λ (i : Input). IsBytes i.bytes)) inputs_are.are bytes);
+      };
       to_is = to;
       header_is = head ∙ same;
       other = subst (λ h. other_run h l.header ≡ None) same (at_some (λ l. other_run header l.header ≡ None) k0 l ek other);
@@ -225,13 +242,13 @@ few_works inputs works e h =
     subst (λ k. k < 2 ^ 32) (sym n) h
 
 -- the clauses of what is prepared, whichever way the planning ends
-pub ok_planned : (words : List Text) (names : Roots) (r : Ruled) (header : Header) (inputs : List Input) (f0 : Option Contents) (k0 : Option Ledger) (res : Result Prepared Halt) → AreRoots names → header ≡ (run_of names r).header
+pub ok_planned : (words : List Text) (names : Roots) (r : Ruled) (header : Header) (inputs : List Input) (f0 : Option Contents) (k0 : Option Ledger) (res : Result Prepared Halt) → IsRuleSet r.rules → All (λ (i : Input). IsBytes i.bytes) inputs → AreRoots names → header ≡ (run_of names r).header
     → IfSome f0 (λ m. run_of_words words m ≡ Ok (run_of names r)) → IfSome f0 (λ m. AreInputs (run_of names r) m inputs) → AllRelative (map (λ (i : Input). i.target) inputs)
     → IfOk res (λ p. p.header ≡ header) → IfOk res (λ p. p.to ≡ names.to) → IfOk res (λ p. IfSome k0 (λ l. p.works.items ≡ map (work_of_input (run_of names r).image l.rows) inputs))
     → OnOk res (IfSome k0 (λ l. IsOurs header l.header)) → OnOk res (IfSome k0 (λ l. other_run header l.header ≡ None))
     → IfOk res (λ p. WhereTold f0 k0 (λ m l. Planned words m l p.to p.header p.works.items))
-ok_planned words names r header inputs f0 k0 (Ok p) sound same is are rel head to works ours other = planned words names r header inputs f0 k0 p sound same is are rel head to works ours other
-ok_planned words names r header inputs f0 k0 (Err h) sound same is are rel head to works ours other = tt
+ok_planned words names r header inputs f0 k0 (Ok p) settled bytes sound same is are rel head to works ours other = planned words names r header inputs f0 k0 p settled bytes sound same is are rel head to works ours other
+ok_planned words names r header inputs f0 k0 (Err h) settled bytes sound same is are rel head to works ours other = tt
 
 pub ok_few : (inputs : List Input) (res : Result Prepared Halt) → IfOk res (λ p. map (λ (w : Work). w.target) p.works.items ≡ map (λ (i : Input). i.target) inputs) → length inputs < 2 ^ 32
     → IfOk res (λ p. length p.works.items < 2 ^ 32)

@@ -1,7 +1,9 @@
 -- How a run ends.
-use Rattle.std.specs.Prelude.{◌≡◌, ◌⊎◌, ℕ, List, length, Option, Some, None, Bool, true, false, Result, Ok, Err, IfSome, option_map, map, IsOkAnd}
+use Rattle.std.specs.Prelude.{All, ◌≡◌, ◌⊎◌, ℕ, List, length, Option, Some, None, Bool, true, false, Result, Ok, Err, IfSome, option_map, map, IsOkAnd}
 use Rattle.desk_base.specs.Names.{Text}
-use Rattle.desk_folders.specs.Contents.{Contents, Rose, files_below}
+use Rattle.desk_folders.specs.Contents.{Contents, File, Rose, files_below}
+use Rattle.desk_format.specs.Laws.{IsBytes}
+use Rattle.desk_rules.specs.RuleSets.{IsRuleSet}
 use Rattle.desk_ledger.specs.declared.keeper.Header.{Header}
 use Rattle.desk_ledger.specs.Ledger.{Ledger, with_header}
 use Rattle.desk_report.specs.declared.status.Status.{Status}
@@ -10,6 +12,7 @@ use Rattle.desk_report.specs.Written.{WritesFront, writing}
 use Rattle.desk_run.specs.declared.planning.Work.{Work}
 use Rattle.desk_words.specs.declared.roots.Roots.{Roots}
 use Rattle.desk_run.specs.declared.files.Input.{Input}
+use Rattle.desk_run.specs.declared.rules.Ruled.{Ruled}
 use Rattle.desk_run.specs.declared.stops.Halt.{Halt}
 use Rattle.desk_run.specs.declared.stops.Halt.TheVariants as halt
 use Rattle.desk_run.specs.Runs.{Run, TargetsApart}
@@ -20,7 +23,7 @@ use Rattle.desk_run.specs.Inputs.{input_of}
 use Rattle.desk_run.specs.Stops.{StoppedAt, status_of_halt}
 use Rattle.desk_run.specs.Stands.{Unchanged, Between, Within}
 use Rattle.desk_words.specs.Roots.{roots_of_words}
-use Rattle.desk_run.specs.Meaning.{run_of_words}
+use Rattle.desk_run.specs.Meaning.{run_of, run_of_words}
 use Rattle.desk_run.specs.Answers.{files_answer, other_run, first_answer, is_answer, WordsCause}
 
 -- where folders and keeper tell their contents
@@ -46,10 +49,19 @@ pub record AreInputs (run : Run) (m : Contents) (inputs : List Input) : Type 0 w
   pub are : inputs ≡ map (input_of run) (files_below run.from m)
   pub built : files_answer run m ≡ None
 
+-- a run by a rule set, whose files are bytes
+pub record RunsOn (run : Run) (m : Contents) : Type 0 where
+  pub roots : Roots
+  pub ruled : Ruled
+  pub is : run ≡ run_of roots ruled
+  pub settled : IsRuleSet ruled.rules
+  pub bytes : All (λ (file : File). IsBytes file.bytes) (files_below run.from m)
+
 -- the works are planned, and nothing stands against the run
 pub record Planned (words : List Text) (m : Contents) (l : Ledger) (to : Text) (header : Header) (works : List Work) : Type 0 where
   pub run : Run
   pub ready : IsReady words m run
+  pub runs : RunsOn run m
   pub to_is : to ≡ run.to
   pub header_is : header ≡ run.header
   pub other : other_run run.header l.header ≡ None
@@ -123,6 +135,7 @@ HasCauses words status f f' k k' o o' = WordsCause words status
 pub record HasBegun (words : List Text) (m0 : Contents) (l0 : Ledger) (m : Contents) (l : Ledger) (done : ℕ) : Type 0 where
   pub run : Run
   pub is : run_of_words words m0 ≡ Ok run
+  pub runs : RunsOn run m0
   pub stands : Between run m0 l0 m l done ⊎ Within run m0 l0 m l done
 
 abbrev pub StandsAt : List Text → Contents → Ledger → Contents → Ledger → ℕ → Type 0

@@ -1,6 +1,7 @@
 //! Files of the source: as they are listed, and as they were read.
 
 ghost use Rattle.std.specs.Prelude.{◌≡◌, ◌≤◌, length};
+ghost use Rattle.desk_format.specs.Laws.{IsBytes};
 
 use crate::SIZE;
 use desk_base::Text;
@@ -27,8 +28,10 @@ impl Content {
     /// Bytes within the limit.
     pub(crate) fn new(text: Text) -> Content
         requires { length text ≤ SIZE }
-        ensures { result ≡ text }
+        ensures is { result ≡ text }
+        ensures each { IsBytes text }
     {
+        let _bytes = text.as_bytes();
         Content { text }
     }
 

@@ -1,6 +1,8 @@
 //! What a run goes by: its words, its rules and its files, read before the ledger is opened.
 
-ghost use Rattle.std.specs.Prelude.{◌≡◌, ◌≤◌, ◌<◌, ◌^◌, Ok, IfOk, IfErr, IfSome, length, map};
+ghost use Rattle.std.specs.Prelude.{All, ◌≡◌, ◌≤◌, ◌<◌, ◌^◌, Ok, IfOk, IfErr, IfSome, length, map};
+ghost use Rattle.desk_format.specs.Laws.{IsBytes};
+ghost use Rattle.desk_rules.specs.RuleSets.{IsRuleSet};
 ghost use Rattle.desk_folders.specs.Contents.{Rose, files_below};
 ghost use Rattle.desk_run.specs.Endings.{AreInputs};
 ghost use Rattle.desk_run.specs.Halts.{HaltsAtFiles, HaltsGathering, HaltsReadingAll};
@@ -57,6 +59,7 @@ fn read_inputs<F: Folders>(
     ensures few { IfOk result (λ inputs. length inputs.items < 2 ^ 32) }
     ensures err { IfErr result (HaltsAtFiles (run_of names.now ruled.now) (F.told folders.old) (F.faults folders.old) (F.faults folders.new)) }
     ensures counts { F.faults folders.old ≤ F.faults folders.new }
+    ensures bytes { IfOk result (λ inputs. All (λ input. IsBytes input.bytes) inputs.items) }
 {
     let places = match list_places(alloc, folders, &ruled.rules, &names.from) {
         Ok(places) => places,
@@ -84,6 +87,8 @@ fn gather_by<F: Folders>(alloc: Global, folders: &mut F, names: Roots) -> Result
     ensures few { IfOk result (λ g. length g.inputs.items < 2 ^ 32) }
     ensures err { IfErr result (HaltsReadingAll names (F.told folders.old) (F.faults folders.old) (F.faults folders.new)) }
     ensures counts { F.faults folders.old ≤ F.faults folders.new }
+    ensures bytes { IfOk result (λ g. All (λ input. IsBytes input.bytes) g.inputs.items) }
+    ensures settled { IfOk result (λ g. IsRuleSet g.ruled.rules) }
 {
     let ruled = match read_rules(alloc, folders, &names.rules) {
         Ok(ruled) => ruled,
@@ -118,6 +123,8 @@ pub(crate) fn gather<F: Folders>(
     ensures few { IfOk result (λ g. length g.inputs.items < 2 ^ 32) }
     ensures err { IfErr result (HaltsGathering words.now (F.told folders.old) (F.faults folders.old) (F.faults folders.new)) }
     ensures counts { F.faults folders.old ≤ F.faults folders.new }
+    ensures bytes { IfOk result (λ g. All (λ input. IsBytes input.bytes) g.inputs.items) }
+    ensures settled { IfOk result (λ g. IsRuleSet g.ruled.rules) }
 {
     match roots_of_words(alloc, words) {
         Ok(names) => gather_by(alloc, folders, names),

@@ -1,9 +1,10 @@
 //! Reads the files of the source.
 
-ghost use Rattle.std.specs.Prelude.{◌≡◌, ◌≤◌, ◌+◌, None, List, length, map, IfOk, IfErr, IfSome, IsSome};
+ghost use Rattle.std.specs.Prelude.{All, ◌≡◌, ◌≤◌, ◌+◌, None, List, length, map, IfOk, IfErr, IfSome, IsSome};
 ghost use Rattle.std.specs.FinMap as fin;
 ghost use Rattle.desk_base.specs.Paths.{full};
 ghost use Rattle.desk_folders.specs.Contents.{File, file_at, files_below, paths_below};
+ghost use Rattle.desk_format.specs.Laws.{IsBytes};
 ghost use Rattle.desk_run.specs.Halts.{HaltsReadingOne, HaltsWith};
 ghost use Rattle.desk_run.specs.Inputs.{input_at};
 ghost use Rattle.desk_run.specs.Limits.{size_answer};
@@ -34,6 +35,7 @@ fn read_one<F: Folders>(
     ensures sum { IfOk result (λ input. sum + length input.bytes ≤ SUM) }
     ensures err { IfErr result (HaltsReadingOne from.now sum place.path (F.told folders.old) (F.faults folders.old) (F.faults folders.new)) }
     ensures counts { F.faults folders.old ≤ F.faults folders.new }
+    ensures each { IfOk result (λ input. IsBytes input.bytes) }
 {
     let Some(bytes) = read_below(alloc, folders, from, &place.path, SIZE)? else {
         return Err(limit(alloc, LimitKind::FileSize, &place.path));
@@ -64,6 +66,7 @@ pub(crate) fn read_all<F: Folders>(
     ensures fit { IfOk result (λ _. IfSome (F.told folders.old) (λ m. size_answer 0 (files_below from.now m) ≡ None)) }
     ensures err { IfErr result (HaltsWith (λ m. size_answer 0 (files_below from.now m)) (F.told folders.old) (F.faults folders.old) (F.faults folders.new)) }
     ensures counts { F.faults folders.old ≤ F.faults folders.new }
+    ensures bytes { IfOk result (λ inputs. All (λ input. IsBytes input.bytes) inputs.items) }
 {
     let mut inputs = Vec::new(alloc);
     let mut sum = 0;

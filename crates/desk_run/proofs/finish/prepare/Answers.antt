@@ -5,7 +5,7 @@ pub returns-in-Ok-clause-planned : goal.returns-in-Ok-clause-planned
 returns-in-Ok-clause-planned g c =
     let gathered = c.in-Ok.gathered in
     let e = c.in-Ok.ensures in
-    ok_planned c.args.words.now gathered.names gathered.ruled gathered.header gathered.inputs.items _ _ c.plan.result e.sound e.header e.run e.inputs e.relative
+    ok_planned c.args.words.now gathered.names gathered.ruled gathered.header gathered.inputs.items _ _ c.plan.result e.settled e.bytes e.sound e.header e.run e.inputs e.relative
     c.plan.ensures.header c.plan.ensures.to c.plan.ensures.works c.plan.ensures.ours c.plan.ensures.other
 
 pub returns-in-Ok-clause-few : goal.returns-in-Ok-clause-few

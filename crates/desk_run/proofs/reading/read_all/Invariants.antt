@@ -1,5 +1,6 @@
-use Rattle.std.proofs.Common.{◌≡◌, ◌≤◌, ◌++◌, Some, List, map}
+use Rattle.std.proofs.Common.{All, ◌≡◌, ◌≤◌, ◌++◌, Some, List, map}
 use Rattle.desk_folders.specs.Contents.{Contents, File}
+use Rattle.desk_format.specs.Laws.{IsBytes}
 use Rattle.desk_run.specs.Inputs.{input_at}
 use Rattle.desk_run.specs.Limits.{size_answer}
 use Rattle.desk_run.specs.declared.TheConstants.{SUM}
@@ -13,6 +14,7 @@ invariant-loop-place g l = record {
   told : g.F.Folders.told l.folders ≡ g.F.Folders.told l.fn.folders;
   counts : g.F.Folders.faults l.fn.folders ≤ g.F.Folders.faults l.folders;
   sum : l.sum ≤ SUM;
+  bytes : All (λ (input : Input). IsBytes input.bytes) l.inputs.items;
   targets : map (λ (input : Input). input.target) l.inputs.items ≡ map (λ (place : Place). place.target) l.yielded;
   inputs : (m : Contents) → g.F.Folders.told l.fn.folders ≡ Some m → l.inputs.items ≡ map (input_at l.from m) l.yielded;
   fit : (m : Contents) → g.F.Folders.told l.fn.folders ≡ Some m → (rest : List File) → size_answer 0 (files_at l.from m l.yielded ++ rest) ≡ size_answer l.sum rest;
