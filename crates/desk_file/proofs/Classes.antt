@@ -1,5 +1,5 @@
 -- What becomes of a class.
-use Rattle.std.proofs.Common.{◌≡◌, Option, Some, None, refl, sym, ap, ◌∙◌, Result, Ok, Err}
+use Rattle.std.proofs.Common.{◌≡◌, Bool, true, cond, Option, Some, None, refl, sym, ap, ◌∙◌, Result, Ok, Err}
 use Rattle.desk_base.specs.Names.{Text}
 use Rattle.desk_base.specs.declared.faults.Malformed.{Malformed}
 use Rattle.desk_format.specs.Classes.{Class, read_class, fault_in, class_fault}
@@ -10,6 +10,11 @@ use Rattle.desk_images.specs.RuleImages.{images_of}
 use Rattle.desk_rewrite.specs.declared.rewriting.RewriteFault.{RewriteFault}
 use Rattle.desk_rewrite.specs.declared.rewriting.RewriteFault.TheVariants as rewrite
 use Rattle.desk_rules.specs.Rules.{Rules}
+use Rattle.desk_patterns.specs.Selections.{selects}
+use Rattle.desk_paths.specs.declared.Kind.TheVariants as kinds
+use Rattle.desk_paths.specs.Kinds.{kind_of}
+use Rattle.desk_file.specs.Images.{image as image_at, image_by, treatment, treatment_by}
+use Rattle.desk_file.specs.declared.treatments.Treatment.TheVariants.{Names, Copy}
 use Rattle.desk_file.specs.Classes.{renamed_image, unless_refused, reason_of, image_of_read, class_image}
 use Rattle.desk_file.specs.Faults.{IsClassFault, file_fault}
 use Rattle.desk_file.specs.declared.images.Image.{Image}
@@ -72,3 +77,10 @@ made rules bytes image h = elim (read_class bytes) as (λ (r : Result Class Malf
     | None ↦ λ n l. let same : renamed_image rules bytes c ≡ image = cc in record { class = c; reads = q; accepted = n; is = sym same }
   ] refl k
 ] refl h
+
+-- the image of a selected class that is accepted
+pub class_made : (rules : Rules) (path bytes : Text) (image : Image) → selects rules.selection path ≡ true → kind_of path ≡ kinds.Class → image_at rules path bytes ≡ Ok image → Made rules bytes image
+unfolding (image_at, treatment)
+class_made rules path bytes image selected class h =
+    let treated : treatment rules path ≡ Names = ap (λ (b : Bool). cond b (treatment_by rules path (kind_of path)) Copy) selected ∙ ap (treatment_by rules path) class in
+    made rules bytes image (sym (ap (image_by rules bytes) treated) ∙ h)

@@ -1,5 +1,5 @@
 -- The clauses of a run, from where it stands at its end.
-use Rattle.std.proofs.Common.{◌≡◌, ◌⊎◌, inl, inr, ℕ, ◌<◌, ◌≤◌, List, [], ◌∷◌, ◌++◌, Option, Some, None, refl, sym, ap, ◌∙◌, subst, true, arith, append-nil, length, length-append, Result, Ok, Err, OnOk, OnErr}
+use Rattle.std.proofs.Common.{All, Bool, ◌≡◌, ◌⊎◌, inl, inr, ℕ, ◌<◌, ◌≤◌, List, [], ◌∷◌, ◌++◌, Option, Some, None, refl, sym, ap, ◌∙◌, subst, true, arith, append-nil, length, length-append, Result, Ok, Err, OnOk, OnErr}
 use Rattle.std.specs.Prelude.{option_map, IsOkAnd, MatchResult}
 use Rattle.desk_base.specs.Names.{Text}
 use Rattle.desk_folders.specs.Contents.{Contents, File, Rose, files_below}
@@ -13,12 +13,27 @@ use Rattle.desk_report.specs.Texts.{fault_text}
 use Rattle.desk_report.specs.Written.{WritesFront, writing}
 use Rattle.desk_run.specs.declared.planning.Work.{Work}
 use Rattle.desk_run.specs.declared.stops.Halt.{Halt}
+use Rattle.std.proofs.lemmas.Bool.{and_parts}
+use Rattle.std.proofs.lemmas.List.Elements.{All-head, All-tail}
+use Rattle.desk_format.specs.Laws.{IsBytes}
+use Rattle.desk_laws.proofs.Whole.{renamed_classes, unchanged_classes}
+use Rattle.desk_images.specs.RuleImages.{images_of}
+use Rattle.desk_images.proofs.Forms.{forms_kept, images_settled}
+use Rattle.desk_paths.specs.declared.Kind.{Kind}
+use Rattle.desk_paths.specs.declared.Kind.TheVariants as kinds
+use Rattle.desk_paths.specs.Kinds.{kind_of}
+use Rattle.desk_rules.specs.Rules.{Rules}
+use Rattle.desk_rules.specs.RuleSets.{IsRuleSet}
+use Rattle.desk_file.specs.Images.{image as image_at}
+use Rattle.desk_file.specs.declared.images.Image.{Image}
+use Rattle.desk_file.proofs.Classes.{class_made}
 use Rattle.desk_run.specs.Runs.{Run}
 use Rattle.desk_run.specs.Works.{works_of}
 use Rattle.desk_run.specs.Truth.{TrueLedger}
 use Rattle.desk_run.specs.Stops.{status_of_halt}
 use Rattle.desk_run.specs.Stands.{Unchanged, Between, Remains}
-use Rattle.desk_run.specs.Meaning.{run_of_words}
+use Rattle.desk_run.specs.Classes.{is_class_kind, is_selected_class, HoldsNewClass, RenamesClasses, Classes}
+use Rattle.desk_run.specs.Meaning.{run_of, run_of_words}
 use Rattle.desk_run.specs.Answers.{first_answer}
 use Rattle.desk_run.specs.Endings.{WhereTold, Tells, Planned, HaltsEarly, Finishes, ReportedOf, HasCauses, StandsAt, IsDone, StandsAfter, is_final, Named}
 use Rattle.desk_run.specs.Clauses.{HoldsFiles, HoldsRows, Files, CompleteRows, KeepsLedger, LedgerHolds, Output, Exact, RemainsAt, Left}
@@ -59,6 +74,61 @@ files_clause words m0 l0 f k status t = record { m = t.m; l = t.l; folders = t.f
   by : (status : Status) → StandsAfter words m0 l0 t.m t.l status → Files words m0 l0 t.m status
   by Done s = ok_and (run_of_words words m0) s.run (λ run. HoldsFiles run m0 l0 t.m) s.is (holds_files s.run m0 l0 t.m t.l s.stands)
   by Refusals s = ok_and (run_of_words words m0) s.run (λ run. HoldsFiles run m0 l0 t.m) s.is (holds_files s.run m0 l0 t.m t.l s.stands)
+  by Memory s = tt
+  by OutputFault s = tt
+  by (FolderFault done) s = tt
+  by (LedgerFault done) s = tt
+  by Usage s = tt
+  by (NestedRoots first second) s = tt
+  by (BadRules fault) s = tt
+  by (OtherRun kept wanted) s = tt
+  by (Limit kind path) s = tt
+  by (PathClash first second) s = tt
+
+-- ---- classes
+
+class_of_run : (rules : Rules) (file : File) (image : Image) (held : Option Text) → IsRuleSet rules → IsBytes file.bytes → is_selected_class rules file.path ≡ true → image_at rules file.path file.bytes ≡ Ok image → held ≡ Some image.bytes
+    → HoldsNewClass rules file.bytes held
+class_of_run rules file image held settled bytes selected is there =
+    let p = and_parts _ _ selected in
+    let m = class_made rules file.path file.bytes image p.0 (kind_is (kind_of file.path) p.1) is in
+    let forms = forms_kept rules settled in
+    record {
+      class = m.class;
+      reads = m.reads;
+      holds = there ∙ ap (λ (i : Image). Some i.bytes) m.is;
+      renamed = renamed_classes (images_of rules) file.bytes m.class forms bytes m.reads m.accepted;
+      again = unchanged_classes (images_of rules) file.bytes m.class forms (images_settled rules settled) bytes m.reads m.accepted;
+    }
+  where
+    kind_is : (kind : Kind) → is_class_kind kind ≡ true → kind ≡ kinds.Class
+    kind_is kinds.Class h = refl
+    kind_is kinds.Service h = absurd cc
+    kind_is kinds.Manifest h = absurd cc
+    kind_is kinds.Other h = absurd cc
+
+all_among : (before rest : List File) (file : File) → All (λ (f : File). IsBytes f.bytes) (before ++ file ∷ rest) → IsBytes file.bytes
+all_among [] rest file h = All-head (λ (f : File). IsBytes f.bytes) file rest h
+all_among (f ∷ before) rest file h = all_among before rest file (All-tail (λ (g : File). IsBytes g.bytes) f (before ++ file ∷ rest) h)
+
+renames_classes : (words : List Text) (m0 : Contents) (l0 : Ledger) (m : Contents) (l : Ledger) → IsDone words m0 l0 m l → RenamesClasses words m0 l0 m
+renames_classes words m0 l0 m l d =
+    let holds : HoldsFiles (run_of d.runs.roots d.runs.ruled) m0 l0 m = subst (λ (r : Run). HoldsFiles r m0 l0 m) d.runs.is (holds_files d.run m0 l0 m l d.stands) in
+    let bytes : All (λ (f : File). IsBytes f.bytes) (files_below (run_of d.runs.roots d.runs.ruled).from m0) = subst (λ (r : Run). All (λ (f : File). IsBytes f.bytes) (files_below r.from m0)) d.runs.is d.runs.bytes in
+    record {
+      roots = d.runs.roots;
+      ruled = d.runs.ruled;
+      is = d.is ∙ ap Ok d.runs.is;
+      classes = λ before rest file image e selected is truth.
+          class_of_run d.runs.ruled.rules file image _ d.runs.settled (all_among before rest file (subst (All (λ (f : File). IsBytes f.bytes)) e bytes)) selected is (holds.images before rest file image e is truth);
+    }
+
+pub classes_clause : (words : List Text) (m0 : Contents) (l0 : Ledger) (f : Option Contents) (k : Option Ledger) (status : Status)
+    → Tells f k (λ m l. StandsAfter words m0 l0 m l status) → Tells f k (λ m l. Classes words m0 l0 m status)
+classes_clause words m0 l0 f k status t = record { m = t.m; l = t.l; folders = t.folders; ledger = t.ledger; holds = by status t.holds } where
+  by : (status : Status) → StandsAfter words m0 l0 t.m t.l status → Classes words m0 l0 t.m status
+  by Done s = renames_classes words m0 l0 t.m t.l s
+  by Refusals s = renames_classes words m0 l0 t.m t.l s
   by Memory s = tt
   by OutputFault s = tt
   by (FolderFault done) s = tt

@@ -11,4 +11,5 @@ pub mod Answers
 pub mod Halts
 pub mod RuleFolders
 pub mod Endings
+pub mod Classes
 pub mod Clauses

@@ -3,6 +3,7 @@
 
 ghost use Rattle.std.specs.Prelude.{◌≡◌, ◌≤◌, true};
 ghost use Rattle.desk_run.specs.Answers.{first_answer};
+ghost use Rattle.desk_run.specs.Classes.{Classes};
 ghost use Rattle.desk_run.specs.Clauses.{Exact, Files, LedgerHolds, Left, Output};
 ghost use Rattle.desk_run.specs.Endings.{HasCauses, Named, ReportedOf, StandsAfter, Tells, WhereTold, is_final};
 
@@ -96,6 +97,7 @@ pub fn desk<F: Folders, K: Keeper, O: Sink>(
         (F.faults folders.old) (F.faults folders.new) (K.faults keeper.old) (K.faults keeper.new) (O.faults out.old) (O.faults out.new)) }
     ensures causes { HasCauses words.now result (F.faults folders.old) (F.faults folders.new) (K.faults keeper.old) (K.faults keeper.new) (O.faults out.old) (O.faults out.new) }
     ensures remains { WhereTold (F.told folders.old) (K.told keeper.old) (λ m0 l0. Tells (F.told folders.new) (K.told keeper.new) (λ m l. Left words.now m0 l0 m l result)) }
+    ensures classes { WhereTold (F.told folders.old) (K.told keeper.old) (λ m0 l0. Tells (F.told folders.new) (K.told keeper.new) (λ m l. Classes words.now m0 l0 m result)) }
 {
     let status = run_words(alloc, words, folders, keeper, out);
     let _ = write_fault(&status, out);

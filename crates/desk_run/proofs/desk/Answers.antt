@@ -1,4 +1,4 @@
-use Rattle.desk_run.proofs.Promised.{files_clause, ledger_clause, remains_clause, status_clause, output_clause, last_write, causes_after}
+use Rattle.desk_run.proofs.Promised.{files_clause, classes_clause, ledger_clause, remains_clause, status_clause, output_clause, last_write, causes_after}
 use Rattle.desk_run.proofs.desk.Goals as goal
 
 pub returns-clause-files : goal.returns-clause-files
@@ -22,3 +22,6 @@ returns-clause-status g c = λ m l ef ek.
 
 pub returns-clause-remains : goal.returns-clause-remains
 returns-clause-remains g c = λ m l ef ek. remains_clause c.args.words.now m l _ _ _ (c.run_words-status.ensures.stands m l ef ek)
+
+pub returns-clause-classes : goal.returns-clause-classes
+returns-clause-classes g c = λ m l ef ek. classes_clause c.args.words.now m l _ _ _ (c.run_words-status.ensures.stands m l ef ek)
