@@ -70,7 +70,7 @@ renaming_utf8 key value (Err fault) r q h = absurd cc
 renames_all : (r : Result (List Entry) RuleFault) (rs : List Renaming) → (r >>= renames_of) ≡ Ok rs → HaveUtf8Targets rs
 renames_all (Ok []) rs h = absurd cc
 renames_all (Ok (e ∷ es)) rs h =
-    each_all (λ r. bad_form (written dot r.target) ≡ None) renames_name rename_entry (λ key value r k. renaming_utf8 key value (rename_of key value) r refl k) (in_order (e ∷ es)) rs h
+    each_all (λ (r : Renaming). bad_form (written dot r.target) ≡ None) renames_name rename_entry (λ key value r k. renaming_utf8 key value (rename_of key value) r refl k) (in_order (e ∷ es)) rs h
 renames_all (Err fault) rs h = absurd cc
 
 -- the targets of renames that were read are modified UTF-8
