@@ -4,3 +4,5 @@ pub mod Wanting
 pub mod Parts
 pub mod Short
 pub mod Refusing
+pub mod Unchanged
+pub mod Printed
