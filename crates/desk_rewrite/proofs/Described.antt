@@ -26,9 +26,9 @@ kind_described : (k l : UseKind) (name descriptor : Use) (flags named rest more 
     → AllByRecursion (Described ((flags ++ (named ++ (uses_of (text_use descriptor) ++ rest))) ++ more)) (member_by k l name descriptor)
 kind_described kinds.Plain kinds.FieldDescriptor name descriptor flags named rest more e = (
   has_left (flags ++ (named ++ (uses_of (text_use descriptor) ++ rest))) more roles.Descriptor descriptor.index
-  (has_right flags (named ++ (uses_of (text_use descriptor) ++ rest)) roles.Descriptor descriptor.index
-  (has_right named (uses_of (text_use descriptor) ++ rest) roles.Descriptor descriptor.index
-  (has_left (uses_of (text_use descriptor)) rest roles.Descriptor descriptor.index (field_use descriptor.at descriptor.index descriptor.kind e)))),
+      (has_right flags (named ++ (uses_of (text_use descriptor) ++ rest)) roles.Descriptor descriptor.index
+      (has_right named (uses_of (text_use descriptor) ++ rest) roles.Descriptor descriptor.index
+      (has_left (uses_of (text_use descriptor)) rest roles.Descriptor descriptor.index (field_use descriptor.at descriptor.index descriptor.kind e)))),
   tt,
 )
   where
@@ -37,9 +37,9 @@ kind_described kinds.Plain kinds.FieldDescriptor name descriptor flags named res
     field_use at i _ e = absurd cc
 kind_described kinds.Plain kinds.MethodDescriptor name descriptor flags named rest more e = (
   has_left (flags ++ (named ++ (uses_of (text_use descriptor) ++ rest))) more roles.Descriptor descriptor.index
-  (has_right flags (named ++ (uses_of (text_use descriptor) ++ rest)) roles.Descriptor descriptor.index
-  (has_right named (uses_of (text_use descriptor) ++ rest) roles.Descriptor descriptor.index
-  (has_left (uses_of (text_use descriptor)) rest roles.Descriptor descriptor.index (method_use descriptor.at descriptor.index descriptor.kind e)))),
+      (has_right flags (named ++ (uses_of (text_use descriptor) ++ rest)) roles.Descriptor descriptor.index
+      (has_right named (uses_of (text_use descriptor) ++ rest) roles.Descriptor descriptor.index
+      (has_left (uses_of (text_use descriptor)) rest roles.Descriptor descriptor.index (method_use descriptor.at descriptor.index descriptor.kind e)))),
   tt,
 )
   where

@@ -6,3 +6,4 @@ pub mod Short
 pub mod Refusing
 pub mod Unchanged
 pub mod Printed
+pub mod Making

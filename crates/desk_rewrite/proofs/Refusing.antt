@@ -52,3 +52,7 @@ twins_stand im c p none h = third (overlong_in im c) (full_in im c) (twins_of im
 
 pub none_stands : (im : Images) (c : Class) → split_refusal c.pool (wants im c.pool (class_uses c)) ≡ None → None ≡ option_map places_of (first_twins (renamed_in im c.pool) (members c.body)) → refusal im c ≡ None
 none_stands im c none h = third (overlong_in im c) (full_in im c) (twins_of im c) none ∙ twins_none (first_twins (renamed_in im c.pool) (members c.body)) h
+
+pub none_or : {A : Type 0} (o : Option A) → ((x : A) → o ≡ Some x → ⊥) → o ≡ None
+none_or None h = refl
+none_or (Some x) h = absurd (h x refl)

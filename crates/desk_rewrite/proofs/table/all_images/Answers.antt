@@ -14,7 +14,7 @@ default = record { at = 0; index = 0; role = Class }
 pub loop-used-preserved : goal.loop-used-preserved
 loop-used-preserved g c =
     elim c.match-kind_of.branch [
-      in-Some+in_ok-add_image w ↦ record {
+      | in-Some+in_ok-add_image w ↦ record {
         sound = subst (IsSoundTable (images_of c.args.rules.now) c.args.pool.now.entries) (sym w.table-is) w.in_ok-add_image.ensures.sound;
         has = subst (λ (t : Table). All (λ (u : Used). has_image t u ≡ true) (take (c.loop-used.used-index + 1) c.args.uses.now)) (sym w.table-is)
             (next_has c.loop-used.table w.add_image.new.table c.args.uses.now c.loop-used.used-index default w.in-Some.kind c.loop-used-test.true (sym c.kind_of.ensures ∙ w.in-Some.is) w.in_ok-add_image.ensures.grows c.loop-used.invariant.has);
