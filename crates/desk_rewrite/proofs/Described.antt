@@ -19,16 +19,16 @@ use Rattle.desk_laws.proofs.Linked.{HasUse, has_left, has_right}
 use Rattle.desk_rewrite.specs.Tables.{Table, Finds, HasImages, HasDescriptors}
 
 -- The descriptor of a member is among uses.
-abbrev Described : List Used → Member → Type 0
+abbrev pub Described : List Used → Member → Type 0
 Described us m = HasUse us roles.Descriptor m.descriptor
 
 kind_described : (k l : UseKind) (name descriptor : Use) (flags named rest more : List Used) → descriptor.kind ≡ l
     → AllByRecursion (Described ((flags ++ (named ++ (uses_of (text_use descriptor) ++ rest))) ++ more)) (member_by k l name descriptor)
 kind_described kinds.Plain kinds.FieldDescriptor name descriptor flags named rest more e = (
   has_left (flags ++ (named ++ (uses_of (text_use descriptor) ++ rest))) more roles.Descriptor descriptor.index
-  (has_right flags (named ++ (uses_of (text_use descriptor) ++ rest)) roles.Descriptor descriptor.index
-  (has_right named (uses_of (text_use descriptor) ++ rest) roles.Descriptor descriptor.index
-  (has_left (uses_of (text_use descriptor)) rest roles.Descriptor descriptor.index (field_use descriptor.at descriptor.index descriptor.kind e)))),
+      (has_right flags (named ++ (uses_of (text_use descriptor) ++ rest)) roles.Descriptor descriptor.index
+      (has_right named (uses_of (text_use descriptor) ++ rest) roles.Descriptor descriptor.index
+      (has_left (uses_of (text_use descriptor)) rest roles.Descriptor descriptor.index (field_use descriptor.at descriptor.index descriptor.kind e)))),
   tt,
 )
   where
@@ -37,9 +37,9 @@ kind_described kinds.Plain kinds.FieldDescriptor name descriptor flags named res
     field_use at i _ e = absurd cc
 kind_described kinds.Plain kinds.MethodDescriptor name descriptor flags named rest more e = (
   has_left (flags ++ (named ++ (uses_of (text_use descriptor) ++ rest))) more roles.Descriptor descriptor.index
-  (has_right flags (named ++ (uses_of (text_use descriptor) ++ rest)) roles.Descriptor descriptor.index
-  (has_right named (uses_of (text_use descriptor) ++ rest) roles.Descriptor descriptor.index
-  (has_left (uses_of (text_use descriptor)) rest roles.Descriptor descriptor.index (method_use descriptor.at descriptor.index descriptor.kind e)))),
+      (has_right flags (named ++ (uses_of (text_use descriptor) ++ rest)) roles.Descriptor descriptor.index
+      (has_right named (uses_of (text_use descriptor) ++ rest) roles.Descriptor descriptor.index
+      (has_left (uses_of (text_use descriptor)) rest roles.Descriptor descriptor.index (method_use descriptor.at descriptor.index descriptor.kind e)))),
   tt,
 )
   where
@@ -68,6 +68,9 @@ tree_described (Tree.both a b) =
     (each_weaker (uses b) (uses a ++ uses b) (members b) (λ m h. has_right (uses a) (uses b) roles.Descriptor m.descriptor h) (tree_described b))
 tree_described (Tree.member a) = member_described a
 
+pub class_described : (c : Class) → AllByRecursion (Described (class_uses c)) (members c.body)
+class_described c = each_weaker (uses c.body) (class_uses c) (members c.body) (λ m h. has_right (pool_uses entries_at c.pool) (uses c.body) roles.Descriptor m.descriptor h) (tree_described c.body)
+
 -- what is found for a use, by its role and its index alone
 finds_used : (im : Images) (pool : Pool) (table : Table) (us : List Used) (role : Role) (i : ℕ) → HasImages im pool us table → HasUse us role i → Finds im pool table role i
 finds_used im pool table [] role i all h = absurd h
@@ -76,10 +79,10 @@ finds_used im pool table (u ∷ us) role i all (inl e) =
     subst (λ (r : Role). Finds im pool table r i) (e.0) (subst (λ (n : ℕ). Finds im pool table u.role n) (e.1) here)
 finds_used im pool table (u ∷ us) role i all (inr h) = finds_used im pool table us role i (All-tail (λ (v : Used). Finds im pool table v.role v.index) u us all) h
 
-finds_each : (im : Images) (pool : Pool) (table : Table) (us vs : List Used) (ms : List Member) → HasImages im pool (vs ++ us) table → AllByRecursion (Described us) ms → AllByRecursion (λ (m : Member). Finds im pool table roles.Descriptor m.descriptor) ms
-finds_each im pool table us vs [] all h = tt
-finds_each im pool table us vs (m ∷ ms) all h = (finds_used im pool table (vs ++ us) roles.Descriptor m.descriptor all (has_right vs us roles.Descriptor m.descriptor h.0), finds_each im pool table us vs ms all h.1)
+finds_each : (im : Images) (pool : Pool) (table : Table) (us : List Used) (ms : List Member) → HasImages im pool us table → AllByRecursion (Described us) ms → AllByRecursion (λ (m : Member). Finds im pool table roles.Descriptor m.descriptor) ms
+finds_each im pool table us [] all h = tt
+finds_each im pool table us (m ∷ ms) all h = (finds_used im pool table us roles.Descriptor m.descriptor all (h.0), finds_each im pool table us ms all (h.1))
 
 pub has_descriptors : (im : Images) (table : Table) (c : Class) → HasImages im c.pool (class_uses c) table → HasDescriptors im c.pool table (members c.body)
 has_descriptors im table c all =
-    All-from_recursion (λ (m : Member). Finds im c.pool table roles.Descriptor m.descriptor) (members c.body) (finds_each im c.pool table (uses c.body) (pool_uses entries_at c.pool) (members c.body) all (tree_described c.body))
+    All-from_recursion (λ (m : Member). Finds im c.pool table roles.Descriptor m.descriptor) (members c.body) (finds_each im c.pool table (class_uses c) (members c.body) all (class_described c))

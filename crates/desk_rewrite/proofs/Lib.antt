@@ -4,3 +4,6 @@ pub mod Wanting
 pub mod Parts
 pub mod Short
 pub mod Refusing
+pub mod Unchanged
+pub mod Printed
+pub mod Making

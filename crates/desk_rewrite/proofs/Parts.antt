@@ -1,5 +1,5 @@
 -- The parts of a class that was read, by its bytes.
-use Rattle.std.proofs.Common.{◌≡◌, ℕ, zero, suc, ◌+◌, ◌*◌, ◌<◌, ◌≤◌, ◌^◌, Bool, false, List, [], ◌∷◌, ◌++◌, length, get_or, take, drop, Option, Some, None, Result, Ok, Err, refl, ap, sym, ◌∙◌, subst, append-nil, append_assoc, lit≤, arith}
+use Rattle.std.proofs.Common.{◌≡◌, ℕ, zero, suc, ◌+◌, ◌*◌, ◌<◌, ◌≤◌, ◌^◌, Bool, false, List, [], ◌∷◌, ◌++◌, length, get_or, take, drop, Option, Some, None, Result, Ok, Err, refl, ap, ap₂, sym, ◌∙◌, subst, append-nil, append_assoc, lit≤, arith}
 use Rattle.std.specs.List.{AllByRecursion}
 use Rattle.std.proofs.lemmas.List.{length-append, drop_at}
 use Rattle.desk_base.specs.declared.faults.Malformed.{Malformed}
@@ -12,13 +12,16 @@ use Rattle.desk_format.specs.Exchange.{patch}
 use Rattle.desk_format.specs.Laws.{IsBytes}
 use Rattle.desk_format.specs.PoolBytes.{two, size, print_slots, print_pool, uses_among, pool_uses}
 use Rattle.desk_format.specs.PoolReading.{Got, number_read, counted, checked, unless, read_slots, read_pool, first_fault, names_wrong, leads_wrong}
+use Rattle.desk_format.specs.Servlet.{list_in, uses_in}
 use Rattle.desk_format.specs.Trees.{print, uses, uses_of, text_in_role}
 use Rattle.desk_format.proofs.Exact.{IsBytes-drop}
 use Rattle.desk_laws.specs.Classes.{IsPrintedClass}
-use Rattle.desk_laws.specs.Sound.{IsTwoBytes}
+use Rattle.desk_laws.specs.Sound.{IsTwoBytes, IsShaped}
+use Rattle.desk_laws.proofs.Bodies.{NamesText, all_named}
 use Rattle.desk_laws.proofs.Header.{ClassParts, class_ok, AfterThen, then_ok}
 use Rattle.desk_laws.proofs.Inverse.{Gives, Ensures, Slots, Awaits, index_ensures, slots_ensure}
 use Rattle.desk_laws.proofs.Whole.{printed_classes}
+use Rattle.desk_class.specs.Parts.{pool_in, body_at_of, body_at_in}
 use Rattle.desk_split.specs.Printing.{Stands}
 use Rattle.desk_split.proofs.Bodies.{Ahead, ahead, stand_tree}
 
@@ -159,3 +162,39 @@ class_few bytes c p short =
 pub patch_same : (g : Used → ℕ) (at : ℕ) (bytes : List ℕ) (us : List Used) → Stands at bytes us → AllByRecursion (λ (u : Used). g u ≡ u.index) us → patch g at us bytes ≡ bytes
 patch_same g at bytes [] h k = refl
 patch_same g at bytes (u ∷ us) h k = let a : Ahead at bytes (u ∷ us) 0 u = ahead at bytes (u ∷ us) 0 u (omega arith) h in a.kept g (k.0) ∙ patch_same g at bytes us a.same (k.1)
+
+-- ---- the same by the bytes alone
+
+pub record IsKnown (bytes : List ℕ) : Type 0 where
+  pub shaped : IsShaped false (pool_in bytes)
+  pub long : 10 ≤ length bytes
+  pub within : body_at_in bytes ≤ length bytes
+  pub entries : (more : List ℕ) × (drop 10 bytes ≡ print_slots (pool_in bytes) ++ more)
+  pub stands : Stands (body_at_in bytes) (drop (body_at_in bytes) bytes) (drop (length (pool_uses entries_at (pool_in bytes))) (uses_in bytes))
+  pub named : AllByRecursion (NamesText (pool_in bytes)) (uses_in bytes)
+  pub few : length bytes ≤ 67108864 → length (uses_in bytes) < 2 ^ 32
+
+known_by : (bytes : List ℕ) (c : Class) → read_class bytes ≡ Ok c → IsPrintedClass bytes c → IsKnown bytes
+known_by bytes c e p =
+    let pool : pool_in bytes ≡ c.pool = ap (list_in (λ (d : Class). d.pool)) e in
+    let us : uses_in bytes ≡ class_uses c = ap (list_in class_uses) e in
+    let at : body_at_in bytes ≡ c.body_at = ap body_at_of e in
+    let behind : drop (length (pool_uses entries_at (pool_in bytes))) (uses_in bytes) ≡ uses c.body = ap₂ (λ (q : Pool) (vs : List Used). drop (length (pool_uses entries_at q)) vs) pool us ∙ body_uses c in
+    record {
+      shaped = subst (IsShaped false) (sym pool) p.pool.shaped;
+      long = long bytes c p;
+      within = subst (λ (n : ℕ). n ≤ length bytes) (sym at) (body_within bytes c p);
+      entries = (print c.body, entries_are bytes c p ∙ ap (λ (q : Pool). print_slots q ++ print c.body) (sym pool));
+      stands = subst (λ (n : ℕ). Stands n (drop n bytes) (drop (length (pool_uses entries_at (pool_in bytes))) (uses_in bytes))) (sym at)
+          (subst (Stands c.body_at (drop c.body_at bytes)) (sym behind) (body_stands bytes c p));
+      named = subst (λ (q : Pool). AllByRecursion (NamesText q) (uses_in bytes)) (sym pool)
+          (subst (AllByRecursion (NamesText c.pool)) (sym us) (all_named entries_at c.pool c.body p.pool.linked p.fits));
+      few = λ short. subst (λ (vs : List Used). length vs < 2 ^ 32) (sym us) (class_few bytes c p short);
+    }
+
+pub known : (bytes : List ℕ) → IsBytes bytes → class_fault bytes ≡ None → IsKnown bytes
+known bytes b h = let k = class_of bytes h in known_by bytes k.0 k.1 (printed_classes bytes k.0 b k.1)
+
+pub stands_same : (at n : ℕ) (l m : List ℕ) (us vs : List Used) → at ≡ n → l ≡ m → us ≡ vs → Stands n m vs → Stands at l us
+stands_same at n l m us vs p q r h =
+    subst (λ (k : ℕ). Stands k l us) (sym p) (subst (λ (k : List ℕ). Stands n k us) (sym q) (subst (Stands n m) (sym r) h))

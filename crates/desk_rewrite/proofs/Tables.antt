@@ -1,5 +1,5 @@
 -- Tables of images.
-use Rattle.std.proofs.Common.{◌≡◌, ℕ, zero, suc, ◌+◌, ◌<◌, Bool, true, false, cond, ◌||◌, List, length, get_or, take, Option, Some, None, refl, ap, sym, ◌∙◌, subst, arith, All}
+use Rattle.std.proofs.Common.{◌≡◌, ℕ, zero, suc, ◌+◌, ◌<◌, Bool, true, false, cond, ◌||◌, List, [], ◌∷◌, length, get_or, take, Option, Some, None, refl, ap, ap₂, sym, ◌∙◌, subst, arith, All}
 use Rattle.std.specs.Option.{is_some}
 use Rattle.std.specs.Ordering.{nat_cmp, is_eq, ordering_then}
 use Rattle.std.specs.declared.cmp.Ordering.{Ordering}
@@ -17,6 +17,7 @@ use Rattle.desk_base.specs.declared.kinds.Used.{Used}
 use Rattle.desk_format.specs.Resolved.{Images}
 use Rattle.desk_rewrite.specs.declared.table.Kind.{Kind}
 use Rattle.desk_rewrite.specs.declared.table.Kind.TheVariants as kinds
+use Rattle.desk_rewrite.specs.contracts.table.KindOrd.TheImpl.{ghosts as kind_order}
 use Rattle.desk_rewrite.specs.Tables.{rank, kind_of, Key, key_cmp, Table, answer_at, IsAnswer, IsSoundTable, has_kind, has_image, Grows, found, Finds, HasImages}
 
 -- ---- equal keys
@@ -50,6 +51,45 @@ is_equal Greater h = absurd cc
 key_same : (x y : Key) → is_eq (key_cmp x y) ≡ true → x ≡ y
 key_same x y h = exact_pairs nat_cmp (λ (a b : Kind). nat_cmp (rank a) (rank b)) exact_unsigned rank_same x y (is_equal (key_cmp x y) h)
 
+-- ---- the order of the code
+
+kind_is : (a b : Kind) → kind_order.cmp a b ≡ nat_cmp (rank a) (rank b)
+kind_is kinds.Class kinds.Class = refl
+kind_is kinds.Class _ = refl
+kind_is kinds.Package kinds.Class = refl
+kind_is kinds.Package _ = refl
+kind_is kinds.Descriptor kinds.Class = refl
+kind_is kinds.Descriptor _ = refl
+kind_is kinds.ClassSig kinds.Class = refl
+kind_is kinds.ClassSig _ = refl
+kind_is kinds.MethodSig kinds.Class = refl
+kind_is kinds.MethodSig _ = refl
+kind_is kinds.FieldSig kinds.Class = refl
+kind_is kinds.FieldSig _ = refl
+kind_is kinds.Str kinds.Class = refl
+kind_is kinds.Str _ = refl
+
+-- the order of keys, as the code compares them
+abbrev code_cmp : Key → Key → Ordering
+code_cmp x y = ordering_then (nat_cmp x.0 y.0) (kind_order.cmp x.1 y.1)
+
+cmp_is : (x y : Key) → code_cmp x y ≡ key_cmp x y
+cmp_is x y = ap (ordering_then (nat_cmp x.0 y.0)) (kind_is x.1 y.1)
+
+lookup_same : (p q : Key → Bool) (es : List (Key × Option Text)) → ((k : Key) → p k ≡ q k) → lookup p es ≡ lookup q es
+lookup_same p q [] h = refl
+lookup_same p q (e ∷ es) h = ap₂ (λ (b : Bool) (o : Option (Option Text)). cond b (Some e.1) o) (h e.0) (lookup_same p q es h)
+
+pub code_answer : (table : Table) (key : Key) → tree.get code_cmp table key ≡ answer_at table key
+code_answer table key = lookup_same (λ k. is_eq (code_cmp key k)) (λ k. is_eq (key_cmp key k)) table.entries (λ k. ap is_eq (cmp_is key k))
+
+-- a table with an answer at a key
+abbrev pub Puts : Table → Key → Option Text → Table → Type 0
+Puts old key answer new = (q : Key) → answer_at new q ≡ cond (is_eq (key_cmp key q)) (Some answer) (answer_at old q)
+
+pub puts : (old new : Table) (key : Key) (answer : Option Text) → tree.Updates code_cmp old new key (Some answer) → Puts old key answer new
+puts old new key answer up = λ q. sym (code_answer new q) ∙ up.0 q ∙ ap₂ (λ (b : Bool) (o : Option (Option Text)). cond b (Some answer) o) (ap is_eq (cmp_is key q)) (code_answer old q)
+
 -- ---- no key
 
 pub sound_none : (im : Images) (pool : Pool) (table : Table) → tree.IsEmpty table → IsSoundTable im pool table
@@ -70,8 +110,8 @@ some_by : (b : Bool) (answer : Option Text) (o : Option (Option Text)) → is_so
 some_by true answer o = refl
 some_by false answer o = refl
 
-pub grows_put : (old new : Table) (key : Key) (answer : Option Text) → tree.Updates key_cmp old new key (Some answer) → Grows old key new
-grows_put old new key answer up = λ q. ap is_some (up.0 q) ∙ some_by (is_eq (key_cmp key q)) answer (answer_at old q)
+pub grows_put : (old new : Table) (key : Key) (answer : Option Text) → Puts old key answer new → Grows old key new
+grows_put old new key answer up = λ q. ap is_some (up q) ∙ some_by (is_eq (key_cmp key q)) answer (answer_at old q)
 
 sound_by : (b : Bool) (im : Images) (pool : Pool) (old : Table) (key q : Key) (answer a : Option Text) → is_eq (key_cmp key q) ≡ b → IsAnswer im pool key answer → IsSoundTable im pool old → cond b (Some answer) (answer_at old q) ≡ Some a → IsAnswer im pool q a
 sound_by true im pool old key q answer a e is s h =
@@ -79,8 +119,8 @@ sound_by true im pool old key q answer a e is s h =
     subst (λ (k : Key). IsAnswer im pool k a) (key_same key q e) (subst (IsAnswer im pool key) same is)
 sound_by false im pool old key q answer a e is s h = s q a h
 
-pub sound_put : (im : Images) (pool : Pool) (old new : Table) (key : Key) (answer : Option Text) → tree.Updates key_cmp old new key (Some answer) → IsAnswer im pool key answer → IsSoundTable im pool old → IsSoundTable im pool new
-sound_put im pool old new key answer up is s = λ q a h. sound_by (is_eq (key_cmp key q)) im pool old key q answer a refl is s (sym (up.0 q) ∙ h)
+pub sound_put : (im : Images) (pool : Pool) (old new : Table) (key : Key) (answer : Option Text) → Puts old key answer new → IsAnswer im pool key answer → IsSoundTable im pool old → IsSoundTable im pool new
+sound_put im pool old new key answer up is s = λ q a h. sound_by (is_eq (key_cmp key q)) im pool old key q answer a refl is s (sym (up q) ∙ h)
 
 -- ---- what is found
 
@@ -133,3 +173,7 @@ next_has old new us i d k lt is g h =
 
 pub next_passed : (table : Table) (us : List Used) (i : ℕ) (d : Used) → i < length us → kind_of (get_or us i d).role ≡ None → All (λ (u : Used). has_image table u ≡ true) (take i us) → All (λ (u : Used). has_image table u ≡ true) (take (i + 1) us)
 next_passed table us i d lt is h = All-more (λ (u : Used). has_image table u ≡ true) us i d lt h (ap (has_kind table (get_or us i d).index) is)
+
+pub none_of : (o : Option Kind) → ((k : Kind) → o ≡ Some k → ⊥) → o ≡ None
+none_of None h = refl
+none_of (Some k) h = absurd (h k refl)

@@ -1,5 +1,5 @@
 -- What uses want is what the definitions say.
-use Rattle.std.proofs.Common.{◌≡◌, ◌≢◌, ℕ, suc, ◌+◌, ◌<◌, ◌^◌, Bool, true, false, not, cond, List, [], ◌∷◌, map, length, Option, Some, None, refl, ap, ap₂, sym, ◌∙◌, subst, bytes_eq, count_by, arith, All}
+use Rattle.std.proofs.Common.{◌≡◌, ◌≢◌, ℕ, suc, ◌+◌, ◌<◌, ◌^◌, Bool, true, false, not, cond, List, [], ◌∷◌, map, length, Option, Some, None, option_map, refl, ap, ap₂, sym, ◌∙◌, subst, bytes_eq, count_by, arith, All}
 use denote.Ref.{Bor}
 use Rattle.std.specs.List.{AllByRecursion}
 use Rattle.std.specs.Option.{is_some, option_copied}
@@ -7,7 +7,10 @@ use Rattle.std.proofs.lemmas.List.Elements.{All-head, All-tail, All-cons, All-ni
 use Rattle.std.proofs.lemmas.List.Sums.{sum_by-cons}
 use Rattle.std.proofs.lemmas.Slice.Eq.{bytes_eq-Decides}
 use Rattle.desk_base.specs.Names.{Text}
-use Rattle.desk_base.specs.Entries.{Entry, utf8, Pool, entry_at, utf8_in, text_in, text_at, utf8_at}
+use Rattle.desk_base.specs.Targets.{fits}
+use Rattle.std.proofs.lemmas.List.{length-map}
+use Rattle.desk_split.proofs.Texts.{entry_of_text}
+use Rattle.desk_base.specs.Entries.{Entry, utf8, tag_of, Pool, entry_at, utf8_in, text_in, text_at, utf8_at}
 use Rattle.desk_base.specs.declared.kinds.Used.{Used}
 use Rattle.desk_base.specs.Utf8.{bad_form}
 use Rattle.desk_format.specs.Resolved.{Images, image}
@@ -16,7 +19,7 @@ use Rattle.desk_format.specs.NewPool.{wish, wants}
 use Rattle.desk_rules.specs.Images.{IsImage}
 use Rattle.desk_laws.specs.Sound.{IsTwoBytes, IsShaped}
 use Rattle.desk_laws.proofs.Bodies.{NamesText, sound_at}
-use Rattle.desk_laws.proofs.Moved.{is_utf8}
+use Rattle.desk_laws.proofs.Moved.{any_text, is_utf8}
 use Rattle.desk_laws.proofs.Stable.{Own}
 use Rattle.desk_split.proofs.Wanted.{other}
 use Rattle.desk_split.specs.Wishes.{image_or, want_of, wants_of, Differs, IsWish}
@@ -111,3 +114,15 @@ own_same im pool (w ∷ ws) e named h =
 pub own_wants : (im : Images) (pool : Pool) (us : List Used) (ws : List Wish) → map used_in ws ≡ us → count_by has_other ws ≡ 0 → AllByRecursion (NamesText pool) us → All (IsWishOf im pool) ws → AllByRecursion (Own pool) (wants im pool us)
 own_wants im pool us ws e none named h =
     subst (λ (vs : List Used). AllByRecursion (Own pool) (wants im pool vs)) e (own_same im pool ws none (subst (AllByRecursion (NamesText pool)) (sym e) named) h)
+
+-- ---- the uses of wishes name texts
+
+wish_named : (pool : Pool) (w : Wish) → IsWish pool w → NamesText pool w.used
+wish_named pool w h = ap (λ (o : Option Entry). fits any_text (option_map tag_of o)) (entry_of_text pool w.used.index h.names.0 h.names.1)
+
+pub wishes_named : (pool : Pool) (ws : List Wish) → All (IsWish pool) ws → AllByRecursion (NamesText pool) (map used_in ws)
+wishes_named pool [] h = tt
+wishes_named pool (w ∷ ws) h = (wish_named pool w (All-head (IsWish pool) w ws h), wishes_named pool ws (All-tail (IsWish pool) w ws h))
+
+pub wishes_few : (ws : List Wish) (us : List Used) → map used_in ws ≡ us → length us < 2 ^ 32 → length ws < 2 ^ 32
+wishes_few ws us e h = let same : length (map used_in ws) ≡ length ws = length-map ws used_in in let long : length (map used_in ws) ≡ length us = ap length e in omega arith

@@ -5,7 +5,6 @@ mod counts;
 mod images;
 mod members;
 mod printing;
-mod probe;
 mod rewriting;
 mod table;
 mod wishes;

@@ -30,11 +30,7 @@ pub fn bytes_of<'a>(view: &ClassView<'a>) -> &'a [u8]
 
 /// The bytes of the new class with these texts: magic and version, the new pool, and the body with its new indices. The
 /// only error is want of memory.
-pub fn new_bytes(
-    alloc: Global,
-    view: &ClassView<'_>,
-    new: &NewTexts<'_>,
-) -> Result<Text, Memory>
+pub fn new_bytes(alloc: Global, view: &ClassView<'_>, new: &NewTexts<'_>) -> Result<Text, Memory>
     requires texts { (ws : List Want) × TextsAre (split ws (pool_in view.now)) new.now.texts.items }
     requires limit { length new.now.texts.items ≤ 65535 }
     requires short { All IsShortText new.now.texts.items }

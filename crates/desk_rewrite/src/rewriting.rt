@@ -1,6 +1,6 @@
 //! The new class, or why there is none.
 
-ghost use Rattle.std.specs.Prelude.{◌≡◌, All, IfOk, IfErr, OnOk, None, Ok, map, count_by, length};
+ghost use Rattle.std.specs.Prelude.{◌≡◌, ◌<◌, ◌^◌, false, All, IfOk, IfErr, OnOk, None, Ok, map, count_by, length};
 ghost use Rattle.desk_format.specs.Classes.{Class, class_uses, read_class};
 ghost use Rattle.desk_format.specs.NewClass.{new_bytes, refusal};
 ghost use Rattle.desk_format.specs.NewPool.{added};
@@ -13,7 +13,8 @@ ghost use Rattle.desk_rewrite.specs.Counts.{renamed_count, odd_count};
 ghost use Rattle.desk_rewrite.specs.Refused.{Refuses};
 ghost use Rattle.desk_images.specs.RuleImages.{images_of};
 ghost use Rattle.desk_rewrite.specs.Tables.{HasDescriptors};
-ghost use Rattle.desk_rewrite.specs.Wanting.{used_in, AreWishes};
+ghost use Rattle.desk_rewrite.specs.Wanting.{used_in, IsWishOf, AreWishes};
+ghost use Rattle.desk_laws.specs.Sound.{IsShaped};
 
 use crate::counts::{odd_uses, renamed_uses};
 use crate::members::named_members;
@@ -100,7 +101,10 @@ fn new_class(
     table: &ImageTable,
     wishes: &[Wish<'_>],
 ) -> Result<(Text, u32), RewriteFault>
+    requires shaped { IsShaped false (pool_in view.now) }
+    requires few { length (uses_in view.now) < 2 ^ 32 }
     requires wishes { All (IsWish (pool_in view.now)) wishes.now }
+    requires images { (im : Images) × All (IsWishOf im (pool_in view.now)) wishes.now }
     requires used { map used_in wishes.now ≡ uses_in view.now }
     ensures bytes { IfOk result (λ new. (im : Images) (c : Class) → read_class view.now ≡ Ok c → AreWishes im c wishes.now → new.0 ≡ new_bytes im view.now c) }
     ensures added { IfOk result (λ new. (im : Images) (c : Class) → read_class view.now ≡ Ok c → AreWishes im c wishes.now → new.1 ≡ length (added im c.pool (class_uses c))) }
