@@ -12,7 +12,7 @@ use Rattle.desk_laws.proofs.Bodies.{NamesText}
 use Rattle.desk_laws.proofs.Stable.{Own}
 use Rattle.desk_split.specs.Wishes.{IsWish}
 use Rattle.desk_split.specs.declared.wishes.Wish.{Wish}
-use Rattle.desk_rewrite.specs.RuleImages.{images_of}
+use Rattle.desk_images.specs.RuleImages.{images_of}
 use Rattle.desk_rewrite.specs.Wanting.{used_in, has_other, IsWishOf, AreWishes}
 use Rattle.desk_rewrite.proofs.Making.{IsWished, wished, wishes_in, own_in}
 use Rattle.desk_rewrite.proofs.Parts.{IsKnown, known, IsFound, found}
