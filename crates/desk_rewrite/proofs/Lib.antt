@@ -7,3 +7,4 @@ pub mod Refusing
 pub mod Unchanged
 pub mod Printed
 pub mod Making
+pub mod RuleLaws

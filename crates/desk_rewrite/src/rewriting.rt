@@ -2,7 +2,8 @@
 
 ghost use Rattle.std.specs.Prelude.{◌≡◌, ◌<◌, ◌^◌, false, All, IfOk, IfErr, OnOk, None, Ok, map, count_by, length};
 ghost use Rattle.desk_format.specs.Classes.{Class, class_uses, read_class};
-ghost use Rattle.desk_format.specs.NewClass.{new_bytes, refusal};
+ghost use Rattle.desk_format.specs.NewClass.{new_bytes, new_class, refusal};
+ghost use Rattle.desk_laws.specs.Classes.{IsRenamedClass, IsUnchangedClass};
 ghost use Rattle.desk_format.specs.NewPool.{added};
 ghost use Rattle.desk_format.specs.Resolved.{Images};
 ghost use Rattle.desk_format.specs.Members.{members};
@@ -13,10 +14,12 @@ ghost use Rattle.desk_rewrite.specs.Counts.{renamed_count, odd_count};
 ghost use Rattle.desk_rewrite.specs.Refused.{Refuses};
 ghost use Rattle.desk_images.specs.RuleImages.{images_of};
 ghost use Rattle.desk_rewrite.specs.Tables.{HasDescriptors};
+ghost use Rattle.desk_rewrite.specs.Targets.{HasUtf8Targets};
 ghost use Rattle.desk_rewrite.specs.Wanting.{used_in, IsWishOf, AreWishes};
 ghost use Rattle.desk_laws.specs.Sound.{IsShaped};
 
 use crate::counts::{odd_uses, renamed_uses};
+use crate::images::tell_settled;
 use crate::members::named_members;
 use crate::printing::{bytes_of, new_bytes};
 use crate::table::{ImageTable, all_images};
@@ -127,6 +130,10 @@ fn new_class(
 /// image of that text by its role, and all other bytes stay. A class name is looked up in `images` first. A class in which
 /// nothing changes is copied.
 ///
+/// Where the new texts of the rules are modified UTF-8, the new class reads, its resolved tree is the renamed one, its pool
+/// keeps each old index, and rewriting it again changes nothing. That they are is a premise for now: it is to become a fact
+/// of each rule set.
+///
 /// The errors are, in this order, a text of more than 65,535 bytes, a constant pool whose count would be above 65,535, two
 /// members that become one, and want of memory.
 pub fn rewrite<I: Images>(
@@ -142,7 +149,10 @@ pub fn rewrite<I: Images>(
     ensures odd { IfOk result (λ new. (c : Class) → read_class view.now ≡ Ok c → new.odd ≡ odd_count c) }
     ensures accepted { OnOk result ((c : Class) → read_class view.now ≡ Ok c → refusal (images_of rules.now) c ≡ None) }
     ensures refused { IfErr result (λ fault. (c : Class) → read_class view.now ≡ Ok c → Refuses fault (refusal (images_of rules.now) c)) }
+    ensures isomorphic { OnOk result (HasUtf8Targets rules.now → (c : Class) → read_class view.now ≡ Ok c → IsRenamedClass (images_of rules.now) view.now c) }
+    ensures again { IfOk result (λ new. HasUtf8Targets rules.now → (c : Class) → read_class view.now ≡ Ok c → IsUnchangedClass (images_of rules.now) new.bytes (new_class (images_of rules.now) c)) }
 {
+    tell_settled(rules);
     let bytes = bytes_of(view);
     let table = all_images(alloc, rules, images, view.pool(), view.uses())?;
     let wishes = wishes_of(alloc, &table, view.uses())?;

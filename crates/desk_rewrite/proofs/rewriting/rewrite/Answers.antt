@@ -10,11 +10,15 @@ use Rattle.desk_format.specs.Servlet.{list_in, uses_in}
 use Rattle.desk_class.specs.Parts.{pool_in}
 use Rattle.desk_laws.proofs.Bodies.{NamesText}
 use Rattle.desk_laws.proofs.Stable.{Own}
+use Rattle.desk_laws.proofs.Whole.{renamed_classes, unchanged_classes}
+use Rattle.desk_laws.specs.Classes.{IsUnchangedClass}
+use Rattle.desk_format.specs.NewClass.{new_class}
 use Rattle.desk_split.specs.Wishes.{IsWish}
 use Rattle.desk_split.specs.declared.wishes.Wish.{Wish}
 use Rattle.desk_images.specs.RuleImages.{images_of}
 use Rattle.desk_rewrite.specs.Wanting.{used_in, has_other, IsWishOf, AreWishes}
 use Rattle.desk_rewrite.proofs.Making.{IsWished, wished, wishes_in, own_in}
+use Rattle.desk_rewrite.proofs.RuleLaws.{are_settled, keep_forms}
 use Rattle.desk_rewrite.proofs.Parts.{IsKnown, known, IsFound, found}
 use Rattle.desk_rewrite.proofs.Unchanged.{no_added, same_bytes, not_refused}
 use Rattle.desk_rewrite.proofs.Wanting.{are_wishes, wishes_few, renamed_are}
@@ -104,3 +108,15 @@ returns-clause-accepted g c = λ d e.
       | then-renamed-eq0+in_ok-from_bytes v ↦ not_refused (images_of c.args.rules.now) c.args.view.now d f (own_in (images_of c.args.rules.now) c.args.view.now d c.in_ok-wishes.wishes.items c.in_ok-table.table f w (sym count ∙ v.if-renamed-eq0.true))
       | else-renamed-eq0+in_ok-bytes v ↦ v.in_ok-bytes.ensures.accepted (images_of c.args.rules.now) d e (subst (AreWishes (images_of c.args.rules.now) d) (sym v.deref-else-renamed-eq0.ensures.value) w.wishes) w.descriptors
     ]
+
+pub returns-clause-isomorphic : goal.returns-clause-isomorphic
+returns-clause-isomorphic g c = λ u d e.
+    renamed_classes (images_of c.args.rules.now) c.args.view.now d (keep_forms c.args.rules.now (record { formed = c.tell_settled.ensures.settled.formed; packages = c.tell_settled.ensures.packages_stay }) u)
+    c.bytes_of-bytes.ensures.each e (returns-clause-accepted g c d e)
+
+pub returns-clause-again : goal.returns-clause-again
+returns-clause-again g c = λ u d e.
+    subst (λ (b : List ℕ). IsUnchangedClass (images_of c.args.rules.now) b (new_class (images_of c.args.rules.now) d)) (sym (returns-clause-bytes g c d e))
+    (unchanged_classes (images_of c.args.rules.now) c.args.view.now d (keep_forms c.args.rules.now (record { formed = c.tell_settled.ensures.settled.formed; packages = c.tell_settled.ensures.packages_stay }) u)
+    (are_settled c.args.rules.now (record { formed = c.tell_settled.ensures.settled.formed; packages = c.tell_settled.ensures.packages_stay }) c.tell_settled.ensures.strings_stay)
+    c.bytes_of-bytes.ensures.each e (returns-clause-accepted g c d e))
