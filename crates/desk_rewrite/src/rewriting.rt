@@ -14,7 +14,6 @@ ghost use Rattle.desk_rewrite.specs.Counts.{renamed_count, odd_count};
 ghost use Rattle.desk_rewrite.specs.Refused.{Refuses};
 ghost use Rattle.desk_images.specs.RuleImages.{images_of};
 ghost use Rattle.desk_rewrite.specs.Tables.{HasDescriptors};
-ghost use Rattle.desk_rewrite.specs.Targets.{HasUtf8Targets};
 ghost use Rattle.desk_rewrite.specs.Wanting.{used_in, IsWishOf, AreWishes};
 ghost use Rattle.desk_laws.specs.Sound.{IsShaped};
 
@@ -130,9 +129,8 @@ fn new_class(
 /// image of that text by its role, and all other bytes stay. A class name is looked up in `images` first. A class in which
 /// nothing changes is copied.
 ///
-/// Where the new texts of the rules are modified UTF-8, the new class reads, its resolved tree is the renamed one, its pool
-/// keeps each old index, and rewriting it again changes nothing. That they are is a premise for now: it is to become a fact
-/// of each rule set.
+/// The new class is well-formed, its resolved tree is the renamed one, its constant pool keeps each old index with its tag,
+/// and rewriting it again changes nothing.
 ///
 /// The errors are, in this order, a text of more than 65,535 bytes, a constant pool whose count would be above 65,535, two
 /// members that become one, and want of memory.
@@ -149,8 +147,8 @@ pub fn rewrite<I: Images>(
     ensures odd { IfOk result (λ new. (c : Class) → read_class view.now ≡ Ok c → new.odd ≡ odd_count c) }
     ensures accepted { OnOk result ((c : Class) → read_class view.now ≡ Ok c → refusal (images_of rules.now) c ≡ None) }
     ensures refused { IfErr result (λ fault. (c : Class) → read_class view.now ≡ Ok c → Refuses fault (refusal (images_of rules.now) c)) }
-    ensures isomorphic { OnOk result (HasUtf8Targets rules.now → (c : Class) → read_class view.now ≡ Ok c → IsRenamedClass (images_of rules.now) view.now c) }
-    ensures again { IfOk result (λ new. HasUtf8Targets rules.now → (c : Class) → read_class view.now ≡ Ok c → IsUnchangedClass (images_of rules.now) new.bytes (new_class (images_of rules.now) c)) }
+    ensures isomorphic { OnOk result ((c : Class) → read_class view.now ≡ Ok c → IsRenamedClass (images_of rules.now) view.now c) }
+    ensures again { IfOk result (λ new. (c : Class) → read_class view.now ≡ Ok c → IsUnchangedClass (images_of rules.now) new.bytes (new_class (images_of rules.now) c)) }
 {
     tell_settled(rules);
     let bytes = bytes_of(view);

@@ -18,7 +18,7 @@ use Rattle.desk_split.specs.declared.wishes.Wish.{Wish}
 use Rattle.desk_images.specs.RuleImages.{images_of}
 use Rattle.desk_rewrite.specs.Wanting.{used_in, has_other, IsWishOf, AreWishes}
 use Rattle.desk_rewrite.proofs.Making.{IsWished, wished, wishes_in, own_in}
-use Rattle.desk_rewrite.proofs.RuleLaws.{are_settled, keep_forms}
+use Rattle.desk_images.proofs.Forms.{forms_kept, images_settled}
 use Rattle.desk_rewrite.proofs.Parts.{IsKnown, known, IsFound, found}
 use Rattle.desk_rewrite.proofs.Unchanged.{no_added, same_bytes, not_refused}
 use Rattle.desk_rewrite.proofs.Wanting.{are_wishes, wishes_few, renamed_are}
@@ -110,13 +110,11 @@ returns-clause-accepted g c = λ d e.
     ]
 
 pub returns-clause-isomorphic : goal.returns-clause-isomorphic
-returns-clause-isomorphic g c = λ u d e.
-    renamed_classes (images_of c.args.rules.now) c.args.view.now d (keep_forms c.args.rules.now (record { formed = c.tell_settled.ensures.settled.formed; packages = c.tell_settled.ensures.packages_stay }) u)
-    c.bytes_of-bytes.ensures.each e (returns-clause-accepted g c d e)
+returns-clause-isomorphic g c = λ d e.
+    renamed_classes (images_of c.args.rules.now) c.args.view.now d (forms_kept c.args.rules.now c.tell_settled.ensures) c.bytes_of-bytes.ensures.each e (returns-clause-accepted g c d e)
 
 pub returns-clause-again : goal.returns-clause-again
-returns-clause-again g c = λ u d e.
+returns-clause-again g c = λ d e.
     subst (λ (b : List ℕ). IsUnchangedClass (images_of c.args.rules.now) b (new_class (images_of c.args.rules.now) d)) (sym (returns-clause-bytes g c d e))
-    (unchanged_classes (images_of c.args.rules.now) c.args.view.now d (keep_forms c.args.rules.now (record { formed = c.tell_settled.ensures.settled.formed; packages = c.tell_settled.ensures.packages_stay }) u)
-    (are_settled c.args.rules.now (record { formed = c.tell_settled.ensures.settled.formed; packages = c.tell_settled.ensures.packages_stay }) c.tell_settled.ensures.strings_stay)
+    (unchanged_classes (images_of c.args.rules.now) c.args.view.now d (forms_kept c.args.rules.now c.tell_settled.ensures) (images_settled c.args.rules.now c.tell_settled.ensures)
     c.bytes_of-bytes.ensures.each e (returns-clause-accepted g c d e))
