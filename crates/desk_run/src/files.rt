@@ -28,19 +28,19 @@ impl Content {
     /// Bytes within the limit.
     pub(crate) fn new(text: Text) -> Content
         requires { length text ≤ SIZE }
-        ensures is { result ≡ text }
-        ensures each { IsBytes text }
+        ensures { result ≡ text }
     {
-        let _bytes = text.as_bytes();
         Content { text }
     }
 
     /// The bytes.
     pub(crate) fn as_bytes(&self) -> &[u8]
         ensures bytes { result.now ≡ self.now }
+        ensures each { IsBytes self.now }
         ensures small { length self.now ≤ SIZE }
     {
-        self.text.as_bytes()
+        let bytes = self.text.as_bytes();
+        bytes
     }
 
     /// The bytes as a text.

@@ -37,9 +37,10 @@ fn read_one<F: Folders>(
     ensures counts { F.faults folders.old ≤ F.faults folders.new }
     ensures each { IfOk result (λ input. IsBytes input.bytes) }
 {
-    let Some(bytes) = read_below(alloc, folders, from, &place.path, SIZE)? else {
+    let Some(text) = read_below(alloc, folders, from, &place.path, SIZE)? else {
         return Err(limit(alloc, LimitKind::FileSize, &place.path));
     };
+    let bytes = Content::new(text);
     if bytes.as_bytes().len() as u64 > SUM - sum {
         return Err(limit(alloc, LimitKind::Sum, &place.path));
     }
@@ -47,7 +48,7 @@ fn read_one<F: Folders>(
     Ok(Input {
         path,
         target,
-        bytes: Content::new(bytes),
+        bytes,
     })
 }
 
