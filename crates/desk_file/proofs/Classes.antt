@@ -80,7 +80,7 @@ made rules bytes image h = elim (read_class bytes) as (λ (r : Result Class Malf
 
 -- the image of a selected class that is accepted
 pub class_made : (rules : Rules) (path bytes : Text) (image : Image) → selects rules.selection path ≡ true → kind_of path ≡ kinds.Class → image_at rules path bytes ≡ Ok image → Made rules bytes image
-unfolding (image_at, treatment)
+unfolding image_at treatment
 class_made rules path bytes image selected class h =
     let treated : treatment rules path ≡ Names = ap (λ (b : Bool). cond b (treatment_by rules path (kind_of path)) Copy) selected ∙ ap (treatment_by rules path) class in
     made rules bytes image (sym (ap (image_by rules bytes) treated) ∙ h)
