@@ -1,5 +1,5 @@
 -- The images of a rule set are their own images, and keep the forms of texts.
-use Rattle.std.proofs.Common.{◌≡◌, Bool, true, false, ◌&&◌, ◌||◌, List, Option, Some, None, unwrap_or, refl, ap, sym, ◌∙◌, subst}
+use Rattle.std.proofs.Common.{◌≡◌, Bool, true, false, ◌&&◌, ◌||◌, List, Option, Some, None, unwrap_or, refl}
 use Rattle.std.specs.FinMap as finite
 use Rattle.desk_base.specs.Names.{Text, is_class_name}
 use Rattle.desk_base.specs.Descriptors.{DescriptorKind, is_descriptor}
