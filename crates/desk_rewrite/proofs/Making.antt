@@ -1,5 +1,5 @@
 -- The new pool of a class, by the wishes of its uses.
-use Rattle.std.proofs.Common.{◌≡◌, ℕ, suc, ◌+◌, ◌-◌, ◌<◌, ◌≤◌, ◌^◌, false, List, [], ◌∷◌, map, length, Option, Some, None, Ok, option_map, refl, ap, ap₂, sym, ◌∙◌, subst, arith, count_by, All}
+use Rattle.std.proofs.Common.{◌≡◌, ℕ, suc, ◌+◌, ◌≤◌, false, List, [], ◌∷◌, map, length, Option, None, Ok, option_map, refl, ap, sym, ◌∙◌, subst, arith, count_by, All}
 use denote.Ref.{Bor}
 use Rattle.std.specs.List.{AllByRecursion}
 use Rattle.std.proofs.lemmas.List.Elements.{All-same}
@@ -9,8 +9,8 @@ use Rattle.desk_base.specs.Entries.{Pool}
 use Rattle.desk_format.specs.declared.members.Member.{Member}
 use Rattle.desk_format.specs.Classes.{Class, class_uses, entries_at, read_class}
 use Rattle.desk_format.specs.Members.{Named, members, first_twins}
-use Rattle.desk_format.specs.NewClass.{Refusal, overlong_from, full_at, renamed_in}
-use Rattle.desk_format.specs.NewPool.{wish, wants, choice, added}
+use Rattle.desk_format.specs.NewClass.{overlong_from, full_at, renamed_in}
+use Rattle.desk_format.specs.NewPool.{wish, wants, added}
 use Rattle.desk_format.specs.Resolved.{Images}
 use Rattle.desk_format.specs.Split.{Want, split, chosen, missing_texts}
 use Rattle.desk_laws.specs.Sound.{IsTwoBytes, IsShaped}

@@ -1,5 +1,5 @@
 -- The parts of a class that was read, by its bytes.
-use Rattle.std.proofs.Common.{◌≡◌, ℕ, zero, suc, ◌+◌, ◌*◌, ◌<◌, ◌≤◌, ◌^◌, Bool, false, List, [], ◌∷◌, ◌++◌, length, get_or, take, drop, Option, Some, None, Result, Ok, Err, refl, ap, ap₂, sym, ◌∙◌, subst, append-nil, append_assoc, lit≤, arith}
+use Rattle.std.proofs.Common.{◌≡◌, ℕ, zero, suc, ◌+◌, ◌*◌, ◌<◌, ◌≤◌, ◌^◌, false, List, [], ◌∷◌, ◌++◌, length, take, drop, Option, Some, None, Result, Ok, Err, refl, ap, ap₂, sym, ◌∙◌, subst, append-nil, lit≤, arith}
 use Rattle.std.specs.List.{AllByRecursion}
 use Rattle.std.proofs.lemmas.List.{length-append, drop_at}
 use Rattle.desk_base.specs.declared.faults.Malformed.{Malformed}
@@ -7,7 +7,7 @@ use Rattle.desk_base.specs.declared.kinds.Used.{Used}
 use Rattle.desk_base.specs.Entries.{Entry, Pool}
 use Rattle.desk_base.specs.Misfits.{or_else}
 use Rattle.desk_base.specs.Targets.{Link, links}
-use Rattle.desk_format.specs.Classes.{Class, magic, read_class, class_fault, fault_in, class_uses, entries_at, twins_in, print_class}
+use Rattle.desk_format.specs.Classes.{Class, magic, read_class, class_fault, fault_in, class_uses, entries_at, twins_in}
 use Rattle.desk_format.specs.Exchange.{patch}
 use Rattle.desk_format.specs.Laws.{IsBytes}
 use Rattle.desk_format.specs.PoolBytes.{two, size, print_slots, print_pool, uses_among, pool_uses}

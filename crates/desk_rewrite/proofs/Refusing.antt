@@ -1,8 +1,7 @@
 -- Why a class isn't rewritten: the first refusal that stands.
-use Rattle.std.proofs.Common.{◌≡◌, ℕ, List, [], ◌∷◌, map, Option, Some, None, option_map, Result, Ok, Err, refl, ap, ap₂, sym, ◌∙◌, subst}
+use Rattle.std.proofs.Common.{◌≡◌, Option, Some, None, option_map, refl, ap, ◌∙◌}
 use Rattle.desk_base.specs.Misfits.{or_else}
-use Rattle.desk_format.specs.declared.members.Member.{Member}
-use Rattle.desk_format.specs.Members.{Named, Twins, first_twins, members}
+use Rattle.desk_format.specs.Members.{Twins, first_twins, members}
 use Rattle.desk_format.specs.Classes.{Class, class_uses}
 use Rattle.desk_format.specs.NewClass.{Refusal, overlong_in, full_in, renamed_in, twins_refusal, twins_of, refusal}
 use Rattle.desk_format.specs.NewPool.{wants}

@@ -1,5 +1,5 @@
 -- The texts of a new pool have at most 65,535 bytes, where the wanted ones have.
-use Rattle.std.proofs.Common.{◌≡◌, ℕ, zero, suc, ◌+◌, ◌<◌, ◌≤◌, ◌^◌, Bool, true, false, cond, List, [], ◌∷◌, ◌++◌, map, length, get_or, Option, Some, None, option_map, refl, ap, sym, ◌∙◌, subst, bytes_eq, nat_eq, arith, All}
+use Rattle.std.proofs.Common.{◌≡◌, ℕ, zero, suc, ◌+◌, ◌<◌, ◌^◌, Bool, true, false, cond, List, [], ◌∷◌, map, length, get_or, Option, Some, None, option_map, ap, sym, ◌∙◌, subst, bytes_eq, nat_eq, All}
 use denote.Ref.{Bor}
 use Rattle.std.specs.List.{AllByRecursion}
 use Rattle.std.specs.Option.{option_copied}
@@ -7,7 +7,7 @@ use Rattle.std.specs.Ordering.{nat_cmp, is_lt}
 use Rattle.std.specs.Cmp.Lexicographic.{slice_cmp}
 use Rattle.std.proofs.lemmas.List.{get_or_default, length-append, length-map}
 use Rattle.desk_base.specs.Names.{Text}
-use Rattle.desk_base.specs.Entries.{Entry, utf8, is_wide, tag_of, Pool, entry_at, utf8_in, utf8_at}
+use Rattle.desk_base.specs.Entries.{Entry, utf8, is_wide, tag_of, Pool, entry_at, utf8_in}
 use Rattle.desk_format.specs.Split.{Want, wanted, holds, keep, kept_entry, kept, has_text, add, missing, entry_of, missing_texts, split}
 use Rattle.desk_laws.specs.Sound.{IsTwoBytes, IsSound, IsShaped}
 use Rattle.desk_laws.proofs.Bodies.{all_append}

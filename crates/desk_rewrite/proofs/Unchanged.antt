@@ -2,7 +2,6 @@
 use Rattle.std.proofs.Common.{◌≡◌, ℕ, suc, ◌+◌, List, [], ◌∷◌, ◌++◌, length, take, drop, None, refl, ap, ap₂, sym, ◌∙◌, subst, false, arith, inl, inr}
 use Rattle.std.specs.List.{AllByRecursion}
 use Rattle.desk_base.specs.Names.{Text}
-use Rattle.desk_base.specs.declared.kinds.Role.{Role}
 use Rattle.desk_base.specs.declared.kinds.Role.TheVariants as roles
 use Rattle.desk_base.specs.declared.kinds.Used.{Used}
 use Rattle.desk_base.specs.Entries.{utf8, Pool, text_in, text_at}
@@ -11,22 +10,22 @@ use Rattle.desk_base.specs.Utf8.{bad_form}
 use Rattle.desk_format.specs.declared.members.Member.{Member}
 use Rattle.desk_format.specs.Classes.{Class, class_uses, entries_at}
 use Rattle.desk_format.specs.Exchange.{patch}
-use Rattle.desk_format.specs.Members.{Named, first_twins, named_in, members}
-use Rattle.desk_format.specs.NewClass.{new_bytes, pool_of, change_of, full_at, renamed_in, twins_refusal, refusal, overlong_in, full_in, twins_of}
+use Rattle.desk_format.specs.Members.{first_twins, named_in, members}
+use Rattle.desk_format.specs.NewClass.{new_bytes, pool_of, change_of, renamed_in, twins_refusal, refusal, overlong_in, full_in, twins_of}
 use Rattle.desk_format.specs.NewPool.{wish, wants, choice, added}
 use Rattle.desk_format.specs.PoolBytes.{print_pool, pool_uses}
-use Rattle.desk_format.specs.Resolved.{Images, image}
+use Rattle.desk_format.specs.Resolved.{Images}
 use Rattle.desk_format.specs.Split.{Want}
 use Rattle.desk_format.specs.Trees.{uses}
 use Rattle.desk_laws.specs.Sound.{IsTwoBytes, IsShaped}
 use Rattle.desk_laws.proofs.Bodies.{sound_at, pool_within}
 use Rattle.desk_laws.proofs.Linked.{HasUse, Within, has_right, is_want}
-use Rattle.desk_laws.proofs.Pairs.{Same, Alike, no_twins}
+use Rattle.desk_laws.proofs.Pairs.{Alike, no_twins}
 use Rattle.desk_laws.proofs.Passes.{or_else-none}
 use Rattle.desk_laws.proofs.Refused.{none_overlong, not_full}
 use Rattle.desk_laws.proofs.Split.{IsWant}
 use Rattle.desk_laws.proofs.Stable.{Own, added_none, choice_stays, pool_same}
-use Rattle.desk_rewrite.proofs.Parts.{IsFound, front, front_is, body_is, body_stands, patch_same}
+use Rattle.desk_rewrite.proofs.Parts.{IsFound, front_is, body_is, body_stands, patch_same}
 use Rattle.desk_rewrite.proofs.Described.{Described, class_described}
 
 short_own : (pool : Pool) → IsShaped false pool → (ws : List Want) → AllByRecursion (Own pool) ws → AllByRecursion (λ (w : Want). IsTwoBytes (length w.text)) ws

@@ -1,5 +1,5 @@
 -- What uses want is what the definitions say.
-use Rattle.std.proofs.Common.{◌≡◌, ◌≢◌, ℕ, suc, ◌+◌, ◌<◌, ◌^◌, Bool, true, false, not, cond, List, [], ◌∷◌, map, length, Option, Some, None, option_map, refl, ap, ap₂, sym, ◌∙◌, subst, bytes_eq, count_by, arith, All}
+use Rattle.std.proofs.Common.{◌≡◌, ℕ, ◌+◌, ◌<◌, ◌^◌, Bool, true, false, not, cond, List, [], ◌∷◌, map, length, Option, Some, None, option_map, refl, ap, ap₂, sym, ◌∙◌, subst, bytes_eq, count_by, arith, All}
 use denote.Ref.{Bor}
 use Rattle.std.specs.List.{AllByRecursion}
 use Rattle.std.specs.Option.{is_some, option_copied}
@@ -10,7 +10,7 @@ use Rattle.desk_base.specs.Names.{Text}
 use Rattle.desk_base.specs.Targets.{fits}
 use Rattle.std.proofs.lemmas.List.{length-map}
 use Rattle.desk_split.proofs.Texts.{entry_of_text}
-use Rattle.desk_base.specs.Entries.{Entry, utf8, tag_of, Pool, entry_at, utf8_in, text_in, text_at, utf8_at}
+use Rattle.desk_base.specs.Entries.{Entry, utf8, tag_of, Pool, entry_at, utf8_in, text_in, text_at}
 use Rattle.desk_base.specs.declared.kinds.Used.{Used}
 use Rattle.desk_base.specs.Utf8.{bad_form}
 use Rattle.desk_format.specs.Resolved.{Images, image}

@@ -1,8 +1,6 @@
-use Rattle.std.proofs.Common.{◌≡◌, ◌≤◌, ◌+◌, false, List, None, map, length, suc, refl, ap, sym, ◌∙◌, subst, All, arith}
-use Rattle.std.proofs.lemmas.List.Elements.{All-same}
+use Rattle.std.proofs.Common.{◌≡◌, ◌≤◌, false, None, map, length, refl, ap, sym, ◌∙◌, subst, All, arith}
 use Rattle.std.proofs.lemmas.Result.{err_from_is_err_and}
 use Rattle.desk_base.specs.Entries.{Pool}
-use Rattle.desk_format.specs.declared.members.Member.{Member}
 use Rattle.desk_format.specs.Classes.{Class, class_uses}
 use Rattle.desk_format.specs.Members.{members}
 use Rattle.desk_format.specs.NewPool.{wants}

@@ -1,22 +1,19 @@
-use Rattle.std.proofs.Common.{◌≡◌, ◌<◌, ◌^◌, false, ℕ, List, map, length, count_by, ap, sym, ◌∙◌, subst, All, arith}
+use Rattle.std.proofs.Common.{◌≡◌, ◌<◌, ◌^◌, ℕ, List, length, count_by, ap, sym, ◌∙◌, subst, All}
 use Rattle.std.specs.List.{AllByRecursion}
 use Rattle.std.proofs.lemmas.List.Elements.{All-same}
 use Rattle.std.proofs.lemmas.Result.{err_from_is_err_and}
-use Rattle.desk_base.specs.Entries.{Pool}
 use Rattle.desk_base.specs.declared.kinds.Used.{Used}
-use Rattle.desk_format.specs.Classes.{Class, class_uses}
-use Rattle.desk_format.specs.NewPool.{wants}
-use Rattle.desk_format.specs.Servlet.{list_in, uses_in}
+use Rattle.desk_format.specs.Classes.{class_uses}
+use Rattle.desk_format.specs.Servlet.{uses_in}
 use Rattle.desk_class.specs.Parts.{pool_in}
 use Rattle.desk_laws.proofs.Bodies.{NamesText}
-use Rattle.desk_laws.proofs.Stable.{Own}
 use Rattle.desk_laws.proofs.Whole.{renamed_classes, unchanged_classes}
 use Rattle.desk_laws.specs.Classes.{IsUnchangedClass}
 use Rattle.desk_format.specs.NewClass.{new_class}
 use Rattle.desk_split.specs.Wishes.{IsWish}
 use Rattle.desk_split.specs.declared.wishes.Wish.{Wish}
 use Rattle.desk_images.specs.RuleImages.{images_of}
-use Rattle.desk_rewrite.specs.Wanting.{used_in, has_other, IsWishOf, AreWishes}
+use Rattle.desk_rewrite.specs.Wanting.{has_other, IsWishOf, AreWishes}
 use Rattle.desk_rewrite.proofs.Making.{IsWished, wished, wishes_in, own_in}
 use Rattle.desk_images.proofs.Forms.{forms_kept, images_settled}
 use Rattle.desk_rewrite.proofs.Parts.{IsKnown, known, IsFound, found}
