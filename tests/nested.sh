@@ -30,12 +30,12 @@ put rules/webxml.properties 'javax.servlet.=jakarta.servlet.\n'
 
 put app/META-INF/MANIFEST.MF 'Manifest-Version: 1.0\r\n'
 put app/META-INF/services/javax.servlet.ServletContainerInitializer 'web.Init # first\njavax.servlet.X\n'
-put app/META-INF/versions/11/javax/servlet/F.class 'not read yet'
+put app/META-INF/versions/11/javax/servlet/F.class 'no class'
 put app/legacy/javax/servlet/Old.class 'not selected'
 put app/lib/javax.servlet.jar/META-INF/services/javax.servlet.Filter 'javax.servlet.http.F\r\n'
 put app/lib/javax.servlet.jar/META-INF/services/bad 'web.Init x\n'
 put app/lib/javax.servlet.jar/javax/servlet/notes.txt 'notes'
-put app/shop.war/WEB-INF/classes/javax/servlet/F.class 'not read yet'
+put app/shop.war/WEB-INF/classes/javax/servlet/F.class 'no class'
 put app/shop.war/WEB-INF/classes/javax/servlet/messages.properties 'a=b'
 put app/shop.war/WEB-INF/lib/a.jar 'PK'
 put app/shop.war/WEB-INF/web.xml '<listener-class>javax.servlet.L</listener-class>'
@@ -44,12 +44,12 @@ put app/x/javax/servlet/readme.txt 'stays'
 cat >wanted <<'TXT'
 refused META-INF/MANIFEST.MF not-built
 written META-INF/services/javax.servlet.ServletContainerInitializer META-INF/services/jakarta.servlet.ServletContainerInitializer service changed=1
-refused META-INF/versions/11/javax/servlet/F.class not-built
+refused META-INF/versions/11/javax/servlet/F.class malformed magic at=0
 written legacy/javax/servlet/Old.class legacy/javax/servlet/Old.class copy
 refused lib/javax.servlet.jar/META-INF/services/bad bad-line at=0
 written lib/javax.servlet.jar/META-INF/services/javax.servlet.Filter lib/javax.servlet.jar/META-INF/services/jakarta.servlet.Filter service changed=1
 written lib/javax.servlet.jar/javax/servlet/notes.txt lib/javax.servlet.jar/jakarta/servlet/notes.txt copy
-refused shop.war/WEB-INF/classes/javax/servlet/F.class not-built
+refused shop.war/WEB-INF/classes/javax/servlet/F.class malformed magic at=0
 written shop.war/WEB-INF/classes/javax/servlet/messages.properties shop.war/WEB-INF/classes/jakarta/servlet/messages.properties copy
 written shop.war/WEB-INF/lib/a.jar shop.war/WEB-INF/lib/a.jar copy
 refused shop.war/WEB-INF/web.xml not-built
