@@ -33,7 +33,7 @@ fn refused(fault: RewriteFault) -> FileFault
 }
 
 /// The image of a class that reads.
-#[tactic(auto, using(crate::proofs::Classes::image_made, crate::proofs::Classes::fault_made))]
+#[tactic(auto, using(crate::proofs::ClassImages::image_made, crate::proofs::ClassImages::fault_made))]
 fn rewritten(alloc: Global, rules: &RuleSet, view: &ClassView<'_>) -> Result<Image, FileFault>
     requires { class_fault view.now ≡ None }
     ensures ok { IfOk result (λ found. class_image rules.now view.now ≡ Ok found) }
@@ -56,7 +56,7 @@ fn rewritten(alloc: Global, rules: &RuleSet, view: &ClassView<'_>) -> Result<Ima
 /// The image of a class of at most 67,108,864 bytes: the new class, in which each use of a text has the image of the text,
 /// and all else stays. `Refused` comes exactly where there is none: `Malformed` with the first fault of bytes that are no
 /// well-formed class, else `Overlong`, `PoolFull` or `Twins`, in this order. The only other error is want of memory.
-#[tactic(auto, using(crate::proofs::Classes::malformed))]
+#[tactic(auto, using(crate::proofs::ClassImages::malformed))]
 pub(crate) fn class_image(alloc: Global, rules: &RuleSet, bytes: &[u8]) -> Result<Image, FileFault>
     requires { length bytes.now ≤ 67108864 }
     ensures ok { IfOk result (λ found. class_image rules.now bytes.now ≡ Ok found) }

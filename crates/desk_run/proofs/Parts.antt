@@ -5,7 +5,8 @@ use Rattle.desk_base.specs.Paths.{is_relative_path}
 use Rattle.desk_run.specs.Runs.{AllRelative}
 use Rattle.std.proofs.lemmas.Grind.{common_steps}
 use Rattle.std.proofs.Common.{◌≡◌, ℕ, ◌+◌, List, [], ◌++◌, Option, Some, None, refl, sym, ap, ◌∙◌, subst, take, drop, length, arith, length-append}
-use Rattle.std.specs.Prelude.{IfSome}
+use Rattle.std.specs.Prelude.{All, IfSome}
+use Rattle.std.proofs.lemmas.List.Elements.{All-push, All-same}
 use Rattle.std.proofs.Math.Seq.{take-add}
 use Rattle.std.proofs.Common.{suc, ◌<◌, ◌∷◌, map, get_or, true, IsSome, append_assoc, drop-cons}
 use Rattle.std.proofs.lemmas.List.{map-append, take_more}
@@ -77,3 +78,7 @@ pub taken_mapped : {X Y : Type 0} (f : X → Y) (xs : List X) (i : ℕ) (x : X) 
 taken_mapped f xs i x items new y lt is before e grown =
     grown ∙ ap (λ ys. ys ++ y ∷ []) before ∙ ap (λ z. map f (take i xs) ++ z ∷ []) e ∙ sym (map-append f (take i xs) (x ∷ []))
     ∙ ap (map f) (sym (take_more xs i x lt ∙ ap (λ z. take i xs ++ z ∷ []) (sym is)))
+
+-- a fact of each item goes on to a list with one item more
+pub all_pushed : {X : Type 0} (P : X → Type 0) (xs ys : List X) (x : X) → All P xs → P x → ys ≡ xs ++ x ∷ [] → All P ys
+all_pushed P xs ys x all one e = All-same P ys (xs ++ x ∷ []) e (All-push P xs x all one)

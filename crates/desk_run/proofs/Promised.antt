@@ -26,7 +26,7 @@ use Rattle.desk_rules.specs.Rules.{Rules}
 use Rattle.desk_rules.specs.RuleSets.{IsRuleSet}
 use Rattle.desk_file.specs.Images.{image as image_at}
 use Rattle.desk_file.specs.declared.images.Image.{Image}
-use Rattle.desk_file.proofs.Classes.{class_made}
+use Rattle.desk_file.proofs.ClassImages.{class_made}
 use Rattle.desk_run.specs.Runs.{Run}
 use Rattle.desk_run.specs.Works.{works_of}
 use Rattle.desk_run.specs.Truth.{TrueLedger}

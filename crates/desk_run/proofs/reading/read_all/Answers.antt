@@ -6,7 +6,8 @@ use Rattle.desk_run.specs.Limits.{size_answer}
 use Rattle.desk_run.specs.declared.files.Input.{Input}
 use Rattle.desk_run.specs.declared.files.Place.{Place}
 use Rattle.desk_run.proofs.Filling.{all_fit, halts_filling, there_placed}
-use Rattle.desk_run.proofs.Parts.{at_some, if_some, mapped_more}
+use Rattle.desk_format.specs.Laws.{IsBytes}
+use Rattle.desk_run.proofs.Parts.{all_pushed, at_some, if_some, mapped_more}
 use Rattle.desk_run.proofs.Sizes.{sizes_more}
 use Rattle.desk_run.proofs.reading.read_all.Goals as goal
 
@@ -28,6 +29,7 @@ loop-place-preserved g c = record {
   told = search rules;
   counts = search rules;
   sum = search rules;
+  bytes = all_pushed (λ (input : Input). IsBytes input.bytes) c.loop-place.inputs.items c.push.new.self.items c.in-Ok.input c.loop-place.invariant.bytes c.in-Ok.ensures.each (search rules);
   targets = mapped_more (λ (input : Input). input.target) (λ (place : Place). place.target) c.loop-place.inputs.items c.push.new.self.items c.in-Ok.input c.loop-place.yielded c.in-Some.place
       c.loop-place.invariant.targets c.in-Ok.ensures.target (search rules);
   inputs = λ m e. sym (map-id c.push.new.self.items) ∙ mapped_more (λ (input : Input). input) (input_at c.args.from.now m) c.loop-place.inputs.items c.push.new.self.items c.in-Ok.input c.loop-place.yielded c.in-Some.place
