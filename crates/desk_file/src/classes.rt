@@ -10,7 +10,7 @@ use desk_base::ReadFault;
 use desk_class::ClassView;
 use desk_rename::NoImages;
 use desk_report::{Detail, Reason};
-use desk_rewrite::{RewriteFault, rewrite};
+use desk_rewrite::{RewriteFault, Rewritten, rewrite};
 use desk_rules::RuleSet;
 use std::alloc::Global;
 
@@ -33,19 +33,25 @@ fn refused(fault: RewriteFault) -> FileFault
 }
 
 /// The image of a class that reads.
-#[tactic(auto, using(crate::proofs::ClassImages::image_made, crate::proofs::ClassImages::fault_made))]
 fn rewritten(alloc: Global, rules: &RuleSet, view: &ClassView<'_>) -> Result<Image, FileFault>
     requires { class_fault view.now ≡ None }
     ensures ok { IfOk result (λ found. class_image rules.now view.now ≡ Ok found) }
     ensures err { IfErr result (IsClassFault rules.now view.now) }
 {
     match rewrite(alloc, view, rules, &NoImages::new(rules)) {
-        Ok(new) => Ok(Image {
-            bytes: new.bytes,
+        Ok(
+            Rewritten {
+                bytes,
+                renamed,
+                added,
+                odd,
+            },
+        ) => Ok(Image {
+            bytes,
             detail: Detail::Class {
-                renamed: new.renamed,
-                added: new.added,
-                odd: new.odd,
+                renamed,
+                added,
+                odd,
                 links: 0,
             },
         }),
