@@ -135,7 +135,6 @@ HasCauses words status f f' k k' o o' = WordsCause words status
 pub record HasBegun (words : List Text) (m0 : Contents) (l0 : Ledger) (m : Contents) (l : Ledger) (done : ℕ) : Type 0 where
   pub run : Run
   pub is : run_of_words words m0 ≡ Ok run
-  pub runs : RunsOn run m0
   pub stands : Between run m0 l0 m l done ⊎ Within run m0 l0 m l done
 
 abbrev pub StandsAt : List Text → Contents → Ledger → Contents → Ledger → ℕ → Type 0
@@ -149,6 +148,7 @@ pub record StandsSomewhere (words : List Text) (m0 : Contents) (l0 : Ledger) (m 
 pub record IsDone (words : List Text) (m0 : Contents) (l0 : Ledger) (m : Contents) (l : Ledger) : Type 0 where
   pub run : Run
   pub is : run_of_words words m0 ≡ Ok run
+  pub runs : RunsOn run m0
   pub stands : Between run m0 l0 m l (length (files_below run.from m0))
 
 -- where a run stands at its end
