@@ -41,6 +41,19 @@ fn writes_lines(rt: HostRuntime) -> Result<(), Fail> {
         target: text(alloc, "é".as_bytes())?,
         detail: Detail::Copy,
     };
+    let kept = Line::Kept {
+        path: text(alloc, b"a")?,
+        target: text(alloc, b"b/c")?,
+    };
+    assert!(rt; is_line(alloc, &service, b"written a\\20b \\- service changed=12\n")?);
+    assert!(rt; is_line(alloc, &copy, b"written a\\5c \\c3\\a9 copy\n")?);
+    assert!(rt; is_line(alloc, &kept, b"kept a b/c\n")?);
+    Ok(())
+}
+
+#[test]
+fn writes_the_line_of_a_class(rt: HostRuntime) -> Result<(), Fail> {
+    let alloc = rt.alloc();
     let class = Line::Written {
         path: text(alloc, b"A.class")?,
         target: text(alloc, b"A.class")?,
@@ -51,10 +64,6 @@ fn writes_lines(rt: HostRuntime) -> Result<(), Fail> {
             links: 2,
         },
     };
-    let kept = Line::Kept {
-        path: text(alloc, b"a")?,
-        target: text(alloc, b"b/c")?,
-    };
     assert!(rt;
         is_line(
             alloc,
@@ -62,9 +71,6 @@ fn writes_lines(rt: HostRuntime) -> Result<(), Fail> {
             b"written A.class A.class class renamed=5 added=1 odd=0 links=2\n"
         )?
     );
-    assert!(rt; is_line(alloc, &service, b"written a\\20b \\- service changed=12\n")?);
-    assert!(rt; is_line(alloc, &copy, b"written a\\5c \\c3\\a9 copy\n")?);
-    assert!(rt; is_line(alloc, &kept, b"kept a b/c\n")?);
     Ok(())
 }
 
