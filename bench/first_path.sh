@@ -9,4 +9,4 @@ program=$PWD/crates/migrate/out/migrate
 [ -x "$program" ] || { echo "build the program first: examples/first/run.sh" >&2; exit 1; }
 place=$(mktemp -d)
 trap 'rm -rf "$place"' EXIT
-exec python3 bench/first_path.py "$program" "$place"
+python3 bench/first_path.py "$program" "$place"

@@ -21,4 +21,4 @@ grep '^[CMF]' "$work/texts" >"$work/signatures"
 python3 "$here/bench/long.py" "$work"
 
 (cd "$here/crates/bench_names" && rt run -- read 1 <stdin >/dev/null)
-exec python3 "$here/bench/ratios.py" "$here/crates/bench_names/out/bench_names" "$work"
+python3 "$here/bench/ratios.py" "$here/crates/bench_names/out/bench_names" "$work"

@@ -15,4 +15,4 @@ for module in "$jdk"/jmods/*.jmod; do
 done | sed -n 's,^classes/\(.*\)\.class$,\1,p' >"$work/classes"
 program=$here/crates/bench_rules/out/bench_rules
 [ -x "$program" ] || (cd "$here/crates/bench_rules" && rt run >/dev/null)
-exec python3 "$here/bench/rules.py" "$program" "$work"
+python3 "$here/bench/rules.py" "$program" "$work"

@@ -5,22 +5,9 @@
 # Usage: bench/scan.sh [JDK], the home of a JDK; by default that which `javac` belongs to. Without one it says so, and ends.
 # It needs python3 and `rt` on the path, and writes into a temporary folder.
 set -eu
-here=$(cd "$(dirname "$0")/.." && pwd)
-if [ $# -gt 0 ]; then
-    jdk=$1
-elif command -v javac >/dev/null; then
-    jdk=$(dirname "$(dirname "$(readlink -f "$(command -v javac)")")")
-else
-    jdk=
-fi
-if [ -z "$jdk" ] || [ ! -f "$jdk/lib/modules" ] || [ ! -x "$jdk/bin/jimage" ]; then
-    echo "bench/scan.sh: skipped, since no JDK with its modules is here"
-    exit 0
-fi
-work=$(mktemp -d)
-trap 'rm -rf "$work"' EXIT
-"$jdk/bin/jimage" extract --dir "$work/classes" "$jdk/lib/modules"
-find "$work/classes" -name '*.class' | sort >"$work/list"
+cd "$(dirname "$0")/.."
+. bench/jdk.sh
+find "$place/classes" -name '*.class' | sort >"$place/list"
 
-(cd "$here/crates/desk_scan" && rt run <stdin >/dev/null)
-exec python3 "$here/bench/scan.py" "$here/crates/desk_scan/out/desk_scan" "$work/list"
+(cd crates/desk_scan && rt run <stdin >/dev/null)
+python3 bench/scan.py crates/desk_scan/out/desk_scan "$place/list"

@@ -4,19 +4,10 @@
 set -u
 cd "$(dirname "$0")/.."
 command -v javac >/dev/null && command -v javap >/dev/null || { echo "skipped: no JDK is here"; exit 0; }
-program=$PWD/crates/migrate/out/migrate
-[ -x "$program" ] || { echo "build the program first: examples/first/run.sh" >&2; exit 1; }
+. tests/common.sh
 source=$PWD/examples/first/source
 rules=$PWD/examples/first/rules
-place=$(mktemp -d)
-trap 'rm -rf "$place"' EXIT
 cd "$place" || exit 1
-passed=0 failed=0
-
-# same NAME WANTED GOT: the two files are equal
-same() {
-  if diff -u "$2" "$3"; then passed=$((passed + 1)); else failed=$((failed + 1)); echo "differs: $1" >&2; fi
-}
 
 # renamed: standard input with the API's package renamed, in both spellings
 renamed() {

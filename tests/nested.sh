@@ -3,17 +3,8 @@
 # what the rules say; then tries rule files with one fault each. The expected lines are written by hand.
 set -u
 cd "$(dirname "$0")/.."
-program=$PWD/crates/migrate/out/migrate
-[ -x "$program" ] || { echo "build the program first: examples/first/run.sh" >&2; exit 1; }
-place=$(mktemp -d)
-trap 'rm -rf "$place"' EXIT
+. tests/common.sh
 cd "$place" || exit 1
-passed=0 failed=0
-
-# same NAME WANTED GOT: the two files are equal
-same() {
-  if diff -u "$2" "$3"; then passed=$((passed + 1)); else failed=$((failed + 1)); echo "differs: $1" >&2; fi
-}
 
 # put PATH TEXT: a file of this text
 put() {
