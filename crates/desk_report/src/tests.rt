@@ -105,7 +105,7 @@ fn refused(alloc: Global, reason: Reason) -> Result<Line, Fail> {
 }
 
 #[test]
-fn writes_refused_classes(rt: HostRuntime) -> Result<(), Fail> {
+fn writes_malformed_classes(rt: HostRuntime) -> Result<(), Fail> {
     let alloc = rt.alloc();
     let malformed = refused(
         alloc,
@@ -114,20 +114,13 @@ fn writes_refused_classes(rt: HostRuntime) -> Result<(), Fail> {
             at: 104,
         }),
     )?;
-    let overlong = refused(
-        alloc,
-        Reason::Overlong {
-            index: 2,
-            length: 65536,
-        },
-    )?;
-    let full = refused(
-        alloc,
-        Reason::PoolFull {
-            count: 65535,
-            needed: 1,
-        },
-    )?;
+    assert!(rt;
+        is_line(
+            alloc,
+            &malformed,
+            b"refused A.class malformed attribute-length at=104\n"
+        )?
+    );
     let twins = refused(
         alloc,
         Reason::Twins {
@@ -138,10 +131,23 @@ fn writes_refused_classes(rt: HostRuntime) -> Result<(), Fail> {
     assert!(rt;
         is_line(
             alloc,
-            &malformed,
-            b"refused A.class malformed attribute-length at=104\n"
+            &twins,
+            b"refused A.class twins first=95 second=103\n"
         )?
     );
+    Ok(())
+}
+
+#[test]
+fn writes_classes_without_room(rt: HostRuntime) -> Result<(), Fail> {
+    let alloc = rt.alloc();
+    let overlong = refused(
+        alloc,
+        Reason::Overlong {
+            index: 2,
+            length: 65536,
+        },
+    )?;
     assert!(rt;
         is_line(
             alloc,
@@ -149,18 +155,18 @@ fn writes_refused_classes(rt: HostRuntime) -> Result<(), Fail> {
             b"refused A.class overlong index=2 length=65536\n"
         )?
     );
+    let full = refused(
+        alloc,
+        Reason::PoolFull {
+            count: 65535,
+            needed: 1,
+        },
+    )?;
     assert!(rt;
         is_line(
             alloc,
             &full,
             b"refused A.class pool-full count=65535 needed=1\n"
-        )?
-    );
-    assert!(rt;
-        is_line(
-            alloc,
-            &twins,
-            b"refused A.class twins first=95 second=103\n"
         )?
     );
     Ok(())
