@@ -16,7 +16,7 @@ use Rattle.desk_rules.proofs.Cuts.{none_is, front-push, split_written}
 use Rattle.desk_rename.specs.Images.{package_image}
 use Rattle.desk_rename.proofs.Exchanges.{unchanged, picked_by}
 use Rattle.desk_paths.specs.Paths.{parts, root_count, Cut, cut, path_of, folder_text, is_service, is_class, renamed_path, root_of, rest_of, below}
-use Rattle.desk_paths.specs.Walks.{IsCutAt, IsPackageEnd, behind_package, is_services, is_meta, kind_by_texts}
+use Rattle.desk_paths.specs.Walks.{IsCutAt, IsPackageEnd, behind_package, is_service_file, is_meta, kind_by_texts}
 use Rattle.desk_paths.specs.Kinds.{kind_of}
 use Rattle.desk_paths.specs.declared.Kind.TheVariants.{Service, Manifest, Class, Other}
 use Rattle.desk_paths.proofs.Stays.{IsPlaced, is_placed}
@@ -45,8 +45,8 @@ told ps qs h k =
     (λ e. same_from ps qs (one_folder_text ps qs h k ((bytes_eq-Decides (folder_text ps) (folder_text qs)).0 e)))
     (λ e. (bytes_eq-Decides (folder_text ps) (folder_text qs)).1 (ap folder_text (same_is ps qs e)))
 
-pub services_told : (c : Cut) → IsPlaced c → is_services (folder_text c.rest) ≡ is_service c
-services_told c is = told c.rest (codes "META-INF" ∷ codes "services" ∷ []) is.rest_whole refl
+pub service_told : (c : Cut) → IsPlaced c → is_service_file (folder_text c.rest) c.file ≡ is_service c
+service_told c is = ap (λ (b : Bool). b && not (is_empty c.file)) (told c.rest (codes "META-INF" ∷ codes "services" ∷ []) is.rest_whole refl)
 
 pub meta_told : (c : Cut) → IsPlaced c → is_meta (folder_text c.rest) ≡ same c.rest (codes "META-INF" ∷ [])
 meta_told c is = told c.rest (codes "META-INF" ∷ []) is.rest_whole refl
@@ -59,7 +59,7 @@ kind_told path rest_at file_at at =
     let is = is_placed path in
     ap (λ (t : Text). kind_by_texts t (drop file_at path)) at.folder_is
     ∙ ap (λ (t : Text). kind_by_texts (folder_text c.rest) t) at.file_is
-    ∙ ap (λ (b : Bool). cond b Service (cond (is_meta (folder_text c.rest) && bytes_eq c.file (codes "MANIFEST.MF")) Manifest (cond (is_class c) Class Other))) (services_told c is)
+    ∙ ap (λ (b : Bool). cond b Service (cond (is_meta (folder_text c.rest) && bytes_eq c.file (codes "MANIFEST.MF")) Manifest (cond (is_class c) Class Other))) (service_told c is)
     ∙ ap (λ (b : Bool). cond (is_service c) Service (cond (b && bytes_eq c.file (codes "MANIFEST.MF")) Manifest (cond (is_class c) Class Other))) (meta_told c is)
 
 -- ---- root and rest
@@ -126,14 +126,21 @@ below_is path =
 
 -- ---- targets
 
+-- a service file is told by the texts of its path
+texts_told : (path : Text) (rest_at file_at : ℕ) → IsCutAt path rest_at file_at
+    → is_service_file (folder_text (cut path).rest) (cut path).file ≡ is_service_file (take (file_at - rest_at) (drop rest_at path)) (drop file_at path)
+texts_told path rest_at file_at at =
+    ap (λ (t : Text). is_service_file t (cut path).file) (sym at.folder_is)
+    ∙ ap (λ (t : Text). is_service_file (take (file_at - rest_at) (drop rest_at path)) t) (sym at.file_is)
+
 -- where a service file goes
-pub named_told : (rs : List Renaming) (path : Text) (rest_at file_at : ℕ) → IsCutAt path rest_at file_at → is_services (take (file_at - rest_at) (drop rest_at path)) ≡ true → take file_at path ++ dotted rs (drop file_at path) ≡ renamed_path rs path
+pub named_told : (rs : List Renaming) (path : Text) (rest_at file_at : ℕ) → IsCutAt path rest_at file_at → is_service_file (take (file_at - rest_at) (drop rest_at path)) (drop file_at path) ≡ true → take file_at path ++ dotted rs (drop file_at path) ≡ renamed_path rs path
 unfolding renamed_path
 named_told rs path rest_at file_at at service =
     let c = cut path in
     let order : rest_at ≤ file_at = at.order in
     let there : rest_at + (file_at - rest_at) ≡ file_at = omega arith in
-    let is_one : is_service c ≡ true = sym (services_told c (is_placed path)) ∙ ap is_services (sym at.folder_is) ∙ service in
+    let is_one : is_service c ≡ true = sym (service_told c (is_placed path)) ∙ texts_told path rest_at file_at at ∙ service in
     let folders_are : take file_at path ≡ folder_text c.root ++ folder_text c.rest =
     ap (λ (n : ℕ). take n path) (sym there) ∙ take-add rest_at (file_at - rest_at) path
     ∙ ap (λ (t : Text). t ++ take (file_at - rest_at) (drop rest_at path)) at.root_is
@@ -254,12 +261,12 @@ same_filled rs formed [] = ap (λ (w : Package). not (is_empty w)) (no_package r
 same_filled rs formed (x ∷ xs) = pkg_filled rs formed (x ∷ xs) refl
 
 -- where any other file goes
-pub folder_told : (rs : List Renaming) → list_all is_rename rs ≡ true → (path : Text) (rest_at file_at end : ℕ) → IsCutAt path rest_at file_at → is_services (take (file_at - rest_at) (drop rest_at path)) ≡ false → IsPackageEnd path rest_at end
+pub folder_told : (rs : List Renaming) → list_all is_rename rs ≡ true → (path : Text) (rest_at file_at end : ℕ) → IsCutAt path rest_at file_at → is_service_file (take (file_at - rest_at) (drop rest_at path)) (drop file_at path) ≡ false → IsPackageEnd path rest_at end
     → (take rest_at path ++ package_image rs (take (end - rest_at) (drop rest_at path))) ++ drop end path ≡ renamed_path rs path
 unfolding renamed_path
 folder_told rs formed path rest_at file_at end at other cut_off =
     let c = cut path in
-    let is_other : is_service c ≡ false = sym (services_told c (is_placed path)) ∙ ap is_services (sym at.folder_is) ∙ other in
+    let is_other : is_service c ≡ false = sym (service_told c (is_placed path)) ∙ texts_told path rest_at file_at at ∙ other in
     let q = pkg rs c.rest in
     ap (λ (t : Text). (t ++ package_image rs (take (end - rest_at) (drop rest_at path))) ++ drop end path) at.root_is
     ∙ ap (λ (t : Text). (folder_text c.root ++ package_image rs t) ++ drop end path) cut_off.package_is

@@ -144,6 +144,21 @@ same_meta rs formed p xs =
           both_ways (same p (codes "META-INF" ∷ xs)) e (same_from p (codes "META-INF" ∷ xs) (meta_pkg rs formed p xs (same_is (pkg rs p) (codes "META-INF" ∷ xs) k)))) ∙ sym e
     ]
 
+-- a dotted image has bytes where its text has some
+dotted_kept_filled : (rs : List Renaming) → DottedKeepForm rs → (t : Text) → is_empty (dotted rs t) ≡ is_empty t
+dotted_kept_filled rs form t = elim (cases_Bool (is_dotted t)) [
+  | inl named ↦ dotted_filled (dotted rs t) (form t named).named ∙ sym (dotted_filled t named)
+  | inr other ↦ rw other refl
+]
+  where
+    dotted_filled : (u : Text) → is_dotted u ≡ true → is_empty u ≡ false
+    dotted_filled [] h = absurd cc
+    dotted_filled (b ∷ u) h = refl
+
+-- a service file is one again
+service_again : (rs : List Renaming) → DottedKeepForm rs → (p : Cut) → is_service (record { root = p.root; rest = p.rest; file = dotted rs p.file }) ≡ is_service p
+service_again rs form p = ap (λ (b : Bool). same p.rest (codes "META-INF" ∷ codes "services" ∷ []) && not b) (dotted_kept_filled rs form p.file)
+
 -- a file as it is moved
 abbrev pub moved_by : Bool → List Renaming → Cut → Cut
 moved_by named renames p = cond named (record { root = p.root; rest = p.rest; file = dotted renames p.file }) (record { root = p.root; rest = pkg renames p.rest; file = p.file })
@@ -165,9 +180,9 @@ moved_placed rs stay p is = elim (is_service p) as (λ (b : Bool). IsPlaced (mov
 
 moved_kind : (rs : List Renaming) → Stay rs → (p : Cut) → kind_of_cut (moved rs p) ≡ kind_of_cut p
 moved_kind rs stay p = elim (is_service p) as (λ (b : Bool). is_service p ≡ b → kind_of_cut (moved_by b rs p) ≡ kind_by b (is_manifest p) (ends_with ◌==◌ p.file (codes ".class"))) [
-  | true ↦ λ e. rw e refl
+  | true ↦ λ e. ap (λ (b : Bool). kind_by b (is_manifest (moved_by true rs p)) (ends_with ◌==◌ (dotted rs p.file) (codes ".class"))) (service_again rs stay.form p ∙ e)
   | false ↦ λ e.
-      let no_service = same_meta rs stay.formed p.rest (codes "services" ∷ []) ∙ e in
+      let no_service = ap (λ (b : Bool). b && not (is_empty p.file)) (same_meta rs stay.formed p.rest (codes "services" ∷ [])) ∙ e in
       let one_manifest = same_meta rs stay.formed p.rest [] in
       ap (λ (b : Bool). kind_by b (same (pkg rs p.rest) (codes "META-INF" ∷ []) && bytes_eq p.file (codes "MANIFEST.MF")) (ends_with ◌==◌ p.file (codes ".class"))) no_service
       ∙ ap (λ (b : Bool). kind_by false (b && bytes_eq p.file (codes "MANIFEST.MF")) (ends_with ◌==◌ p.file (codes ".class"))) one_manifest
@@ -175,9 +190,11 @@ moved_kind rs stay p = elim (is_service p) as (λ (b : Bool). is_service p ≡ b
 
 moved_twice : (rs : List Renaming) → Stay rs → (p : Cut) → moved rs (moved rs p) ≡ moved rs p
 moved_twice rs stay p = elim (is_service p) as (λ (b : Bool). is_service p ≡ b → moved rs (moved_by b rs p) ≡ moved_by b rs p) [
-  | true ↦ λ e. rw e (λ i. record { root = p.root; rest = p.rest; file = stay.dotted p.file i })
+  | true ↦ λ e.
+      ap (λ (b : Bool). moved_by b rs (moved_by true rs p)) (service_again rs stay.form p ∙ e)
+      ∙ (λ i. record { root = p.root; rest = p.rest; file = stay.dotted p.file i })
   | false ↦ λ e.
-      let no_service = same_meta rs stay.formed p.rest (codes "services" ∷ []) ∙ e in
+      let no_service = ap (λ (b : Bool). b && not (is_empty p.file)) (same_meta rs stay.formed p.rest (codes "services" ∷ [])) ∙ e in
       ap (λ (b : Bool). moved_by b rs (moved_by false rs p)) no_service
       ∙ (λ i. record { root = p.root; rest = stay.packages p.rest i; file = p.file })
 ] refl

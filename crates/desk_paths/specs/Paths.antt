@@ -1,8 +1,8 @@
 -- Paths of files: their class root, what follows it, and where a file goes.
-use Rattle.std.specs.Prelude.{ℕ, zero, suc, Bool, false, ◌&&◌, ◌||◌, ◌==◌, List, [], ◌∷◌, ◌++◌, take, drop, codes, if◌then◌else◌}
+use Rattle.std.specs.Prelude.{ℕ, zero, suc, Bool, false, not, ◌&&◌, ◌||◌, ◌==◌, List, [], ◌∷◌, ◌++◌, take, drop, codes, if◌then◌else◌}
 use Rattle.std.specs.List.{slice_split, list_all, ends_with}
 use Rattle.std.specs.Str.{bytes_eq}
-use Rattle.desk_base.specs.Names.{Text, written, same, slash, front, simple, is_digit}
+use Rattle.desk_base.specs.Names.{Text, written, same, slash, front, simple, is_digit, is_empty}
 use Rattle.desk_patterns.specs.Selections.{selects}
 use Rattle.desk_rules.specs.Renames.{Renaming, pkg}
 use Rattle.desk_rules.specs.Rules.{Rules}
@@ -82,9 +82,9 @@ abbrev pub below : Text → Text → Text
 below [] rest = rest
 below (b ∷ root) rest = (b ∷ root) ++ slash ∷ rest
 
--- a service file (ServiceLoader): a file in `META-INF/services` of a class root
+-- a service file (ServiceLoader): a file with a name in `META-INF/services` of a class root
 abbrev pub is_service : Cut → Bool
-is_service c = same c.rest (codes "META-INF" ∷ codes "services" ∷ [])
+is_service c = same c.rest (codes "META-INF" ∷ codes "services" ∷ []) && not (is_empty c.file)
 
 -- the manifest of a class root
 abbrev pub is_manifest : Cut → Bool

@@ -1,8 +1,8 @@
 -- Walking over a path, folder by folder.
-use Rattle.std.specs.Prelude.{◌≡◌, ℕ, ◌-◌, ◌≤◌, Bool, ◌&&◌, ◌==◌, ◌∷◌, [], List, length, take, drop, codes, IsTrue, if◌then◌else◌}
+use Rattle.std.specs.Prelude.{◌≡◌, ℕ, ◌-◌, ◌≤◌, Bool, not, ◌&&◌, ◌==◌, ◌∷◌, [], List, length, take, drop, codes, IsTrue, if◌then◌else◌}
 use Rattle.std.specs.List.{ends_with, list_all}
 use Rattle.std.specs.Str.{bytes_eq}
-use Rattle.desk_base.specs.Names.{Text, written, slash}
+use Rattle.desk_base.specs.Names.{Text, written, slash, is_empty}
 use Rattle.desk_rules.specs.Renames.{Renaming, is_rename}
 use Rattle.desk_rules.specs.RuleSets.{PackagesStay, DottedStay, DottedKeepForm}
 use Rattle.desk_paths.specs.Paths.{cut, folder_text, ends_root}
@@ -44,10 +44,14 @@ is_services folder = bytes_eq folder (codes "META-INF/services/")
 abbrev pub is_meta : Text → Bool
 is_meta folder = bytes_eq folder (codes "META-INF/")
 
+-- a service file by its folder and its name
+abbrev pub is_service_file : Text → Text → Bool
+is_service_file folder file = is_services folder && not (is_empty file)
+
 -- the kind of a file by its folder and its name
 abbrev pub kind_by_texts : Text → Text → Kind
 kind_by_texts folder file =
-    if is_services folder then Service
+    if is_service_file folder file then Service
     else if is_meta folder && bytes_eq file (codes "MANIFEST.MF") then Manifest
     else if ends_with ◌==◌ file (codes ".class") then Class
     else Other

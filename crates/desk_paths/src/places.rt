@@ -5,7 +5,7 @@ ghost use Rattle.std.specs.List.{list_all};
 ghost use Rattle.desk_base.specs.Names.{is_digit, is_whole, slash};
 ghost use Rattle.desk_paths.specs.Paths.{is_archive, has_classes, is_number, ends_root, folder_text, folders, file_name, cut, root_of, rest_of, below};
 ghost use Rattle.desk_paths.specs.Kinds.{kind_of};
-ghost use Rattle.desk_paths.specs.Walks.{IsStep, IsCutAt, is_services, kind_by_texts};
+ghost use Rattle.desk_paths.specs.Walks.{IsStep, IsCutAt, is_service_file, kind_by_texts};
 
 use crate::Kind;
 
@@ -125,18 +125,19 @@ pub(crate) fn walk_over(path: &[u8]) -> Walk<'_>
     walk
 }
 
-/// Whether a folder, with the `/` behind it, is that of service files.
-pub(crate) fn is_services(folder: &[u8]) -> bool
-    ensures { result ≡ is_services folder.now }
+/// Whether a file is a service file: its folder, with the `/` behind it, is that of service files, and it
+/// has a name.
+pub(crate) fn is_service_file(folder: &[u8], file: &[u8]) -> bool
+    ensures { result ≡ is_service_file folder.now file.now }
 {
-    folder == SERVICES
+    folder == SERVICES && !file.is_empty()
 }
 
 /// The kind of a file in a folder of a class root, with the `/` behind the folder.
 fn kind_in(folder: &[u8], file: &[u8]) -> Kind
     ensures { result ≡ kind_by_texts folder.now file.now }
 {
-    if is_services(folder) {
+    if is_service_file(folder, file) {
         Kind::Service
     } else if folder == META && file == MANIFEST {
         Kind::Manifest

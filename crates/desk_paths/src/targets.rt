@@ -8,7 +8,7 @@ ghost use Rattle.desk_paths.specs.Paths.{renamed_path, target};
 ghost use Rattle.desk_paths.specs.Kinds.{RenamedStays, TargetStays};
 ghost use Rattle.desk_paths.specs.Walks.{IsCutAt, IsPackageEnd, Stay};
 
-use crate::places::{is_services, walk_over};
+use crate::places::{is_service_file, walk_over};
 use desk_base::{Memory, Text};
 use desk_rename::{append_dotted, append_package};
 use desk_rules::RuleSet;
@@ -65,7 +65,7 @@ pub fn renamed_path(alloc: Global, path: &[u8], rules: &RuleSet) -> Result<Text,
         IsTrue (is_relative_path path.now) → IsTrue (is_relative_path found)) }
 {
     let walk = walk_over(path);
-    if is_services(&path[walk.rest_at..walk.file_at]) {
+    if is_service_file(&path[walk.rest_at..walk.file_at], &path[walk.file_at..]) {
         with_name(alloc, &path[..walk.file_at], &path[walk.file_at..], rules)
     } else {
         let end = package_end(path, walk.rest_at, walk.file_at);

@@ -54,7 +54,7 @@ fn placed(path: &[u8], root: &[u8], rest: &[u8], kind: Kind) -> bool {
 }
 
 /// Paths, each with its class root, its rest and its kind.
-const PLACES: [(&[u8], &[u8], &[u8], Kind); 17] = [
+const PLACES: [(&[u8], &[u8], &[u8], Kind); 18] = [
     (
         b"shop.war/WEB-INF/classes/javax/servlet/F.class",
         b"shop.war/WEB-INF/classes",
@@ -72,6 +72,12 @@ const PLACES: [(&[u8], &[u8], &[u8], Kind); 17] = [
         b"a.ear/b.war/WEB-INF/lib/c.jar",
         b"META-INF/services/x.Y",
         Kind::Service,
+    ),
+    (
+        b"META-INF/services/",
+        b"",
+        b"META-INF/services/",
+        Kind::Other,
     ),
     (
         b"a.rar/META-INF/MANIFEST.MF",

@@ -4,6 +4,7 @@ use Rattle.desk_base.specs.Names.{Text}
 use Rattle.desk_rules.specs.Images.{dotted}
 use Rattle.desk_rename.specs.Images.{package_image}
 use Rattle.desk_paths.specs.Paths.{renamed_path}
+use Rattle.desk_paths.specs.Walks.{is_service_file}
 use Rattle.desk_paths.proofs.Folders.{named_told, folder_told}
 use Rattle.desk_paths.proofs.Answered.{target_answer, stays_answer, relative_answer}
 use Rattle.desk_paths.proofs.targets.renamed_path.Goals as goal
@@ -13,31 +14,31 @@ service c =
     target_answer c.args.rules.now.renames c.args.path.now _ c.with_name.result c.with_name.ensures.stay
     (λ stay.
     ap (λ (t : Text). take c.walk_over-walk.result.file_at c.args.path.now ++ dotted c.args.rules.now.renames t) (take_rest c.args.path.now c.walk_over-walk.result.file_at)
-    ∙ named_told c.args.rules.now.renames c.args.path.now c.walk_over-walk.result.rest_at c.walk_over-walk.result.file_at c.walk_over-walk.ensures (sym c.is_services.ensures ∙ c.if-is_services.true))
+    ∙ named_told c.args.rules.now.renames c.args.path.now c.walk_over-walk.result.rest_at c.walk_over-walk.result.file_at c.walk_over-walk.ensures (ap (λ (t : Text). is_service_file (take (c.walk_over-walk.result.file_at - c.walk_over-walk.result.rest_at) (drop c.walk_over-walk.result.rest_at c.args.path.now)) t) (sym (take_rest c.args.path.now c.walk_over-walk.result.file_at)) ∙ sym c.is_service_file.ensures ∙ c.if-is_service_file.true))
     c.with_name.ensures.found
 
-pub returns-then-is_services-clause-target : goal.returns-then-is_services-clause-target
-returns-then-is_services-clause-target c = service c
+pub returns-then-is_service_file-clause-target : goal.returns-then-is_service_file-clause-target
+returns-then-is_service_file-clause-target c = service c
 
-pub returns-then-is_services-clause-stays : goal.returns-then-is_services-clause-stays
-returns-then-is_services-clause-stays c = stays_answer c.args.rules.now.renames c.args.path.now c.with_name.result c.with_name.ensures.stay
+pub returns-then-is_service_file-clause-stays : goal.returns-then-is_service_file-clause-stays
+returns-then-is_service_file-clause-stays c = stays_answer c.args.rules.now.renames c.args.path.now c.with_name.result c.with_name.ensures.stay
 
-pub returns-then-is_services-clause-relative : goal.returns-then-is_services-clause-relative
-returns-then-is_services-clause-relative c = relative_answer c.args.rules.now.renames c.args.path.now c.with_name.result c.with_name.ensures.stay (service c)
+pub returns-then-is_service_file-clause-relative : goal.returns-then-is_service_file-clause-relative
+returns-then-is_service_file-clause-relative c = relative_answer c.args.rules.now.renames c.args.path.now c.with_name.result c.with_name.ensures.stay (service c)
 
 other : (c : goal.After-with_package) → IfOk c.with_package.result (λ found. found ≡ renamed_path c.args.rules.now.renames c.args.path.now)
 other c =
     target_answer c.args.rules.now.renames c.args.path.now _ c.with_package.result c.with_package.ensures.stay
     (λ stay.
     ap (λ (t : Text). (take c.walk_over-walk.result.rest_at c.args.path.now ++ package_image c.args.rules.now.renames (take (c.package_end-end.result - c.walk_over-walk.result.rest_at) (drop c.walk_over-walk.result.rest_at c.args.path.now))) ++ t) (take_rest c.args.path.now c.package_end-end.result)
-    ∙ folder_told c.args.rules.now.renames stay.formed c.args.path.now c.walk_over-walk.result.rest_at c.walk_over-walk.result.file_at c.package_end-end.result c.walk_over-walk.ensures (sym c.is_services.ensures ∙ c.if-is_services.false) c.package_end-end.ensures)
+    ∙ folder_told c.args.rules.now.renames stay.formed c.args.path.now c.walk_over-walk.result.rest_at c.walk_over-walk.result.file_at c.package_end-end.result c.walk_over-walk.ensures (ap (λ (t : Text). is_service_file (take (c.walk_over-walk.result.file_at - c.walk_over-walk.result.rest_at) (drop c.walk_over-walk.result.rest_at c.args.path.now)) t) (sym (take_rest c.args.path.now c.walk_over-walk.result.file_at)) ∙ sym c.is_service_file.ensures ∙ c.if-is_service_file.false) c.package_end-end.ensures)
     c.with_package.ensures.found
 
-pub returns-else-is_services-clause-target : goal.returns-else-is_services-clause-target
-returns-else-is_services-clause-target c = other c
+pub returns-else-is_service_file-clause-target : goal.returns-else-is_service_file-clause-target
+returns-else-is_service_file-clause-target c = other c
 
-pub returns-else-is_services-clause-stays : goal.returns-else-is_services-clause-stays
-returns-else-is_services-clause-stays c = stays_answer c.args.rules.now.renames c.args.path.now c.with_package.result c.with_package.ensures.stay
+pub returns-else-is_service_file-clause-stays : goal.returns-else-is_service_file-clause-stays
+returns-else-is_service_file-clause-stays c = stays_answer c.args.rules.now.renames c.args.path.now c.with_package.result c.with_package.ensures.stay
 
-pub returns-else-is_services-clause-relative : goal.returns-else-is_services-clause-relative
-returns-else-is_services-clause-relative c = relative_answer c.args.rules.now.renames c.args.path.now c.with_package.result c.with_package.ensures.stay (other c)
+pub returns-else-is_service_file-clause-relative : goal.returns-else-is_service_file-clause-relative
+returns-else-is_service_file-clause-relative c = relative_answer c.args.rules.now.renames c.args.path.now c.with_package.result c.with_package.ensures.stay (other c)
