@@ -5,6 +5,7 @@ ghost use Rattle.desk_ledger.specs.Ledger.{Rose};
 ghost use Rattle.desk_report.specs.Written.{writing, WritesFront};
 ghost use Rattle.desk_report.specs.Texts.{line_text, summary_text};
 ghost use Rattle.desk_report.specs.declared.lines.Line.TheVariants as line;
+ghost use Rattle.desk_report.specs.declared.lines.Detail.TheVariants as detail;
 
 use crate::pieces::{Piece, write_pieces};
 use crate::reasons::write_refused;
@@ -108,6 +109,32 @@ pub fn write_line<O: Sink>(line: &Line, out: &mut O) -> Result<(), SinkFault>
     }
 }
 
+/// Writes the line of a service file that was written.
+fn write_service<'x, O: Sink>(
+    path: &'x [u8],
+    target: &'x [u8],
+    changed: u32,
+    out: &mut O,
+) -> Result<(), SinkFault>
+    ensures ok { OnOk result (O.told out.new ≡ writing (line_text (line.Written path.now target.now (detail.Service changed))) (O.told out.old)) }
+    ensures err { OnErr result (WritesFront (line_text (line.Written path.now target.now (detail.Service changed))) (O.told out.old) (O.told out.new)) }
+    ensures counts { O.faults out.old ≤ O.faults out.new }
+    ensures failed { OnErr result (Rose (O.faults out.old) (O.faults out.new)) }
+{
+    write_pieces(
+        out,
+        &[
+            Piece::Plain(b"written "),
+            Piece::Shown(path),
+            Piece::Plain(b" "),
+            Piece::Shown(target),
+            Piece::Plain(b" service changed="),
+            Piece::Number(changed as u64),
+            Piece::Plain(b"\n"),
+        ],
+    )
+}
+
 /// Writes the line of a file that was written.
 fn write_written<'x, O: Sink>(
     path: &'x Text,
@@ -146,18 +173,7 @@ fn write_written<'x, O: Sink>(
                 Piece::Plain(b"\n"),
             ],
         ),
-        Detail::Service { changed } => write_pieces(
-            out,
-            &[
-                Piece::Plain(b"written "),
-                Piece::Shown(path),
-                Piece::Plain(b" "),
-                Piece::Shown(target),
-                Piece::Plain(b" service changed="),
-                Piece::Number(changed as u64),
-                Piece::Plain(b"\n"),
-            ],
-        ),
+        Detail::Service { changed } => write_service(path, target, changed, out),
         Detail::Copy => write_pieces(
             out,
             &[

@@ -2,9 +2,10 @@
 
 ghost use Rattle.std.specs.Prelude.{◌≡◌, ◌+◌};
 
-use crate::kinds::{KINDS, name_of};
+use crate::kinds::KINDS;
 use desk_base::FaultKind;
-use std::io;
+use desk_report::kind_name;
+use std::{io, str};
 
 /// Counts of files, of their bytes, and of what came of each. A count that reaches its type's end stands still.
 #[derive(Debug, Drop)]
@@ -69,7 +70,8 @@ impl Counts {
         for kind in KINDS.iter() {
             let count = self.faults[*kind as usize];
             if count > 0 {
-                println!(rt; "fault {} {}", name_of(*kind), count)?;
+                let name = str::from_utf8(kind_name(*kind)).unwrap_or("unnamed");
+                println!(rt; "fault {name} {count}")?;
             }
         }
         Ok(())

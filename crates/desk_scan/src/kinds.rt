@@ -1,4 +1,4 @@
-//! The kinds of faults and their names.
+//! The kinds of faults.
 
 use desk_base::FaultKind;
 
@@ -25,29 +25,3 @@ pub const KINDS: [FaultKind; 20] = [
     FaultKind::Trailing,
     FaultKind::Twins,
 ];
-
-/// The name of a kind, as it is printed.
-pub fn name_of(kind: FaultKind) -> &'static str {
-    match kind {
-        FaultKind::Magic => "magic",
-        FaultKind::Version => "version",
-        FaultKind::Truncated => "truncated",
-        FaultKind::PoolCount => "pool-count",
-        FaultKind::Tag => "tag",
-        FaultKind::Utf8Form => "utf8-form",
-        FaultKind::Index => "index",
-        FaultKind::RefKind => "ref-kind",
-        FaultKind::ClassName => "class-name",
-        FaultKind::Descriptor => "descriptor",
-        FaultKind::AttributeLength => "attribute-length",
-        FaultKind::CodeLength => "code-length",
-        FaultKind::FrameTag => "frame-tag",
-        FaultKind::TypeTag => "type-tag",
-        FaultKind::ElementTag => "element-tag",
-        FaultKind::TargetType => "target-type",
-        FaultKind::PathKind => "path-kind",
-        FaultKind::Depth => "depth",
-        FaultKind::Trailing => "trailing",
-        FaultKind::Twins => "twins",
-    }
-}
