@@ -4,7 +4,6 @@ use Rattle.desk_base.specs.Names.{Text}
 use Rattle.desk_base.specs.declared.faults.Malformed.{Malformed}
 use Rattle.desk_format.specs.Classes.{Class, read_class, fault_in, class_fault}
 use Rattle.desk_format.specs.NewClass.{Refusal, refusal}
-use Rattle.desk_report.specs.declared.lines.Reason.{Reason}
 use Rattle.desk_rewrite.specs.Refused.{Refuses}
 use Rattle.desk_images.specs.RuleImages.{images_of}
 use Rattle.desk_rewrite.specs.declared.rewriting.RewriteFault.{RewriteFault}
@@ -15,7 +14,7 @@ use Rattle.desk_paths.specs.declared.Kind.TheVariants as kinds
 use Rattle.desk_paths.specs.Kinds.{kind_of}
 use Rattle.desk_file.specs.Images.{image as image_at, image_by, treatment, treatment_by}
 use Rattle.desk_file.specs.declared.treatments.Treatment.TheVariants.{Names, Copy}
-use Rattle.desk_file.specs.Classes.{renamed_image, unless_refused, reason_of, image_of_read, class_image}
+use Rattle.desk_file.specs.Classes.{renamed_image, unless_refused, image_of_read, class_image}
 use Rattle.desk_file.specs.Faults.{IsClassFault, file_fault}
 use Rattle.desk_file.specs.declared.images.Image.{Image}
 

@@ -1,19 +1,25 @@
 -- When a file has no image.
-use Rattle.std.specs.Prelude.{◌≡◌, ⊤, Err}
+use Rattle.std.specs.Prelude.{◌≡◌, ⊤, Result, Err}
 use Rattle.desk_base.specs.Names.{Text}
+use Rattle.desk_report.specs.declared.lines.Reason.{Reason}
 use Rattle.desk_report.specs.declared.lines.Reason.TheVariants as reason
 use Rattle.desk_rewrite.specs.declared.rewriting.RewriteFault.{RewriteFault}
 use Rattle.desk_rewrite.specs.declared.rewriting.RewriteFault.TheVariants as rewrite
 use Rattle.desk_rules.specs.Rules.{Rules}
 use Rattle.desk_file.specs.Classes.{class_image}
 use Rattle.desk_file.specs.Images.{image, service_image}
+use Rattle.desk_file.specs.declared.images.Image.{Image}
 use Rattle.desk_file.specs.declared.images.FileFault.{FileFault}
 use Rattle.desk_file.specs.declared.images.FileFault.TheVariants.{Refused, Memory}
 
--- a service file has none for this reason; want of memory comes freely
+-- there is no image for this reason; want of memory comes freely
+abbrev pub IsFaultOf : Result Image Reason → FileFault → Type 0
+IsFaultOf made (Refused reason) = made ≡ Err reason
+IsFaultOf made Memory = ⊤
+
+-- a service file has none for this reason
 abbrev pub IsServiceFault : Rules → Text → FileFault → Type 0
-IsServiceFault rules bytes (Refused reason) = service_image rules bytes ≡ Err reason
-IsServiceFault rules bytes Memory = ⊤
+IsServiceFault rules bytes fault = IsFaultOf (service_image rules bytes) fault
 
 -- why a class that reads has none
 abbrev pub file_fault : RewriteFault → FileFault
@@ -22,12 +28,10 @@ file_fault (rewrite.PoolFull count needed) = Refused (reason.PoolFull count need
 file_fault (rewrite.Twins first second) = Refused (reason.Twins first second)
 file_fault rewrite.Memory = Memory
 
--- a class has none for this reason; want of memory comes freely
+-- a class has none for this reason
 abbrev pub IsClassFault : Rules → Text → FileFault → Type 0
-IsClassFault rules bytes (Refused reason) = class_image rules bytes ≡ Err reason
-IsClassFault rules bytes Memory = ⊤
+IsClassFault rules bytes fault = IsFaultOf (class_image rules bytes) fault
 
--- a file has none for this reason; want of memory comes freely
+-- a file has none for this reason
 abbrev pub IsFileFault : Rules → Text → Text → FileFault → Type 0
-IsFileFault rules path bytes (Refused reason) = image rules path bytes ≡ Err reason
-IsFileFault rules path bytes Memory = ⊤
+IsFileFault rules path bytes fault = IsFaultOf (image rules path bytes) fault

@@ -1,7 +1,6 @@
 //! The image of a class.
 
-ghost use Rattle.std.specs.Prelude.{◌≡◌, ◌≤◌, None, Ok, IfOk, IfErr, length};
-ghost use Rattle.desk_format.specs.Classes.{class_fault};
+ghost use Rattle.std.specs.Prelude.{◌≡◌, ◌≤◌, Ok, IfOk, IfErr, length};
 ghost use Rattle.desk_file.specs.Classes.{class_image};
 ghost use Rattle.desk_file.specs.Faults.{IsClassFault, file_fault};
 
@@ -32,13 +31,23 @@ fn refused(fault: RewriteFault) -> FileFault
     }
 }
 
-/// The image of a class that reads.
-fn rewritten(alloc: Global, rules: &RuleSet, view: &ClassView<'_>) -> Result<Image, FileFault>
-    requires { class_fault view.now ≡ None }
-    ensures ok { IfOk result (λ found. class_image rules.now view.now ≡ Ok found) }
-    ensures err { IfErr result (IsClassFault rules.now view.now) }
+/// The image of a class of at most 67,108,864 bytes: the new class, in which each use of a text has the image of the text,
+/// and all else stays. `Refused` comes exactly where there is none: `Malformed` with the first fault of bytes that are no
+/// well-formed class, else `Overlong`, `PoolFull` or `Twins`, in this order. The only other error is want of memory.
+#[tactic(auto, using(crate::proofs::ClassImages::malformed))]
+pub(crate) fn class_image(alloc: Global, rules: &RuleSet, bytes: &[u8]) -> Result<Image, FileFault>
+    requires { length bytes.now ≤ 67108864 }
+    ensures ok { IfOk result (λ found. class_image rules.now bytes.now ≡ Ok found) }
+    ensures err { IfErr result (IsClassFault rules.now bytes.now) }
 {
-    match rewrite(alloc, view, rules, &NoImages::new(rules)) {
+    let view = match ClassView::read(alloc, bytes) {
+        Ok(view) => view,
+        Err(ReadFault::Malformed(fault)) => {
+            return Err(FileFault::Refused(Reason::Malformed(fault)));
+        }
+        Err(ReadFault::Memory) => return Err(FileFault::Memory),
+    };
+    match rewrite(alloc, &view, rules, &NoImages::new(rules)) {
         Ok(
             Rewritten {
                 bytes,
@@ -56,21 +65,5 @@ fn rewritten(alloc: Global, rules: &RuleSet, view: &ClassView<'_>) -> Result<Ima
             },
         }),
         Err(fault) => Err(refused(fault)),
-    }
-}
-
-/// The image of a class of at most 67,108,864 bytes: the new class, in which each use of a text has the image of the text,
-/// and all else stays. `Refused` comes exactly where there is none: `Malformed` with the first fault of bytes that are no
-/// well-formed class, else `Overlong`, `PoolFull` or `Twins`, in this order. The only other error is want of memory.
-#[tactic(auto, using(crate::proofs::ClassImages::malformed))]
-pub(crate) fn class_image(alloc: Global, rules: &RuleSet, bytes: &[u8]) -> Result<Image, FileFault>
-    requires { length bytes.now ≤ 67108864 }
-    ensures ok { IfOk result (λ found. class_image rules.now bytes.now ≡ Ok found) }
-    ensures err { IfErr result (IsClassFault rules.now bytes.now) }
-{
-    match ClassView::read(alloc, bytes) {
-        Ok(view) => rewritten(alloc, rules, &view),
-        Err(ReadFault::Malformed(fault)) => Err(FileFault::Refused(Reason::Malformed(fault))),
-        Err(ReadFault::Memory) => Err(FileFault::Memory),
     }
 }

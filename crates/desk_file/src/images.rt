@@ -1,8 +1,8 @@
 //! The image of a file.
 
-ghost use Rattle.std.specs.Prelude.{◌≡◌, ◌≤◌, Ok, IfOk, IfErr, length};
-ghost use Rattle.desk_file.specs.Faults.{IsFileFault, IsServiceFault};
-ghost use Rattle.desk_file.specs.Images.{image, service_image};
+ghost use Rattle.std.specs.Prelude.{◌≡◌, ◌≤◌, Ok, IfOk, IfErr, length, unwrap_or};
+ghost use Rattle.desk_file.specs.Faults.{IsFaultOf, IsFileFault, IsServiceFault};
+ghost use Rattle.desk_file.specs.Images.{copied, image, image_by, service_image};
 
 use crate::classes::class_image;
 use crate::treatments::{Treatment, treatment_of};
@@ -55,6 +55,25 @@ fn service_image(alloc: Global, rules: &RuleSet, bytes: &[u8]) -> Result<Image, 
     }
 }
 
+/// The image of a file by its treatment, and none where the file is copied.
+fn changed_image(
+    alloc: Global,
+    rules: &RuleSet,
+    treatment: Treatment,
+    bytes: &[u8],
+) -> Result<Option<Image>, FileFault>
+    requires { length bytes.now ≤ 67108864 }
+    ensures ok { IfOk result (λ found. image_by rules.now bytes.now treatment ≡ Ok (unwrap_or found (copied bytes.now))) }
+    ensures err { IfErr result (IsFaultOf (image_by rules.now bytes.now treatment)) }
+{
+    match treatment {
+        Treatment::Providers => Ok(Some(service_image(alloc, rules, bytes)?)),
+        Treatment::Names => Ok(Some(class_image(alloc, rules, bytes)?)),
+        Treatment::Copy => Ok(None),
+        Treatment::NotBuilt => Err(FileFault::Refused(Reason::NotBuilt)),
+    }
+}
+
 /// The image of a file of at most 67,108,864 bytes, by its path. A file that is copied keeps its bytes,
 /// and no others are made. `Refused` comes exactly where the file has no image: `Malformed`, `Overlong`,
 /// `PoolFull` or `Twins` for a selected class; `BadLine` for a selected service file with a provider that
@@ -71,14 +90,13 @@ pub fn image_of(
     ensures ok { IfOk result (λ found. image rules.now path.now bytes ≡ Ok found) }
     ensures err { IfErr result (IsFileFault rules.now path.now bytes) }
 {
-    match treatment_of(alloc, rules, path)? {
-        Treatment::Providers => service_image(alloc, rules, bytes.as_bytes()),
-        Treatment::Names => class_image(alloc, rules, bytes.as_bytes()),
-        Treatment::Copy => Ok(Image {
+    let treatment = treatment_of(alloc, rules, path)?;
+    match changed_image(alloc, rules, treatment, bytes.as_bytes())? {
+        Some(image) => Ok(image),
+        None => Ok(Image {
             bytes,
             detail: Detail::Copy,
         }),
-        Treatment::NotBuilt => Err(FileFault::Refused(Reason::NotBuilt)),
     }
 }
 
@@ -94,13 +112,12 @@ pub(crate) fn image_of_bytes(
     ensures ok { IfOk result (λ found. image rules.now path.now bytes.now ≡ Ok found) }
     ensures err { IfErr result (IsFileFault rules.now path.now bytes.now) }
 {
-    match treatment_of(alloc, rules, path)? {
-        Treatment::Providers => service_image(alloc, rules, bytes),
-        Treatment::Names => class_image(alloc, rules, bytes),
-        Treatment::Copy => Ok(Image {
+    let treatment = treatment_of(alloc, rules, path)?;
+    match changed_image(alloc, rules, treatment, bytes)? {
+        Some(image) => Ok(image),
+        None => Ok(Image {
             bytes: Text::from_bytes(alloc, bytes)?,
             detail: Detail::Copy,
         }),
-        Treatment::NotBuilt => Err(FileFault::Refused(Reason::NotBuilt)),
     }
 }
