@@ -40,7 +40,7 @@ fn rewritten(
     class: &[u8],
     direct: &[u8],
 ) -> Result<Result<Rewritten, RewriteFault>, Fail> {
-    if class.len() > 1000 {
+    if class.len() > 1_000_000 {
         return Ok(Err(RewriteFault::Memory));
     }
     let rules = rules_with(alloc, direct)?;
@@ -114,6 +114,20 @@ fn a_string_goes_by_its_direct_rule(rt: HostRuntime) -> Result<(), Fail> {
     Ok(())
 }
 
+/// `class javax.servlet.G` with a Class `javax.servlet.F`, and a String of each of the two texts.
+const TWO_SHARED: &[u8] =
+    b"\xCA\xFE\xBA\xBE\x00\x00\x00\x34\x00\x09\x01\x00\x0Fjavax/servlet/G\x07\x00\x01\x01\x00\x10java/lang/Object\x07\x00\x03\x08\x00\x01\x01\x00\x0Fjavax/servlet/F\x07\x00\x06\x08\x00\x06\x00\x21\x00\x02\x00\x04\x00\x00\x00\x00\x00\x00\x00\x00";
+
+/// The new texts are added in byte order, and not in the order of their uses.
+const TWO_SPLIT: &[u8] =
+    b"\xCA\xFE\xBA\xBE\x00\x00\x00\x34\x00\x0B\x01\x00\x0Fjavax/servlet/G\x07\x00\x0A\x01\x00\x10java/lang/Object\x07\x00\x03\x08\x00\x01\x01\x00\x0Fjavax/servlet/F\x07\x00\x09\x08\x00\x06\x01\x00\x11jakarta/servlet/F\x01\x00\x11jakarta/servlet/G\x00\x21\x00\x02\x00\x04\x00\x00\x00\x00\x00\x00\x00\x00";
+
+#[test]
+fn new_texts_are_added_in_byte_order(rt: HostRuntime) -> Result<(), Fail> {
+    assert!(rt; becomes(rt.alloc(), TWO_SHARED, b"", TWO_SPLIT, [2, 2, 0])?);
+    Ok(())
+}
+
 /// `abstract class A` with a method `f(javax.servlet.F)` and a method `f(jakarta.servlet.F)`.
 const TWINS: &[u8] =
     b"\xCA\xFE\xBA\xBE\x00\x00\x00\x34\x00\x08\x01\x00\x01A\x07\x00\x01\x01\x00\x10java/lang/Object\x07\x00\x03\x01\x00\x01f\x01\x00\x14(Ljavax/servlet/F;)V\x01\x00\x16(Ljakarta/servlet/F;)V\x04\x21\x00\x02\x00\x04\x00\x00\x00\x00\x00\x02\x04\x01\x00\x05\x00\x06\x00\x00\x04\x01\x00\x05\x00\x07\x00\x00\x00\x00";
@@ -144,5 +158,137 @@ fn a_text_that_is_no_signature_is_odd(rt: HostRuntime) -> Result<(), Fail> {
 #[test]
 fn a_servlet_is_rewritten(rt: HostRuntime) -> Result<(), Fail> {
     assert!(rt; becomes(rt.alloc(), &SERVLET, b"", &NEW_SERVLET, [4, 0, 0])?);
+    Ok(())
+}
+
+/// The class with the shared text: the count of its pool, the index of its name, so many empty texts behind its entries, and
+/// what stands behind them.
+fn with_empty_texts(
+    alloc: Global,
+    count: u16,
+    name: u16,
+    empty: u16,
+    added: &[u8],
+) -> Result<Text, Fail> {
+    let mut class = Text::from_bytes(alloc, b"\xCA\xFE\xBA\xBE\x00\x00\x00\x34")?;
+    class.append(&count.to_be_bytes())?;
+    class.append(b"\x01\x00\x0Fjavax/servlet/F\x07")?;
+    class.append(&name.to_be_bytes())?;
+    class.append(b"\x01\x00\x10java/lang/Object\x07\x00\x03\x08\x00\x01")?;
+    for _ in 0..empty {
+        class.append(&[1, 0, 0])?;
+    }
+    class.append(added)?;
+    class.append(b"\x00\x21\x00\x02\x00\x04\x00\x00\x00\x00\x00\x00\x00\x00")?;
+    Ok(class)
+}
+
+#[test]
+fn a_pool_of_65534_takes_one_more_text(rt: HostRuntime) -> Result<(), Fail> {
+    let alloc = rt.alloc();
+    let class = with_empty_texts(alloc, 65_534, 1, 65_528, b"")?;
+    let new = with_empty_texts(
+        alloc,
+        65_535,
+        65_534,
+        65_528,
+        b"\x01\x00\x11jakarta/servlet/F",
+    )?;
+    assert!(rt; becomes(alloc, class.as_bytes(), b"", new.as_bytes(), [1, 1, 0])?);
+    Ok(())
+}
+
+#[test]
+fn a_pool_of_65535_is_full(rt: HostRuntime) -> Result<(), Fail> {
+    let alloc = rt.alloc();
+    let class = with_empty_texts(alloc, 65_535, 1, 65_529, b"")?;
+    assert_eq!(rt;
+        rewritten(alloc, class.as_bytes(), b"")?.err(),
+        Some(RewriteFault::PoolFull {
+            count: 65_535,
+            needed: 1
+        })
+    );
+    Ok(())
+}
+
+/// A class whose name has so many bytes: a package, and letters behind it.
+fn with_name(alloc: Global, package: &[u8], length: u16) -> Result<Text, Fail> {
+    let mut class = Text::from_bytes(alloc, b"\xCA\xFE\xBA\xBE\x00\x00\x00\x34\x00\x05\x01")?;
+    class.append(&length.to_be_bytes())?;
+    class.append(package)?;
+    for _ in package.len()..length as usize {
+        class.append(b"F")?;
+    }
+    class.append(b"\x07\x00\x01\x01\x00\x10java/lang/Object\x07\x00\x03")?;
+    class.append(b"\x00\x21\x00\x02\x00\x04\x00\x00\x00\x00\x00\x00\x00\x00")?;
+    Ok(class)
+}
+
+#[test]
+fn a_text_of_65535_bytes_is_written(rt: HostRuntime) -> Result<(), Fail> {
+    let alloc = rt.alloc();
+    let class = with_name(alloc, b"javax/servlet/", 65_533)?;
+    let new = with_name(alloc, b"jakarta/servlet/", 65_535)?;
+    assert!(rt; becomes(alloc, class.as_bytes(), b"", new.as_bytes(), [1, 0, 0])?);
+    Ok(())
+}
+
+#[test]
+fn a_text_of_65536_bytes_is_overlong(rt: HostRuntime) -> Result<(), Fail> {
+    let alloc = rt.alloc();
+    let class = with_name(alloc, b"javax/servlet/", 65_534)?;
+    assert_eq!(rt;
+        rewritten(alloc, class.as_bytes(), b"")?.err(),
+        Some(RewriteFault::Overlong {
+            index: 1,
+            length: 65_536
+        })
+    );
+    Ok(())
+}
+
+/// A class signature in which a class stands in so many argument lists, one within another.
+fn nested(alloc: Global, depth: u16, class: &[u8]) -> Result<Text, Fail> {
+    let mut signature = Text::empty(alloc);
+    for _ in 0..depth {
+        signature.append(b"Lq/A<")?;
+    }
+    signature.append(class)?;
+    for _ in 0..depth {
+        signature.append(b">;")?;
+    }
+    Ok(signature)
+}
+
+/// `class A` with a signature of so many bytes.
+fn with_signature(alloc: Global, length: u16, signature: &Text) -> Result<Text, Fail> {
+    let mut class = Text::from_bytes(alloc, b"\xCA\xFE\xBA\xBE\x00\x00\x00\x34\x00\x07")?;
+    class.append(b"\x01\x00\x01A\x07\x00\x01\x01\x00\x10java/lang/Object\x07\x00\x03")?;
+    class.append(b"\x01\x00\x09Signature\x01")?;
+    class.append(&length.to_be_bytes())?;
+    class.append(signature.as_bytes())?;
+    class.append(b"\x00\x21\x00\x02\x00\x04\x00\x00\x00\x00\x00\x00")?;
+    class.append(b"\x00\x01\x00\x05\x00\x00\x00\x02\x00\x06")?;
+    Ok(class)
+}
+
+#[test]
+fn a_signature_that_nests_64_deep_is_renamed(rt: HostRuntime) -> Result<(), Fail> {
+    let alloc = rt.alloc();
+    let old = nested(alloc, 64, b"Ljavax/servlet/F;")?;
+    let new = nested(alloc, 64, b"Ljakarta/servlet/F;")?;
+    let class = with_signature(alloc, 465, &old)?;
+    let renamed = with_signature(alloc, 467, &new)?;
+    assert!(rt; becomes(alloc, class.as_bytes(), b"", renamed.as_bytes(), [1, 0, 0])?);
+    Ok(())
+}
+
+#[test]
+fn a_signature_that_nests_65_deep_is_odd(rt: HostRuntime) -> Result<(), Fail> {
+    let alloc = rt.alloc();
+    let odd = nested(alloc, 65, b"Ljavax/servlet/F;")?;
+    let class = with_signature(alloc, 472, &odd)?;
+    assert!(rt; becomes(alloc, class.as_bytes(), b"", class.as_bytes(), [0, 0, 1])?);
     Ok(())
 }

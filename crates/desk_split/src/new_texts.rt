@@ -20,6 +20,9 @@ use desk_base::{Memory, PoolView};
 use std::alloc::Global;
 use std::collections::{BTreeMap, BTreeSet};
 
+/// The greatest count of a constant pool (JVMS 4.1).
+const GREATEST_COUNT: usize = 65535;
+
 /// The texts of a new pool, and the new index of each use.
 #[derive(Debug, Drop)]
 pub struct NewTexts<'a> {
@@ -148,7 +151,7 @@ fn with_missing<'a>(
     let count = texts.len();
     let kept = places(alloc, &texts, 0)?;
     let missing = missing_texts(alloc, &texts, &kept, wishes)?;
-    if count + missing.len() > 65535 {
+    if count + missing.len() > GREATEST_COUNT {
         return Err(SplitFault::PoolFull {
             count: count as u16,
             needed: missing.len() as u32,

@@ -8,12 +8,12 @@ use Rattle.desk_split.specs.declared.wishes.Wish.{Wish}
 use Rattle.desk_split.proofs.Made.{missing_few, some_missing}
 use Rattle.desk_split.proofs.new_texts.with_missing.Goals as goal
 
-pub overflow_cast-result-then-count-len-gt65535 : goal.overflow_cast-result-then-count-len-gt65535
-overflow_cast-result-then-count-len-gt65535 c =
+pub overflow_cast-result-then-count-len-gt-GREATEST_COUNT : goal.overflow_cast-result-then-count-len-gt-GREATEST_COUNT
+overflow_cast-result-then-count-len-gt-GREATEST_COUNT c =
     let few : length (missing_among c.deref-2.result.now c.args.wishes.now) ≤ length c.args.wishes.now = missing_few c.deref-2.result.now c.args.wishes.now in
     let same : length (in_set c.in_ok-missing.missing) ≡ length (missing_among c.deref-2.result.now c.args.wishes.now) = ap length c.in_ok-missing.ensures in
     let keys : length (in_set c.in_ok-missing.missing) ≡ length c.in_ok-missing.missing.keys = length-map c.in_ok-missing.missing.keys _ in
-    omega (arith, c.len-then-count-len-gt65535.ensures.len, c.requires.few)
+    omega (arith, c.len-then-count-len-gt-GREATEST_COUNT.ensures.len, c.requires.few)
 
 pub returns-clause-split : goal.returns-clause-split
 returns-clause-split c =
