@@ -1,0 +1,237 @@
+//! A keeper over an SQLite file.
+
+ghost use Rattle.std.specs.Prelude.{◌≡◌, ◌≤◌, ◌↔◌, None, Some, Err, [], IsTrue, IsSome, IfOk, IfSome, OnOk, OnErr, option_map};
+ghost use Rattle.std.specs.FinMap as fin;
+ghost use Rattle.desk_ledger.specs.Ledger.{Rose, row_at, with_header, with_row, without_row};
+ghost use Rattle.desk_sqlite.specs.OverFile.{attached_in, held_in_memory, told_by, waiting_in};
+
+use crate::opened::Opened;
+use desk_base::Text;
+use desk_ledger::{Header, Keeper, KeeperFault, Row};
+use std::marker::Model;
+
+/// A keeper over an SQLite file. It tells nothing. It reads the file once, when it is attached, and
+/// answers from memory. The header, and the removal of a row, are in the file when their call answers; of
+/// the rows that are put, up to 1,024 wait to be written together, at the latest before the next removal.
+/// Each refusal of the outside counts as a fault. Contracts see the attached name, what it answers from,
+/// the rows that wait, the count of faults, and how often a row was asked for.
+#[derive(Drop)]
+pub struct SqliteKeeper<'r> {
+    rt: &'r HostRuntime,
+    opened: Option<Opened>,
+    faults: u64,
+    asked: u32,
+}
+
+impl<'r> Model for SqliteKeeper<'r> {
+    ghost use Rattle.desk_sqlite.specs.OverFile.{OverFile, over_file_code};
+
+    ghost Value = { OverFile };
+
+    ghost coded = { over_file_code };
+
+    ghost view = { λ k. record { opened = k.opened; faults = k.faults; asked = k.asked } };
+}
+
+impl<'r> SqliteKeeper<'r> {
+    /// A keeper that is attached to no name. It takes no memory.
+    pub fn new(rt: &'r HostRuntime) -> SqliteKeeper<'r>
+        ensures { result ≡ record { opened = None; faults = 0; asked = 0 } }
+    {
+        SqliteKeeper {
+            rt,
+            opened: None,
+            faults: 0,
+            asked: 0,
+        }
+    }
+
+    /// How often `find` was called; the count stands still at 4,294,967,295.
+    pub fn asked(&self) -> u32
+        ensures { result ≡ self.now.asked }
+    {
+        self.asked
+    }
+
+    /// Counts a fault where a call failed.
+    fn count<T>(&mut self, outcome: Result<T, KeeperFault>) -> Result<T, KeeperFault>
+        ensures same { result ≡ outcome }
+        ensures opened { self.new.opened ≡ self.old.opened }
+        ensures asked { self.new.asked ≡ self.old.asked }
+        ensures counts { self.old.faults ≤ self.new.faults }
+        ensures failed { result ≡ Err KeeperFault.Failed → Rose self.old.faults self.new.faults }
+    {
+        if let Err(KeeperFault::Failed) = &outcome {
+            self.faults = self.faults.saturating_add(1);
+        }
+        outcome
+    }
+
+    /// Whether this name is attached.
+    fn is_attached(&self, name: &Text) -> bool
+        ensures { IsTrue result → attached_in self.now ≡ Some name.now }
+    {
+        match &self.opened {
+            Some(opened) => opened.is_named(name),
+            None => false,
+        }
+    }
+
+    /// Writes the rows that wait.
+    fn write_waiting(&mut self) -> Result<(), KeeperFault>
+        ensures attached { attached_in self.new ≡ attached_in self.old }
+        ensures held { held_in_memory self.new ≡ held_in_memory self.old }
+        ensures ok { OnOk result (IfSome (waiting_in self.new) (λ rows. rows ≡ [])) }
+        ensures err { OnErr result (self.new ≡ self.old) }
+        ensures counts { self.new.faults ≡ self.old.faults }
+    {
+        match &mut self.opened {
+            Some(opened) => opened.write_waiting(),
+            None => Ok(()),
+        }
+    }
+
+    /// Opens the ledger of a name in place of the one that is open, unless it is open already.
+    fn open(&mut self, name: &Text) -> Result<(), KeeperFault>
+        ensures ok { OnOk result (attached_in self.new ≡ Some name.now) }
+        ensures waiting { OnOk result (IfSome (waiting_in self.new) (λ rows. rows ≡ [])) }
+        ensures err { OnErr result (attached_in self.new ≡ attached_in self.old) }
+        ensures held { OnErr result (held_in_memory self.new ≡ held_in_memory self.old) }
+        ensures counts { self.new.faults ≡ self.old.faults }
+    {
+        self.write_waiting()?;
+        if self.is_attached(name) {
+            return Ok(());
+        }
+        let opened = Opened::at(self.rt, name)?;
+        self.opened = Some(opened);
+        Ok(())
+    }
+
+    /// Writes the rows that wait to be written; after an error they go on waiting. It is `Failed` where the
+    /// outside refused, which counts as a fault, and `Memory` where memory ran out.
+    pub fn finish(&mut self) -> Result<(), KeeperFault>
+        ensures written { OnOk result (IfSome (waiting_in self.new) (λ rows. rows ≡ [])) }
+        ensures err { OnErr result (self.new.opened ≡ self.old.opened) }
+        ensures attached { attached_in self.new ≡ attached_in self.old }
+        ensures held { held_in_memory self.new ≡ held_in_memory self.old }
+        ensures counts { self.old.faults ≤ self.new.faults }
+        ensures failed { result ≡ Err KeeperFault.Failed → Rose self.old.faults self.new.faults }
+    {
+        let written = self.write_waiting();
+        self.count(written)
+    }
+}
+
+impl Keeper for SqliteKeeper<'_> {
+    ghost told = { told_by };
+
+    ghost attached = { attached_in };
+
+    ghost faults = { λ k. k.faults };
+
+    /// The rows that wait are written first. A name that is attached already stays as it is.
+    fn attach(&mut self, name: &Text) -> Result<(), KeeperFault>
+        ensures written { OnOk result (IfSome (waiting_in self.new) (λ rows. rows ≡ [])) }
+        ensures held { OnErr result (held_in_memory self.new ≡ held_in_memory self.old) }
+        ensures ok { OnOk result (attached_in self.new ≡ Some name.now) }
+        ensures err { OnErr result (attached_in self.new ≡ attached_in self.old) }
+        ensures told { told_by self.new ≡ told_by self.old }
+        ensures counts { self.old.faults ≤ self.new.faults }
+        ensures failed { result ≡ Err KeeperFault.Failed → Rose self.old.faults self.new.faults }
+    {
+        let opened = self.open(name);
+        self.count(opened)
+    }
+
+    /// It answers from memory.
+    fn header(&mut self) -> Result<Option<Header>, KeeperFault>
+        requires { IsSome (attached_in self.old) }
+        ensures held { IfOk result (λ header. IfSome (held_in_memory self.old) (λ l. header ≡ l.header)) }
+        ensures same { self.new ≡ self.old }
+        ensures found { IfOk result (λ header. IfSome (told_by self.old) (λ l. header ≡ l.header)) }
+        ensures told { told_by self.new ≡ told_by self.old }
+        ensures attached { attached_in self.new ≡ attached_in self.old }
+        ensures counts { self.old.faults ≤ self.new.faults }
+        ensures failed { result ≡ Err KeeperFault.Failed → Rose self.old.faults self.new.faults }
+    {
+        match &self.opened {
+            Some(opened) => Ok(opened.header()?),
+            None => unreachable!(),
+        }
+    }
+
+    /// The header is in the file when it answers.
+    fn set_header(&mut self, header: &Header) -> Result<(), KeeperFault>
+        requires { IsSome (attached_in self.old) }
+        ensures held { OnOk result (held_in_memory self.new ≡ option_map (with_header header.now) (held_in_memory self.old)) }
+        ensures same { OnErr result (self.new.opened ≡ self.old.opened) }
+        ensures waiting { waiting_in self.new ≡ waiting_in self.old }
+        ensures ok { OnOk result (told_by self.new ≡ option_map (with_header header.now) (told_by self.old)) }
+        ensures err { OnErr result (told_by self.new ≡ told_by self.old) }
+        ensures attached { attached_in self.new ≡ attached_in self.old }
+        ensures counts { self.old.faults ≤ self.new.faults }
+        ensures failed { result ≡ Err KeeperFault.Failed → Rose self.old.faults self.new.faults }
+    {
+        let set = match &mut self.opened {
+            Some(opened) => opened.set_header(header),
+            None => unreachable!(),
+        };
+        self.count(set)
+    }
+
+    /// It answers from memory.
+    fn find(&mut self, target: &Text) -> Result<Option<Row>, KeeperFault>
+        requires { IsSome (attached_in self.old) }
+        ensures held { IfOk result (λ row. IfSome (held_in_memory self.old) (λ l. row ≡ option_map (row_at target.now) (fin.get l.rows target.now))) }
+        ensures same { self.new.opened ≡ self.old.opened }
+        ensures found { IfOk result (λ row. IfSome (told_by self.old) (λ l. row ≡ option_map (row_at target.now) (fin.get l.rows target.now))) }
+        ensures told { told_by self.new ≡ told_by self.old }
+        ensures attached { attached_in self.new ≡ attached_in self.old }
+        ensures counts { self.old.faults ≤ self.new.faults }
+        ensures failed { result ≡ Err KeeperFault.Failed → Rose self.old.faults self.new.faults }
+    {
+        self.asked = self.asked.saturating_add(1);
+        match &self.opened {
+            Some(opened) => Ok(opened.find(target)?),
+            None => unreachable!(),
+        }
+    }
+
+    /// The row waits to be written.
+    fn put(&mut self, row: &Row) -> Result<(), KeeperFault>
+        requires { IsSome (attached_in self.old) }
+        ensures held { OnOk result (held_in_memory self.new ≡ option_map (with_row row.now) (held_in_memory self.old)) }
+        ensures unchanged { OnErr result (held_in_memory self.new ≡ held_in_memory self.old) }
+        ensures ok { OnOk result (told_by self.new ≡ option_map (with_row row.now) (told_by self.old)) }
+        ensures err { OnErr result (told_by self.new ≡ told_by self.old) }
+        ensures attached { attached_in self.new ≡ attached_in self.old }
+        ensures counts { self.old.faults ≤ self.new.faults }
+        ensures failed { result ≡ Err KeeperFault.Failed → Rose self.old.faults self.new.faults }
+    {
+        let put = match &mut self.opened {
+            Some(opened) => opened.put(row),
+            None => unreachable!(),
+        };
+        self.count(put)
+    }
+
+    /// The rows that wait are written, and the row is gone from the file, when it answers.
+    fn forget(&mut self, target: &Text) -> Result<(), KeeperFault>
+        requires { IsSome (attached_in self.old) }
+        ensures held { OnOk result (held_in_memory self.new ≡ option_map (without_row target.now) (held_in_memory self.old)) }
+        ensures written { OnOk result (IfSome (waiting_in self.new) (λ rows. rows ≡ [])) }
+        ensures same { OnErr result (self.new.opened ≡ self.old.opened) }
+        ensures ok { OnOk result (told_by self.new ≡ option_map (without_row target.now) (told_by self.old)) }
+        ensures err { OnErr result (told_by self.new ≡ told_by self.old) }
+        ensures attached { attached_in self.new ≡ attached_in self.old }
+        ensures counts { self.old.faults ≤ self.new.faults }
+        ensures failed { result ≡ Err KeeperFault.Failed → Rose self.old.faults self.new.faults }
+    {
+        let forgotten = match &mut self.opened {
+            Some(opened) => opened.forget(target),
+            None => unreachable!(),
+        };
+        self.count(forgotten)
+    }
+}
