@@ -40,7 +40,7 @@ def plain(place, turn):
 
 
 def migrated(program, place, turn):
-    words = [program, "run", "--rules", f"{place}/rules", "--from", f"{place}/app", "--to", f"{place}/out{turn}", "--ledger", f"{place}/ledger"]
+    words = [program, "run", "--rules", f"{place}/rules", "--from", f"{place}/app", "--to", f"{place}/out{turn}", "--ledger", f"{place}/ledger{turn}"]
     seconds, kib, status = timed(words)
     if status not in (0, 2):
         sys.exit(f"the program ended with {status}")

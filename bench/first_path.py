@@ -44,7 +44,7 @@ def digested(place):
 
 
 def migrated(program, place, turn):
-    return timed([program, "run", "--rules", f"{place}/rules", "--from", f"{place}/app", "--to", f"{place}/out{turn}", "--ledger", f"{place}/ledger"])
+    return timed([program, "run", "--rules", f"{place}/rules", "--from", f"{place}/app", "--to", f"{place}/out{turn}", "--ledger", f"{place}/ledger{turn}"])
 
 
 def main():

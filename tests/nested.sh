@@ -137,7 +137,7 @@ ends "a path of ${#path} bytes" 23 "migrate: 23 limit path-length $path" run --r
 rm -rf long
 
 mkdir empty
-ends "a source without files" 0 'total files=0 written=0 kept=0 refused=0 renamed=0 added=0' run --rules rules --from empty --to out --ledger l2
+ends "a source without files" 0 'total files=0 written=0 kept=0 refused=0 renamed=0 added=0' run --rules rules --from empty --to out --ledger l3
 
 ends "another first word" 20 "$usage" generate --count 0
 

@@ -8,7 +8,8 @@ if [ ! -x "$program" ]; then
   (cd crates/migrate && rt run >/dev/null) || true
   [ -x "$program" ] || { echo "$program was not built" >&2; exit 1; }
 fi
-rm -rf build/first
+rm -rf build/first build/first.ledger build/first.ledger-wal
+mkdir -p build
 "$program" run --rules examples/first/rules --from examples/first/app --to build/first --ledger build/first.ledger
 echo "migrated to build/first:" >&2
 (cd build/first && find . -type f | sort) >&2

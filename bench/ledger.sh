@@ -1,0 +1,14 @@
+#!/bin/sh
+# Times runs over 30,000 small files with the ledger on disk beside the same runs with the ledger in memory, and prints the
+# ratios: a first run, and a run that keeps every file, each with all folders on disk and in memory (/dev/shm).
+#
+# It needs python3 and the two programs built: `rt run` in crates/migrate and in crates/bench_ledger.
+set -eu
+here=$(cd "$(dirname "$0")/.." && pwd)
+for name in migrate bench_ledger; do
+    [ -x "$here/crates/$name/out/$name" ] || { echo "build crates/$name first: rt run" >&2; exit 1; }
+done
+disk=$(mktemp -d)
+memory=$(mktemp -d -p /dev/shm)
+trap 'rm -rf "$disk" "$memory"' EXIT
+exec python3 "$here/bench/ledger.py" "$here/crates/migrate/out/migrate" "$here/crates/bench_ledger/out/bench_ledger" "$disk" "$memory"
