@@ -4,13 +4,10 @@
 # stays as it is. The expected lines are written by hand.
 set -u
 cd "$(dirname "$0")/.."
-program=$PWD/crates/migrate/out/migrate
-[ -x "$program" ] || { echo "build the program first: examples/first/run.sh" >&2; exit 1; }
+. tests/common.sh
 command -v sqlite3 >/dev/null || { echo "skipped: sqlite3 isn't installed"; exit 0; }
-place=$(mktemp -d)
 trap 'chmod -R u+w "$place"; rm -rf "$place"' EXIT
 cd "$place" || exit 1
-passed=0 failed=0
 
 # check NAME WANTED GOT: the two texts are equal
 check() {
