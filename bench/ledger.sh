@@ -11,4 +11,4 @@ done
 disk=$(mktemp -d)
 memory=$(mktemp -d -p /dev/shm)
 trap 'rm -rf "$disk" "$memory"' EXIT
-exec python3 "$here/bench/ledger.py" "$here/crates/migrate/out/migrate" "$here/crates/bench_ledger/out/bench_ledger" "$disk" "$memory"
+python3 "$here/bench/ledger.py" "$here/crates/migrate/out/migrate" "$here/crates/bench_ledger/out/bench_ledger" "$disk" "$memory"
