@@ -34,10 +34,12 @@ def words_of(place):
 
 
 def clear(place):
+    """Removes what a run wrote, and waits until the disk has done so, since the next run would wait for it."""
     shutil.rmtree(f"{place}/out", ignore_errors=True)
     for name in ("ledger", "ledger-wal"):
         if os.path.exists(f"{place}/{name}"):
             os.remove(f"{place}/{name}")
+    os.sync()
 
 
 def in_file(program, place):
