@@ -2,6 +2,8 @@
 //! the program itself it shows what the ledger on disk costs. The microseconds of each run go to standard error.
 #![tactic(auto)]
 
+ghost use Rattle.std.specs.Prelude.{◌≡◌, ◌≢◌, ◌<◌, ◌+◌, ◌∷◌, [], ℕ, length};
+
 use desk_base::{Memory, Text};
 use desk_folders::DiskFolders;
 use desk_ledger::MemoryKeeper;
@@ -24,8 +26,11 @@ fn words_of(rt: &HostRuntime) -> io::Result<Vec<Text>> {
     Ok(words)
 }
 
-/// How many runs a word asks for: one digit.
-fn times_of(word: &Text) -> u8 {
+/// How many runs a word asks for: those of one digit, and no run by any other word.
+fn times_of(word: &Text) -> u8
+    ensures digit { (d : ℕ) → d < 10 → word.now ≡ (48 + d) ∷ [] → result ≡ d }
+    ensures other { length word.now ≢ 1 → result ≡ 0 }
+{
     match word.as_bytes() {
         [digit] => digit.saturating_sub(b'0'),
         _ => 0,
