@@ -1,5 +1,6 @@
 #!/usr/bin/env python3
-"""Writes rule files of 10 and 1,000 rules, and prints the times of look-ups as ratios to those of hashing."""
+"""Writes rule files of 10 and 1,000 rules, and prints the times of look-ups as ratios to those of hashing; and how the time
+to build a rule set grows with the number of exact renames."""
 import os
 import resource
 import subprocess
@@ -38,6 +39,19 @@ def best(mode, path):
     return min(seconds(mode, TIMES, path) - seconds(mode, 0, path) for _ in range(ROUNDS))
 
 
+def building(count):
+    """The least time to build the rule set of so many exact renames, of which none leads to another."""
+    path = os.path.join(folder, f"exact-{count}")
+    with open(path, "w") as file:
+        file.writelines(f"a{i}=b{i}\n" for i in range(count))
+    least = float("inf")
+    for _ in range(ROUNDS):
+        before = resource.getrusage(resource.RUSAGE_CHILDREN).ru_utime
+        subprocess.run([program, "look", "0", path], stdin=subprocess.DEVNULL, stdout=subprocess.DEVNULL, check=True)
+        least = min(least, resource.getrusage(resource.RUSAGE_CHILDREN).ru_utime - before)
+    return least
+
+
 few, many = rules(10), rules(1000)
 hashing = best("hash", few)
 ten, thousand = best("look", few), best("look", many)
@@ -45,3 +59,5 @@ print(f"hashing {NAMES} names: {hashing / TIMES * 1000:.2f} ms a pass")
 print(f"among 10 rules: {ten / hashing:.2f} times hashing, {NAMES * TIMES / ten / 1e6:.1f} million look-ups a second (aim: at most 4)")
 print(f"among 1,000 rules: {thousand / hashing:.2f} times hashing, {NAMES * TIMES / thousand / 1e6:.1f} million look-ups a second (aim: at most 4)")
 print(f"1,000 rules against 10: {thousand / ten:.2f} (aim: at most 2)")
+fewer, more = building(15_000), building(60_000)
+print(f"building 60,000 exact renames: {more:.2f} s, {more / fewer:.1f} times 15,000 (aim: at most 5)")

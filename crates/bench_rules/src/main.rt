@@ -3,7 +3,7 @@
 #![tactic(auto)]
 
 use desk_base::Text;
-use desk_rules::{RuleFiles, RuleSet};
+use desk_rules::{RuleFiles, RuleSet, Separator};
 use std::hash::{BuildHasher, BuildHasherDefault, DefaultHasher};
 use std::{env, fs};
 
@@ -34,7 +34,7 @@ fn looked_up(rules: &RuleSet, name: &[u8]) -> u64 {
     if end > name.len() {
         return 0;
     }
-    match rules.package(&name[..end], b'/') {
+    match rules.package(&name[..end], Separator::Slash) {
         Some(front) => front.taken as u64,
         None => 0,
     }

@@ -38,10 +38,8 @@ fn walk_constant<P: PoolView, V: Visit>(
     ensures walks { Walks result (walk (read (P.pool pool.now) (rows (Layout.index UseKind.FieldDescriptor ∷ Layout.index UseKind.Plain ∷ []))) (walk_at (V.taken visit.old) cursor.old)) cursor.new (V.taken visit.new) }
     ensures stands { StandsWithin cursor.old cursor.new }
 {
-    match walk_index(UseKind::FieldDescriptor, cursor, pool, visit) {
-        Ok(()) => walk_index(UseKind::Plain, cursor, pool, visit),
-        Err(fault) => Err(fault),
-    }
+    walk_index(UseKind::FieldDescriptor, cursor, pool, visit)?;
+    walk_index(UseKind::Plain, cursor, pool, visit)
 }
 
 /// An element value of a depth. One that stands in no other has depth 1, and one inside another the outer depth plus 1.
@@ -67,10 +65,7 @@ pub fn walk_element<P: PoolView, V: Visit>(
             at,
         }));
     }
-    let tag = match read_tag(cursor) {
-        Ok(tag) => tag,
-        Err(fault) => return Err(fault),
-    };
+    let tag = read_tag(cursor)?;
     match tag {
         b'e' => walk_constant(cursor, pool, visit),
         b'@' => walk_annotation(cursor, depth + 1, pool, visit),
@@ -99,10 +94,7 @@ fn walk_elements<P: PoolView, V: Visit>(
     ensures stands { StandsWithin cursor.old cursor.new }
 {
     for _ in 0..count {
-        match walk_element(cursor, depth, pool, visit) {
-            Ok(()) => {}
-            Err(fault) => return Err(fault),
-        }
+        walk_element(cursor, depth, pool, visit)?;
     }
     Ok(())
 }
@@ -119,10 +111,8 @@ fn walk_array<P: PoolView, V: Visit>(
     ensures walks { Walks result (walk (read (P.pool pool.now) (many (element (65 - depth)))) (walk_at (V.taken visit.old) cursor.old)) cursor.new (V.taken visit.new) }
     ensures stands { StandsWithin cursor.old cursor.new }
 {
-    match walk_u2(cursor) {
-        Ok(count) => walk_elements(count, cursor, depth, pool, visit),
-        Err(fault) => Err(fault),
-    }
+    let count = walk_u2(cursor)?;
+    walk_elements(count, cursor, depth, pool, visit)
 }
 
 /// A name, and an element value of a depth.
@@ -137,10 +127,8 @@ fn walk_pair<P: PoolView, V: Visit>(
     ensures walks { Walks result (walk (read (P.pool pool.now) (pair_of (element (65 - depth)))) (walk_at (V.taken visit.old) cursor.old)) cursor.new (V.taken visit.new) }
     ensures stands { StandsWithin cursor.old cursor.new }
 {
-    match walk_index(UseKind::Plain, cursor, pool, visit) {
-        Ok(()) => walk_element(cursor, depth, pool, visit),
-        Err(fault) => Err(fault),
-    }
+    walk_index(UseKind::Plain, cursor, pool, visit)?;
+    walk_element(cursor, depth, pool, visit)
 }
 
 /// So many names with element values of a depth.
@@ -157,10 +145,7 @@ fn walk_pairs<P: PoolView, V: Visit>(
     ensures stands { StandsWithin cursor.old cursor.new }
 {
     for _ in 0..count {
-        match walk_pair(cursor, depth, pool, visit) {
-            Ok(()) => {}
-            Err(fault) => return Err(fault),
-        }
+        walk_pair(cursor, depth, pool, visit)?;
     }
     Ok(())
 }
@@ -177,10 +162,8 @@ fn walk_pair_table<P: PoolView, V: Visit>(
     ensures walks { Walks result (walk (read (P.pool pool.now) (many (pair_of (element (65 - depth))))) (walk_at (V.taken visit.old) cursor.old)) cursor.new (V.taken visit.new) }
     ensures stands { StandsWithin cursor.old cursor.new }
 {
-    match walk_u2(cursor) {
-        Ok(count) => walk_pairs(count, cursor, depth, pool, visit),
-        Err(fault) => Err(fault),
-    }
+    let count = walk_u2(cursor)?;
+    walk_pairs(count, cursor, depth, pool, visit)
 }
 
 /// An annotation: its type, and its elements, whose values have a depth.
@@ -195,10 +178,8 @@ pub(crate) fn walk_annotation<P: PoolView, V: Visit>(
     ensures walks { Walks result (walk (read (P.pool pool.now) (annotation_of (element (65 - depth)))) (walk_at (V.taken visit.old) cursor.old)) cursor.new (V.taken visit.new) }
     ensures stands { StandsWithin cursor.old cursor.new }
 {
-    match walk_index(UseKind::FieldDescriptor, cursor, pool, visit) {
-        Ok(()) => walk_pair_table(cursor, depth, pool, visit),
-        Err(fault) => Err(fault),
-    }
+    walk_index(UseKind::FieldDescriptor, cursor, pool, visit)?;
+    walk_pair_table(cursor, depth, pool, visit)
 }
 
 /// So many annotations.
@@ -213,10 +194,7 @@ fn walk_each_annotation<P: PoolView, V: Visit>(
     ensures stands { StandsWithin cursor.old cursor.new }
 {
     for _ in 0..count {
-        match walk_annotation(cursor, 1, pool, visit) {
-            Ok(()) => {}
-            Err(fault) => return Err(fault),
-        }
+        walk_annotation(cursor, 1, pool, visit)?;
     }
     Ok(())
 }
@@ -235,10 +213,8 @@ pub fn walk_annotations<P: PoolView, V: Visit>(
     ensures walks { Walks result (walk (read (P.pool pool.now) (many annotation)) (walk_at (V.taken visit.old) cursor.old)) cursor.new (V.taken visit.new) }
     ensures stands { StandsWithin cursor.old cursor.new }
 {
-    match walk_u2(cursor) {
-        Ok(count) => walk_each_annotation(count, cursor, pool, visit),
-        Err(fault) => Err(fault),
-    }
+    let count = walk_u2(cursor)?;
+    walk_each_annotation(count, cursor, pool, visit)
 }
 
 /// So many tables of annotations.
@@ -253,10 +229,7 @@ fn walk_each_parameter<P: PoolView, V: Visit>(
     ensures stands { StandsWithin cursor.old cursor.new }
 {
     for _ in 0..count {
-        match walk_annotations(cursor, pool, visit) {
-            Ok(()) => {}
-            Err(fault) => return Err(fault),
-        }
+        walk_annotations(cursor, pool, visit)?;
     }
     Ok(())
 }
@@ -276,8 +249,6 @@ pub fn walk_parameter_annotations<P: PoolView, V: Visit>(
     ensures walks { Walks result (walk (read (P.pool pool.now) (Layout.table w8 (many annotation))) (walk_at (V.taken visit.old) cursor.old)) cursor.new (V.taken visit.new) }
     ensures stands { StandsWithin cursor.old cursor.new }
 {
-    match walk_u1(cursor) {
-        Ok(count) => walk_each_parameter(count, cursor, pool, visit),
-        Err(fault) => Err(fault),
-    }
+    let count = walk_u1(cursor)?;
+    walk_each_parameter(count, cursor, pool, visit)
 }

@@ -21,17 +21,14 @@ fn walk_type<P: PoolView, V: Visit>(
     ensures stands { StandsWithin cursor.old cursor.new }
 {
     let at = cursor.at();
-    let tag = match read_tag(cursor) {
-        Ok(tag) => tag,
-        Err(fault) => return Err(fault),
-    };
+    let tag = read_tag(cursor)?;
     match tag {
         0..=6 => Ok(()),
         7 => walk_index(UseKind::Class, cursor, pool, visit),
-        8 => match walk_u2(cursor) {
-            Ok(_) => Ok(()),
-            Err(fault) => Err(fault),
-        },
+        8 => {
+            walk_u2(cursor)?;
+            Ok(())
+        }
         _ => Err(ReadFault::Malformed(Malformed {
             kind: FaultKind::TypeTag,
             at,
@@ -51,10 +48,7 @@ fn walk_types<P: PoolView, V: Visit>(
     ensures stands { StandsWithin cursor.old cursor.new }
 {
     for _ in 0..count {
-        match walk_type(cursor, pool, visit) {
-            Ok(()) => {}
-            Err(fault) => return Err(fault),
-        }
+        walk_type(cursor, pool, visit)?;
     }
     Ok(())
 }
@@ -69,10 +63,8 @@ fn walk_type_table<P: PoolView, V: Visit>(
     ensures walks { Walks result (walk (read (P.pool pool.now) (many verification_type)) (walk_at (V.taken visit.old) cursor.old)) cursor.new (V.taken visit.new) }
     ensures stands { StandsWithin cursor.old cursor.new }
 {
-    match walk_u2(cursor) {
-        Ok(count) => walk_types(count, cursor, pool, visit),
-        Err(fault) => Err(fault),
-    }
+    let count = walk_u2(cursor)?;
+    walk_types(count, cursor, pool, visit)
 }
 
 /// An offset, and so many verification types.
@@ -86,10 +78,8 @@ fn walk_offset_and_types<P: PoolView, V: Visit>(
     ensures walks { Walks result (walk (read (P.pool pool.now) (rows (u2 ∷ replicate count verification_type))) (walk_at (V.taken visit.old) cursor.old)) cursor.new (V.taken visit.new) }
     ensures stands { StandsWithin cursor.old cursor.new }
 {
-    match walk_u2(cursor) {
-        Ok(_) => walk_types(u16::from(count), cursor, pool, visit),
-        Err(fault) => Err(fault),
-    }
+    walk_u2(cursor)?;
+    walk_types(u16::from(count), cursor, pool, visit)
 }
 
 /// The tables of all locals and of the stack.
@@ -102,10 +92,8 @@ fn walk_locals_and_stack<P: PoolView, V: Visit>(
     ensures walks { Walks result (walk (read (P.pool pool.now) (rows (many verification_type ∷ many verification_type ∷ []))) (walk_at (V.taken visit.old) cursor.old)) cursor.new (V.taken visit.new) }
     ensures stands { StandsWithin cursor.old cursor.new }
 {
-    match walk_type_table(cursor, pool, visit) {
-        Ok(()) => walk_type_table(cursor, pool, visit),
-        Err(fault) => Err(fault),
-    }
+    walk_type_table(cursor, pool, visit)?;
+    walk_type_table(cursor, pool, visit)
 }
 
 /// An offset, and the tables of all locals and of the stack.
@@ -118,10 +106,8 @@ fn walk_full_frame<P: PoolView, V: Visit>(
     ensures walks { Walks result (walk (read (P.pool pool.now) (rows (u2 ∷ many verification_type ∷ many verification_type ∷ []))) (walk_at (V.taken visit.old) cursor.old)) cursor.new (V.taken visit.new) }
     ensures stands { StandsWithin cursor.old cursor.new }
 {
-    match walk_u2(cursor) {
-        Ok(_) => walk_locals_and_stack(cursor, pool, visit),
-        Err(fault) => Err(fault),
-    }
+    walk_u2(cursor)?;
+    walk_locals_and_stack(cursor, pool, visit)
 }
 
 /// A frame.
@@ -134,18 +120,15 @@ fn walk_frame<P: PoolView, V: Visit>(
     ensures stands { StandsWithin cursor.old cursor.new }
 {
     let at = cursor.at();
-    let tag = match read_tag(cursor) {
-        Ok(tag) => tag,
-        Err(fault) => return Err(fault),
-    };
+    let tag = read_tag(cursor)?;
     match tag {
         0..=63 => Ok(()),
         64..=127 => walk_type(cursor, pool, visit),
         247 => walk_offset_and_types(1, cursor, pool, visit),
-        248..=251 => match walk_u2(cursor) {
-            Ok(_) => Ok(()),
-            Err(fault) => Err(fault),
-        },
+        248..=251 => {
+            walk_u2(cursor)?;
+            Ok(())
+        }
         252 => walk_offset_and_types(1, cursor, pool, visit),
         253 => walk_offset_and_types(2, cursor, pool, visit),
         254 => walk_offset_and_types(3, cursor, pool, visit),
@@ -169,10 +152,7 @@ fn walk_each_frame<P: PoolView, V: Visit>(
     ensures stands { StandsWithin cursor.old cursor.new }
 {
     for _ in 0..count {
-        match walk_frame(cursor, pool, visit) {
-            Ok(()) => {}
-            Err(fault) => return Err(fault),
-        }
+        walk_frame(cursor, pool, visit)?;
     }
     Ok(())
 }
@@ -191,8 +171,6 @@ pub fn walk_frames<P: PoolView, V: Visit>(
     ensures walks { Walks result (walk (read (P.pool pool.now) (many frame)) (walk_at (V.taken visit.old) cursor.old)) cursor.new (V.taken visit.new) }
     ensures stands { StandsWithin cursor.old cursor.new }
 {
-    match walk_u2(cursor) {
-        Ok(count) => walk_each_frame(count, cursor, pool, visit),
-        Err(fault) => Err(fault),
-    }
+    let count = walk_u2(cursor)?;
+    walk_each_frame(count, cursor, pool, visit)
 }

@@ -11,17 +11,7 @@ ghost use Rattle.desk_annos.specs.TagReads.{ReadsTag};
 ghost use Rattle.desk_base.specs.Entries.{Pool};
 ghost use Rattle.desk_annos.specs.Stands.{StandsWithin};
 
-use desk_base::{Cursor, FaultKind, Malformed, PoolView, ReadFault, Role, UseKind, Used, Visit};
-
-/// The fault of an item at an offset that reaches past the cursor's end.
-pub fn truncated<T>(at: u32) -> Result<T, ReadFault>
-    ensures { result ≡ Err (ReadFault.Malformed (record { kind = FaultKind.Truncated; at = at })) }
-{
-    Err(ReadFault::Malformed(Malformed {
-        kind: FaultKind::Truncated,
-        at,
-    }))
-}
+use desk_base::{Cursor, Malformed, PoolView, ReadFault, Role, UseKind, Used, Visit};
 
 /// A one-byte number. Past the cursor's end it is Truncated, at its place.
 #[tactic(auto, unfolding(desk_format::specs::Walk::walk, desk_format::specs::Reading::number_at, desk_format::specs::Reading::read))]
@@ -31,11 +21,7 @@ pub fn walk_u1(cursor: &mut Cursor<'_>) -> Result<u8, ReadFault>
     ensures value { IfOk result (λ n. n ≡ from_be_bytes w8 (take 1 cursor.old.left)) }
     ensures stands { StandsWithin cursor.old cursor.new }
 {
-    let at = cursor.at();
-    match cursor.u1() {
-        Ok(number) => Ok(number),
-        Err(_) => truncated(at),
-    }
+    Ok(cursor.u1()?)
 }
 
 /// A two-byte number. Past the cursor's end it is Truncated, at its place.
@@ -46,11 +32,7 @@ pub fn walk_u2(cursor: &mut Cursor<'_>) -> Result<u16, ReadFault>
     ensures value { IfOk result (λ n. n ≡ from_be_bytes w16 (take 2 cursor.old.left)) }
     ensures stands { StandsWithin cursor.old cursor.new }
 {
-    let at = cursor.at();
-    match cursor.u2() {
-        Ok(number) => Ok(number),
-        Err(_) => truncated(at),
-    }
+    Ok(cursor.u2()?)
 }
 
 /// The one-byte tag of a choice. Past the cursor's end it is Truncated, at its place.
@@ -60,11 +42,7 @@ pub(crate) fn read_tag(cursor: &mut Cursor<'_>) -> Result<u8, ReadFault>
     ensures err { IfErr result (λ fault. (us : List UsedOf) (entries : Pool) (check : Check) (branch : ℕ → Layout) → Stops fault (walk (read entries (Layout.tagged check branch)) (walk_at us cursor.old)) us) }
     ensures stands { StandsWithin cursor.old cursor.new }
 {
-    let at = cursor.at();
-    match cursor.u1() {
-        Ok(tag) => Ok(tag),
-        Err(_) => truncated(at),
-    }
+    Ok(cursor.u1()?)
 }
 
 /// The role of the text that an index of a use kind names, where it names a text.
@@ -93,10 +71,7 @@ fn hand_over<V: Visit>(kind: UseKind, at: u32, index: u16, visit: &mut V) -> Res
 {
     match role_of(kind, index) {
         None => Ok(()),
-        Some(role) => match visit.visit(Used { at, index, role }) {
-            Ok(()) => Ok(()),
-            Err(_) => Err(ReadFault::Memory),
-        },
+        Some(role) => Ok(visit.visit(Used { at, index, role })?),
     }
 }
 
@@ -113,11 +88,9 @@ pub fn walk_index<P: PoolView, V: Visit>(
     ensures stands { StandsWithin cursor.old cursor.new }
 {
     let at = cursor.at();
-    match cursor.u2() {
-        Err(_) => truncated(at),
-        Ok(index) => match pool.check(index, kind) {
-            Some(kind) => Err(ReadFault::Malformed(Malformed { kind, at })),
-            None => hand_over(kind, at, index, visit),
-        },
+    let index = cursor.u2()?;
+    match pool.check(index, kind) {
+        Some(kind) => Err(ReadFault::Malformed(Malformed { kind, at })),
+        None => hand_over(kind, at, index, visit),
     }
 }

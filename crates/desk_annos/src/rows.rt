@@ -22,10 +22,10 @@ fn walk_slot<P: PoolView, V: Visit>(
     ensures stands { StandsWithin cursor.old cursor.new }
 {
     match slot {
-        Slot::Number => match walk_u2(cursor) {
-            Ok(_) => Ok(()),
-            Err(fault) => Err(fault),
-        },
+        Slot::Number => {
+            walk_u2(cursor)?;
+            Ok(())
+        }
         Slot::Index(kind) => walk_index(kind, cursor, pool, visit),
     }
 }
@@ -42,10 +42,7 @@ pub fn walk_row<P: PoolView, V: Visit>(
     ensures stands { StandsWithin cursor.old cursor.new }
 {
     for slot in slots {
-        match walk_slot(*slot, cursor, pool, visit) {
-            Ok(()) => {}
-            Err(fault) => return Err(fault),
-        }
+        walk_slot(*slot, cursor, pool, visit)?;
     }
     Ok(())
 }
@@ -66,10 +63,7 @@ pub fn walk_rows<const N: usize, P: PoolView, V: Visit>(
     ensures stands { StandsWithin cursor.old cursor.new }
 {
     for _ in 0..rows {
-        match walk_row(slots, cursor, pool, visit) {
-            Ok(()) => {}
-            Err(fault) => return Err(fault),
-        }
+        walk_row(slots, cursor, pool, visit)?;
     }
     Ok(())
 }
@@ -88,8 +82,6 @@ pub fn walk_table<const N: usize, P: PoolView, V: Visit>(
     ensures walks { Walks result (walk (read (P.pool pool.now) (table_layout slots.now)) (walk_at (V.taken visit.old) cursor.old)) cursor.new (V.taken visit.new) }
     ensures stands { StandsWithin cursor.old cursor.new }
 {
-    match walk_u2(cursor) {
-        Ok(count) => walk_rows(u32::from(count), slots, cursor, pool, visit),
-        Err(fault) => Err(fault),
-    }
+    let count = walk_u2(cursor)?;
+    walk_rows(u32::from(count), slots, cursor, pool, visit)
 }

@@ -12,7 +12,7 @@ ghost use Rattle.desk_format.specs.Walk.{walk, walk_at, Walks};
 ghost use Rattle.desk_annos.specs.Stands.{StandsWithin};
 
 use crate::elements::walk_annotation;
-use crate::items::{read_tag, truncated, walk_u1, walk_u2};
+use crate::items::{read_tag, walk_u1, walk_u2};
 use crate::rows::walk_table;
 use desk_base::{Cursor, FaultKind, Malformed, PoolView, ReadFault, Visit};
 use desk_format::Slot;
@@ -23,13 +23,9 @@ fn walk_two_u1(cursor: &mut Cursor<'_>) -> Result<(), ReadFault>
     ensures walks { (us : List UsedOf) (entries : Pool) → Walks result (walk (read entries (rows (u1 ∷ u1 ∷ []))) (walk_at us cursor.old)) cursor.new us }
     ensures stands { StandsWithin cursor.old cursor.new }
 {
-    match walk_u1(cursor) {
-        Ok(_) => match walk_u1(cursor) {
-            Ok(_) => Ok(()),
-            Err(fault) => Err(fault),
-        },
-        Err(fault) => Err(fault),
-    }
+    walk_u1(cursor)?;
+    walk_u1(cursor)?;
+    Ok(())
 }
 
 /// An offset, and the number of a type argument.
@@ -38,13 +34,9 @@ fn walk_offset_and_argument(cursor: &mut Cursor<'_>) -> Result<(), ReadFault>
     ensures walks { (us : List UsedOf) (entries : Pool) → Walks result (walk (read entries (rows (u2 ∷ u1 ∷ []))) (walk_at us cursor.old)) cursor.new us }
     ensures stands { StandsWithin cursor.old cursor.new }
 {
-    match walk_u2(cursor) {
-        Ok(_) => match walk_u1(cursor) {
-            Ok(_) => Ok(()),
-            Err(fault) => Err(fault),
-        },
-        Err(fault) => Err(fault),
-    }
+    walk_u2(cursor)?;
+    walk_u1(cursor)?;
+    Ok(())
 }
 
 /// A target type, and what it selects.
@@ -57,15 +49,12 @@ fn walk_target<P: PoolView, V: Visit>(
     ensures stands { StandsWithin cursor.old cursor.new }
 {
     let at = cursor.at();
-    let tag = match read_tag(cursor) {
-        Ok(tag) => tag,
-        Err(fault) => return Err(fault),
-    };
+    let tag = read_tag(cursor)?;
     match tag {
-        0x00 | 0x01 | 0x16 => match walk_u1(cursor) {
-            Ok(_) => Ok(()),
-            Err(fault) => Err(fault),
-        },
+        0x00 | 0x01 | 0x16 => {
+            walk_u1(cursor)?;
+            Ok(())
+        }
         0x11 | 0x12 => walk_two_u1(cursor),
         0x13..=0x15 => Ok(()),
         0x40 | 0x41 => walk_table(
@@ -74,10 +63,10 @@ fn walk_target<P: PoolView, V: Visit>(
             pool,
             visit,
         ),
-        0x10 | 0x17 | 0x42..=0x46 => match walk_u2(cursor) {
-            Ok(_) => Ok(()),
-            Err(fault) => Err(fault),
-        },
+        0x10 | 0x17 | 0x42..=0x46 => {
+            walk_u2(cursor)?;
+            Ok(())
+        }
         0x47..=0x4B => walk_offset_and_argument(cursor),
         _ => Err(ReadFault::Malformed(Malformed {
             kind: FaultKind::TargetType,
@@ -93,18 +82,14 @@ fn walk_path_kind(cursor: &mut Cursor<'_>) -> Result<(), ReadFault>
     ensures stands { StandsWithin cursor.old cursor.new }
 {
     let at = cursor.at();
-    match cursor.u1() {
-        Ok(kind) => {
-            if kind > 3 {
-                return Err(ReadFault::Malformed(Malformed {
-                    kind: FaultKind::PathKind,
-                    at,
-                }));
-            }
-            Ok(())
-        }
-        Err(_) => truncated(at),
+    let kind = cursor.u1()?;
+    if kind > 3 {
+        return Err(ReadFault::Malformed(Malformed {
+            kind: FaultKind::PathKind,
+            at,
+        }));
     }
+    Ok(())
 }
 
 /// A step of a type path: its kind, and the number of a type argument.
@@ -113,13 +98,9 @@ fn walk_step(cursor: &mut Cursor<'_>) -> Result<(), ReadFault>
     ensures walks { (us : List UsedOf) (entries : Pool) → Walks result (walk (read entries path_step) (walk_at us cursor.old)) cursor.new us }
     ensures stands { StandsWithin cursor.old cursor.new }
 {
-    match walk_path_kind(cursor) {
-        Ok(()) => match walk_u1(cursor) {
-            Ok(_) => Ok(()),
-            Err(fault) => Err(fault),
-        },
-        Err(fault) => Err(fault),
-    }
+    walk_path_kind(cursor)?;
+    walk_u1(cursor)?;
+    Ok(())
 }
 
 /// So many steps of a type path.
@@ -129,10 +110,7 @@ fn walk_steps(count: u8, cursor: &mut Cursor<'_>) -> Result<(), ReadFault>
     ensures stands { StandsWithin cursor.old cursor.new }
 {
     for _ in 0..count {
-        match walk_step(cursor) {
-            Ok(()) => {}
-            Err(fault) => return Err(fault),
-        }
+        walk_step(cursor)?;
     }
     Ok(())
 }
@@ -143,10 +121,8 @@ fn walk_path(cursor: &mut Cursor<'_>) -> Result<(), ReadFault>
     ensures walks { (us : List UsedOf) (entries : Pool) → Walks result (walk (read entries type_path) (walk_at us cursor.old)) cursor.new us }
     ensures stands { StandsWithin cursor.old cursor.new }
 {
-    match walk_u1(cursor) {
-        Ok(count) => walk_steps(count, cursor),
-        Err(fault) => Err(fault),
-    }
+    let count = walk_u1(cursor)?;
+    walk_steps(count, cursor)
 }
 
 /// A type path, and an annotation.
@@ -159,10 +135,8 @@ fn walk_path_and_annotation<P: PoolView, V: Visit>(
     ensures walks { Walks result (walk (read (P.pool pool.now) (rows (type_path ∷ annotation ∷ []))) (walk_at (V.taken visit.old) cursor.old)) cursor.new (V.taken visit.new) }
     ensures stands { StandsWithin cursor.old cursor.new }
 {
-    match walk_path(cursor) {
-        Ok(()) => walk_annotation(cursor, 1, pool, visit),
-        Err(fault) => Err(fault),
-    }
+    walk_path(cursor)?;
+    walk_annotation(cursor, 1, pool, visit)
 }
 
 /// A type annotation: its target, its path, and an annotation.
@@ -175,10 +149,8 @@ fn walk_type_annotation<P: PoolView, V: Visit>(
     ensures walks { Walks result (walk (read (P.pool pool.now) type_annotation) (walk_at (V.taken visit.old) cursor.old)) cursor.new (V.taken visit.new) }
     ensures stands { StandsWithin cursor.old cursor.new }
 {
-    match walk_target(cursor, pool, visit) {
-        Ok(()) => walk_path_and_annotation(cursor, pool, visit),
-        Err(fault) => Err(fault),
-    }
+    walk_target(cursor, pool, visit)?;
+    walk_path_and_annotation(cursor, pool, visit)
 }
 
 /// So many type annotations.
@@ -193,10 +165,7 @@ fn walk_each_type_annotation<P: PoolView, V: Visit>(
     ensures stands { StandsWithin cursor.old cursor.new }
 {
     for _ in 0..count {
-        match walk_type_annotation(cursor, pool, visit) {
-            Ok(()) => {}
-            Err(fault) => return Err(fault),
-        }
+        walk_type_annotation(cursor, pool, visit)?;
     }
     Ok(())
 }
@@ -215,8 +184,6 @@ pub fn walk_type_annotations<P: PoolView, V: Visit>(
     ensures walks { Walks result (walk (read (P.pool pool.now) (many type_annotation)) (walk_at (V.taken visit.old) cursor.old)) cursor.new (V.taken visit.new) }
     ensures stands { StandsWithin cursor.old cursor.new }
 {
-    match walk_u2(cursor) {
-        Ok(count) => walk_each_type_annotation(count, cursor, pool, visit),
-        Err(fault) => Err(fault),
-    }
+    let count = walk_u2(cursor)?;
+    walk_each_type_annotation(count, cursor, pool, visit)
 }

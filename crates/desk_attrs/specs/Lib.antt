@@ -1,1 +1,2 @@
-pub mod SmallPool
+pub mod Heads
+pub mod Modules

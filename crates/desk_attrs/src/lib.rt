@@ -1,8 +1,14 @@
 //! Walks over attributes (JVMS 4.7): each by its name and its place, with its body fenced by its length.
+//!
+//! ```text
+//! let mut uses = Vec::new(alloc);              // the attributes of a method, behind their count
+//! walk_attributes(Place::OfMethod, &mut cursor, &pool, &mut uses)?;
+//! ```
 #![tactic(auto)]
 
 mod attributes;
 mod bodies;
+mod heads;
 mod names;
 mod parts;
 mod places;
@@ -10,6 +16,3 @@ mod places;
 pub use attributes::{walk_attribute, walk_attributes};
 pub use desk_annos::walk_rows;
 pub use desk_format::{Place, Slot};
-
-#[cfg(test)]
-mod tests;

@@ -12,8 +12,9 @@ ghost use Rattle.desk_format.specs.Attributes.{code_length, code_head, module_bo
 ghost use Rattle.desk_format.specs.Reading.{read, times, number_at};
 ghost use Rattle.desk_format.specs.Walk.{walk, walk_at, Walks};
 ghost use Rattle.desk_annos.specs.Stands.{StandsWithin};
+ghost use Rattle.desk_attrs.specs.Modules.{packages, provided, required, used};
 
-use desk_annos::{truncated, walk_row, walk_rows, walk_table, walk_u1, walk_u2};
+use desk_annos::{walk_row, walk_rows, walk_table, walk_u1, walk_u2};
 use desk_base::{Cursor, FaultKind, Malformed, PoolView, ReadFault, UseKind, Visit};
 use desk_format::Slot;
 
@@ -23,11 +24,8 @@ pub(crate) fn walk_raw(size: u32, cursor: &mut Cursor<'_>) -> Result<(), ReadFau
     ensures walks { (us : List UsedOf) (entries : Pool) → Walks result (walk (read entries (Layout.raw size)) (walk_at us cursor.old)) cursor.new us }
     ensures stands { StandsWithin cursor.old cursor.new }
 {
-    let at = cursor.at();
-    match cursor.take(size) {
-        Ok(_) => Ok(()),
-        Err(_) => truncated(at),
-    }
+    cursor.take(size)?;
+    Ok(())
 }
 
 /// The length of code, 1 to 65,535 bytes.
@@ -38,18 +36,14 @@ fn walk_code_length(cursor: &mut Cursor<'_>) -> Result<u32, ReadFault>
     ensures stands { StandsWithin cursor.old cursor.new }
 {
     let at = cursor.at();
-    match cursor.u4() {
-        Ok(length) => {
-            if length < 1 || length > 65535 {
-                return Err(ReadFault::Malformed(Malformed {
-                    kind: FaultKind::CodeLength,
-                    at,
-                }));
-            }
-            Ok(length)
-        }
-        Err(_) => truncated(at),
+    let length = cursor.u4()?;
+    if length < 1 || length > 65535 {
+        return Err(ReadFault::Malformed(Malformed {
+            kind: FaultKind::CodeLength,
+            at,
+        }));
     }
+    Ok(length)
 }
 
 /// The bytes of code, behind their length.
@@ -57,10 +51,8 @@ fn walk_code_bytes(cursor: &mut Cursor<'_>) -> Result<(), ReadFault>
     ensures walks { (us : List UsedOf) (entries : Pool) → Walks result (walk (read entries (Layout.sized w32 code_length)) (walk_at us cursor.old)) cursor.new us }
     ensures stands { StandsWithin cursor.old cursor.new }
 {
-    match walk_code_length(cursor) {
-        Ok(length) => walk_raw(length, cursor),
-        Err(fault) => Err(fault),
-    }
+    let length = walk_code_length(cursor)?;
+    walk_raw(length, cursor)
 }
 
 /// The bytes of code, and the exception table.
@@ -73,20 +65,18 @@ fn walk_code_and_handlers<P: PoolView, V: Visit>(
     ensures walks { Walks result (walk (read (P.pool pool.now) (rows (Layout.sized w32 code_length ∷ table_layout (slots.Number ∷ slots.Number ∷ slots.Number ∷ slots.Index kinds.ClassOrNone ∷ []) ∷ []))) (walk_at (V.taken visit.old) cursor.old)) cursor.new (V.taken visit.new) }
     ensures stands { StandsWithin cursor.old cursor.new }
 {
-    match walk_code_bytes(cursor) {
-        Ok(()) => walk_table(
-            &[
-                Slot::Number,
-                Slot::Number,
-                Slot::Number,
-                Slot::Index(UseKind::ClassOrNone),
-            ],
-            cursor,
-            pool,
-            visit,
-        ),
-        Err(fault) => Err(fault),
-    }
+    walk_code_bytes(cursor)?;
+    walk_table(
+        &[
+            Slot::Number,
+            Slot::Number,
+            Slot::Number,
+            Slot::Index(UseKind::ClassOrNone),
+        ],
+        cursor,
+        pool,
+        visit,
+    )
 }
 
 /// A Code without its attributes (JVMS 4.7.3).
@@ -99,10 +89,8 @@ pub(crate) fn walk_code_head<P: PoolView, V: Visit>(
     ensures walks { Walks result (walk (read (P.pool pool.now) code_head) (walk_at (V.taken visit.old) cursor.old)) cursor.new (V.taken visit.new) }
     ensures stands { StandsWithin cursor.old cursor.new }
 {
-    match walk_row(&[Slot::Number, Slot::Number], cursor, pool, visit) {
-        Ok(()) => walk_code_and_handlers(cursor, pool, visit),
-        Err(fault) => Err(fault),
-    }
+    walk_row(&[Slot::Number, Slot::Number], cursor, pool, visit)?;
+    walk_code_and_handlers(cursor, pool, visit)
 }
 
 /// A row of slots, and a table of rows of other slots behind it.
@@ -117,10 +105,8 @@ fn walk_row_and_table<const N: usize, const M: usize, P: PoolView, V: Visit>(
     ensures walks { Walks result (walk (read (P.pool pool.now) (rows (row_layout row.now ∷ table_layout behind.now ∷ []))) (walk_at (V.taken visit.old) cursor.old)) cursor.new (V.taken visit.new) }
     ensures stands { StandsWithin cursor.old cursor.new }
 {
-    match walk_row(row, cursor, pool, visit) {
-        Ok(()) => walk_table(behind, cursor, pool, visit),
-        Err(fault) => Err(fault),
-    }
+    walk_row(row, cursor, pool, visit)?;
+    walk_table(behind, cursor, pool, visit)
 }
 
 /// So many such rows with tables.
@@ -137,10 +123,7 @@ fn walk_each_row_and_table<const N: usize, const M: usize, P: PoolView, V: Visit
     ensures stands { StandsWithin cursor.old cursor.new }
 {
     for _ in 0..count {
-        match walk_row_and_table(row, behind, cursor, pool, visit) {
-            Ok(()) => {}
-            Err(fault) => return Err(fault),
-        }
+        walk_row_and_table(row, behind, cursor, pool, visit)?;
     }
     Ok(())
 }
@@ -157,10 +140,8 @@ pub(crate) fn walk_tables<const N: usize, const M: usize, P: PoolView, V: Visit>
     ensures walks { Walks result (walk (read (P.pool pool.now) (many (rows (row_layout row.now ∷ table_layout behind.now ∷ [])))) (walk_at (V.taken visit.old) cursor.old)) cursor.new (V.taken visit.new) }
     ensures stands { StandsWithin cursor.old cursor.new }
 {
-    match walk_u2(cursor) {
-        Ok(count) => walk_each_row_and_table(count, row, behind, cursor, pool, visit),
-        Err(fault) => Err(fault),
-    }
+    let count = walk_u2(cursor)?;
+    walk_each_row_and_table(count, row, behind, cursor, pool, visit)
 }
 
 /// The parameters of a method, behind their one-byte count (JVMS 4.7.24).
@@ -173,16 +154,14 @@ pub(crate) fn walk_method_parameters<P: PoolView, V: Visit>(
     ensures walks { Walks result (walk (read (P.pool pool.now) (Layout.table w8 (row_layout (slots.Index kinds.PlainOrNone ∷ slots.Number ∷ [])))) (walk_at (V.taken visit.old) cursor.old)) cursor.new (V.taken visit.new) }
     ensures stands { StandsWithin cursor.old cursor.new }
 {
-    match walk_u1(cursor) {
-        Ok(count) => walk_rows(
-            u32::from(count),
-            &[Slot::Index(UseKind::PlainOrNone), Slot::Number],
-            cursor,
-            pool,
-            visit,
-        ),
-        Err(fault) => Err(fault),
-    }
+    let count = walk_u1(cursor)?;
+    walk_rows(
+        u32::from(count),
+        &[Slot::Index(UseKind::PlainOrNone), Slot::Number],
+        cursor,
+        pool,
+        visit,
+    )
 }
 
 /// What a module exports, or what it opens: packages, each with modules.
@@ -191,7 +170,7 @@ fn walk_packages<P: PoolView, V: Visit>(
     pool: &P,
     visit: &mut V,
 ) -> Result<(), ReadFault>
-    ensures walks { Walks result (walk (read (P.pool pool.now) (many (rows (row_layout (slots.Index kinds.Package ∷ slots.Number ∷ []) ∷ table_layout (slots.Index kinds.Module ∷ []) ∷ [])))) (walk_at (V.taken visit.old) cursor.old)) cursor.new (V.taken visit.new) }
+    ensures walks { Walks result (walk (read (P.pool pool.now) packages) (walk_at (V.taken visit.old) cursor.old)) cursor.new (V.taken visit.new) }
     ensures stands { StandsWithin cursor.old cursor.new }
 {
     walk_tables(
@@ -209,7 +188,7 @@ fn walk_provides<P: PoolView, V: Visit>(
     pool: &P,
     visit: &mut V,
 ) -> Result<(), ReadFault>
-    ensures walks { Walks result (walk (read (P.pool pool.now) (many (rows (row_layout (slots.Index kinds.Class ∷ []) ∷ table_layout (slots.Index kinds.Class ∷ []) ∷ [])))) (walk_at (V.taken visit.old) cursor.old)) cursor.new (V.taken visit.new) }
+    ensures walks { Walks result (walk (read (P.pool pool.now) provided) (walk_at (V.taken visit.old) cursor.old)) cursor.new (V.taken visit.new) }
     ensures stands { StandsWithin cursor.old cursor.new }
 {
     walk_tables(
@@ -228,13 +207,11 @@ fn walk_services<P: PoolView, V: Visit>(
     pool: &P,
     visit: &mut V,
 ) -> Result<(), ReadFault>
-    ensures walks { Walks result (walk (read (P.pool pool.now) (rows (table_layout (slots.Index kinds.Class ∷ []) ∷ many (rows (row_layout (slots.Index kinds.Class ∷ []) ∷ table_layout (slots.Index kinds.Class ∷ []) ∷ [])) ∷ []))) (walk_at (V.taken visit.old) cursor.old)) cursor.new (V.taken visit.new) }
+    ensures walks { Walks result (walk (read (P.pool pool.now) (rows (used ∷ provided ∷ []))) (walk_at (V.taken visit.old) cursor.old)) cursor.new (V.taken visit.new) }
     ensures stands { StandsWithin cursor.old cursor.new }
 {
-    match walk_table(&[Slot::Index(UseKind::Class)], cursor, pool, visit) {
-        Ok(()) => walk_provides(cursor, pool, visit),
-        Err(fault) => Err(fault),
-    }
+    walk_table(&[Slot::Index(UseKind::Class)], cursor, pool, visit)?;
+    walk_provides(cursor, pool, visit)
 }
 
 /// What a module opens, uses and provides.
@@ -244,13 +221,11 @@ fn walk_opens<P: PoolView, V: Visit>(
     pool: &P,
     visit: &mut V,
 ) -> Result<(), ReadFault>
-    ensures walks { Walks result (walk (read (P.pool pool.now) (rows (many (rows (row_layout (slots.Index kinds.Package ∷ slots.Number ∷ []) ∷ table_layout (slots.Index kinds.Module ∷ []) ∷ [])) ∷ table_layout (slots.Index kinds.Class ∷ []) ∷ many (rows (row_layout (slots.Index kinds.Class ∷ []) ∷ table_layout (slots.Index kinds.Class ∷ []) ∷ [])) ∷ []))) (walk_at (V.taken visit.old) cursor.old)) cursor.new (V.taken visit.new) }
+    ensures walks { Walks result (walk (read (P.pool pool.now) (rows (packages ∷ used ∷ provided ∷ []))) (walk_at (V.taken visit.old) cursor.old)) cursor.new (V.taken visit.new) }
     ensures stands { StandsWithin cursor.old cursor.new }
 {
-    match walk_packages(cursor, pool, visit) {
-        Ok(()) => walk_services(cursor, pool, visit),
-        Err(fault) => Err(fault),
-    }
+    walk_packages(cursor, pool, visit)?;
+    walk_services(cursor, pool, visit)
 }
 
 /// What a module exports, opens, uses and provides.
@@ -260,13 +235,11 @@ fn walk_exports<P: PoolView, V: Visit>(
     pool: &P,
     visit: &mut V,
 ) -> Result<(), ReadFault>
-    ensures walks { Walks result (walk (read (P.pool pool.now) (rows (many (rows (row_layout (slots.Index kinds.Package ∷ slots.Number ∷ []) ∷ table_layout (slots.Index kinds.Module ∷ []) ∷ [])) ∷ many (rows (row_layout (slots.Index kinds.Package ∷ slots.Number ∷ []) ∷ table_layout (slots.Index kinds.Module ∷ []) ∷ [])) ∷ table_layout (slots.Index kinds.Class ∷ []) ∷ many (rows (row_layout (slots.Index kinds.Class ∷ []) ∷ table_layout (slots.Index kinds.Class ∷ []) ∷ [])) ∷ []))) (walk_at (V.taken visit.old) cursor.old)) cursor.new (V.taken visit.new) }
+    ensures walks { Walks result (walk (read (P.pool pool.now) (rows (packages ∷ packages ∷ used ∷ provided ∷ []))) (walk_at (V.taken visit.old) cursor.old)) cursor.new (V.taken visit.new) }
     ensures stands { StandsWithin cursor.old cursor.new }
 {
-    match walk_packages(cursor, pool, visit) {
-        Ok(()) => walk_opens(cursor, pool, visit),
-        Err(fault) => Err(fault),
-    }
+    walk_packages(cursor, pool, visit)?;
+    walk_opens(cursor, pool, visit)
 }
 
 /// What a module requires, exports, opens, uses and provides.
@@ -276,10 +249,10 @@ fn walk_requires<P: PoolView, V: Visit>(
     pool: &P,
     visit: &mut V,
 ) -> Result<(), ReadFault>
-    ensures walks { Walks result (walk (read (P.pool pool.now) (rows (table_layout (slots.Index kinds.Module ∷ slots.Number ∷ slots.Index kinds.PlainOrNone ∷ []) ∷ many (rows (row_layout (slots.Index kinds.Package ∷ slots.Number ∷ []) ∷ table_layout (slots.Index kinds.Module ∷ []) ∷ [])) ∷ many (rows (row_layout (slots.Index kinds.Package ∷ slots.Number ∷ []) ∷ table_layout (slots.Index kinds.Module ∷ []) ∷ [])) ∷ table_layout (slots.Index kinds.Class ∷ []) ∷ many (rows (row_layout (slots.Index kinds.Class ∷ []) ∷ table_layout (slots.Index kinds.Class ∷ []) ∷ [])) ∷ []))) (walk_at (V.taken visit.old) cursor.old)) cursor.new (V.taken visit.new) }
+    ensures walks { Walks result (walk (read (P.pool pool.now) (rows (required ∷ packages ∷ packages ∷ used ∷ provided ∷ []))) (walk_at (V.taken visit.old) cursor.old)) cursor.new (V.taken visit.new) }
     ensures stands { StandsWithin cursor.old cursor.new }
 {
-    match walk_table(
+    walk_table(
         &[
             Slot::Index(UseKind::Module),
             Slot::Number,
@@ -288,10 +261,8 @@ fn walk_requires<P: PoolView, V: Visit>(
         cursor,
         pool,
         visit,
-    ) {
-        Ok(()) => walk_exports(cursor, pool, visit),
-        Err(fault) => Err(fault),
-    }
+    )?;
+    walk_exports(cursor, pool, visit)
 }
 
 /// A module: itself, and what it requires, exports, opens, uses and provides (JVMS 4.7.25).
@@ -304,7 +275,7 @@ pub(crate) fn walk_module<P: PoolView, V: Visit>(
     ensures walks { Walks result (walk (read (P.pool pool.now) module_body) (walk_at (V.taken visit.old) cursor.old)) cursor.new (V.taken visit.new) }
     ensures stands { StandsWithin cursor.old cursor.new }
 {
-    match walk_row(
+    walk_row(
         &[
             Slot::Index(UseKind::Module),
             Slot::Number,
@@ -313,8 +284,6 @@ pub(crate) fn walk_module<P: PoolView, V: Visit>(
         cursor,
         pool,
         visit,
-    ) {
-        Ok(()) => walk_requires(cursor, pool, visit),
-        Err(fault) => Err(fault),
-    }
+    )?;
+    walk_requires(cursor, pool, visit)
 }

@@ -2,9 +2,12 @@ pub mod Names
 pub mod Paths
 pub mod Shown
 pub mod Spot
+pub mod Counts
+pub mod Limits
+pub mod TextMaps
 pub mod Utf8
 pub mod Descriptors
 pub mod Signatures
 pub mod Entries
-pub mod Targets
+pub mod Referents
 pub mod Misfits

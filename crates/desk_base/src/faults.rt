@@ -1,9 +1,10 @@
 //! What can be wrong with a class file.
 
 ghost use Rattle.std.specs.Prelude.{◌≡◌};
+ghost use Rattle.desk_base.specs.declared.faults.FaultKind.TheVariants as kinds;
 ghost use Rattle.desk_base.specs.declared.faults.ReadFault.TheVariants as read_faults;
 
-use crate::Memory;
+use crate::{Memory, Short};
 use std::alloc::{AllocError, AllocFailed};
 
 /// A kind of fault.
@@ -39,7 +40,7 @@ pub enum FaultKind {
     TypeTag,
     /// An unknown tag of an element value.
     ElementTag,
-    /// An unknown target type of a type annotation.
+    /// An unknown referent type of a type annotation.
     TargetType,
     /// An unknown kind of a type path's step.
     PathKind,
@@ -66,6 +67,26 @@ pub enum ReadFault {
     Malformed(Malformed),
     /// Memory ran out.
     Memory,
+}
+
+/// An item that reaches past the end is Truncated at its first byte.
+impl From<Short> for Malformed {
+    ghost from_gives = { λ short malformed. malformed ≡ record { kind = kinds.Truncated; at = short.at } };
+
+    fn from(short: Short) -> Malformed {
+        Malformed {
+            kind: FaultKind::Truncated,
+            at: short.at,
+        }
+    }
+}
+
+impl From<Short> for ReadFault {
+    ghost from_gives = { λ short fault. fault ≡ read_faults.Malformed (record { kind = kinds.Truncated; at = short.at }) };
+
+    fn from(short: Short) -> ReadFault {
+        ReadFault::Malformed(Malformed::from(short))
+    }
 }
 
 impl From<Memory> for ReadFault {

@@ -1,7 +1,8 @@
 //! A place in bytes, and the bytes from there to an end.
 
-ghost use Rattle.std.specs.Prelude.{◌≡◌, ◌+◌, ◌<◌, ◌≤◌, length, take, IfOk, OnErr, OnOk};
+ghost use Rattle.std.specs.Prelude.{◌≡◌, ◌+◌, ◌<◌, ◌≤◌, length, take, IfErr, IfOk, OnErr, OnOk};
 ghost use Rattle.std.specs.Int.{w8, w16, w32, from_be_bytes};
+ghost use Rattle.desk_base.specs.Limits.{file_size};
 ghost use Rattle.desk_base.specs.Spot.{Spot, past, first};
 
 use byteorder::{BigEndian, ByteOrder};
@@ -9,12 +10,15 @@ use std::marker::Model;
 
 /// Fewer bytes are left than were asked for.
 #[derive(Clone, Copy, Debug, PartialEq, Eq)]
-pub struct Short;
+pub struct Short {
+    /// The offset of the first byte that was asked for, from the start of the file, in bytes.
+    pub at: u32,
+}
 
 /// A place in bytes, and the bytes from there to an end. Contracts see the place, counted in bytes from the start of the
 /// file, and the bytes that are left. No call takes memory.
 ///
-/// Each call that takes bytes answers [`Short`] exactly where fewer are left, and the cursor is then as it was.
+/// Each call that takes bytes answers [`Short`] with its place exactly where fewer are left, and the cursor is then as it was.
 #[derive(Debug, Drop)]
 pub struct Cursor<'a> {
     at: u32,
@@ -26,13 +30,13 @@ impl<'a> Model for Cursor<'a> {
 
     ghost view = { λ c. record { at = c.at; left = c.rest.now } };
 
-    ghost invariant = { λ c. c.at + length c.rest.now ≤ 67108864 };
+    ghost invariant = { λ c. c.at + length c.rest.now ≤ file_size };
 }
 
 impl<'a> Cursor<'a> {
     /// A cursor at the start of bytes, of which there are at most 67,108,864.
     pub fn new(bytes: &'a [u8]) -> Cursor<'a>
-        requires { length bytes.now ≤ 67108864 }
+        requires { length bytes.now ≤ file_size }
         ensures { result ≡ record { at = 0; left = bytes.now } }
     {
         Cursor { at: 0, rest: bytes }
@@ -41,7 +45,7 @@ impl<'a> Cursor<'a> {
     /// The offset from the start of the file, in bytes.
     pub fn at(&self) -> u32
         ensures value { result ≡ self.now.at }
-        ensures bound { result + length self.now.left ≤ 67108864 }
+        ensures bound { result + length self.now.left ≤ file_size }
     {
         self.at
     }
@@ -59,10 +63,11 @@ impl<'a> Cursor<'a> {
         ensures bytes { IfOk result (λ bytes. bytes.now ≡ take n self.old.left) }
         ensures moved { OnOk result (self.new ≡ past n self.old) }
         ensures short { OnErr result (length self.old.left < n) }
+        ensures place { IfErr result (λ short. short.at ≡ self.old.at) }
         ensures same { OnErr result (self.new ≡ self.old) }
     {
         if self.rest.len() < n as usize {
-            return Err(Short);
+            return Err(Short { at: self.at });
         }
         let (front, rest) = self.rest.split_at(n as usize);
         self.rest = rest;
@@ -76,6 +81,7 @@ impl<'a> Cursor<'a> {
         ensures number { IfOk result (λ number. number ≡ from_be_bytes w8 (take 1 self.old.left)) }
         ensures moved { OnOk result (self.new ≡ past 1 self.old) }
         ensures short { OnErr result (length self.old.left < 1) }
+        ensures place { IfErr result (λ short. short.at ≡ self.old.at) }
         ensures same { OnErr result (self.new ≡ self.old) }
     {
         let bytes = self.take(1)?;
@@ -88,6 +94,7 @@ impl<'a> Cursor<'a> {
         ensures number { IfOk result (λ number. number ≡ from_be_bytes w16 (take 2 self.old.left)) }
         ensures moved { OnOk result (self.new ≡ past 2 self.old) }
         ensures short { OnErr result (length self.old.left < 2) }
+        ensures place { IfErr result (λ short. short.at ≡ self.old.at) }
         ensures same { OnErr result (self.new ≡ self.old) }
     {
         let bytes = self.take(2)?;
@@ -100,6 +107,7 @@ impl<'a> Cursor<'a> {
         ensures number { IfOk result (λ number. number ≡ from_be_bytes w32 (take 4 self.old.left)) }
         ensures moved { OnOk result (self.new ≡ past 4 self.old) }
         ensures short { OnErr result (length self.old.left < 4) }
+        ensures place { IfErr result (λ short. short.at ≡ self.old.at) }
         ensures same { OnErr result (self.new ≡ self.old) }
     {
         let bytes = self.take(4)?;
@@ -112,6 +120,7 @@ impl<'a> Cursor<'a> {
         ensures inner { IfOk result (λ inner. inner ≡ first n self.old) }
         ensures moved { OnOk result (self.new ≡ past n self.old) }
         ensures short { OnErr result (length self.old.left < n) }
+        ensures place { IfErr result (λ short. short.at ≡ self.old.at) }
         ensures same { OnErr result (self.new ≡ self.old) }
     {
         let at = self.at;

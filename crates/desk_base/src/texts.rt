@@ -17,7 +17,7 @@ use std::marker::Model;
 
 /// Bytes that can grow. Contracts see the list of its bytes; texts are ordered by their bytes,
 /// the first that differs decides, and a front of a text stands before it.
-#[derive(Debug, Drop)]
+#[derive(Clone, Debug, Drop)]
 pub struct Text {
     bytes: Vec<u8>,
 }
@@ -74,6 +74,15 @@ impl Text {
     }
 }
 
+/// The text of these bytes, which aren't copied.
+impl From<Vec<u8>> for Text {
+    ghost from_gives = { λ bytes text. text ≡ bytes.items };
+
+    fn from(bytes: Vec<u8>) -> Text {
+        Text { bytes }
+    }
+}
+
 impl PartialEq for Text {
     ghost eq = { pointwise ◌==◌ };
 
@@ -123,7 +132,7 @@ impl Hash for Text {
 }
 
 /// A list of texts. Contracts see the list of the texts' bytes.
-#[derive(Debug, Drop)]
+#[derive(Clone, Debug, Drop)]
 pub struct TextList {
     texts: Vec<Text>,
 }
@@ -192,5 +201,12 @@ impl TextList {
         ensures { result.now ≡ self.now }
     {
         self.texts.as_slice()
+    }
+
+    /// The texts in their order, each with its bytes as they are.
+    pub fn into_vec(self) -> Vec<Text>
+        ensures { result.items ≡ self }
+    {
+        self.texts
     }
 }

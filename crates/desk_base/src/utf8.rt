@@ -1,6 +1,7 @@
 //! Modified UTF-8.
 
 ghost use Rattle.std.specs.Prelude.{◌≡◌, ◌<◌, ◌≤◌, length, drop, OnOk, IfErr, None, Some};
+ghost use Rattle.desk_base.specs.Limits.{file_size};
 ghost use Rattle.desk_base.specs.Utf8.{bad_form, form_size, is_single, is_continuation};
 
 fn is_single(byte: u8) -> bool
@@ -41,7 +42,7 @@ fn size_at(bytes: &[u8], at: usize) -> usize
 /// each a byte from 0x01 to 0x7F, or 110xxxxx 10xxxxxx, or 1110xxxx 10xxxxxx 10xxxxxx. A longer spelling of a shorter form
 /// is accepted. The error is the offset of the first byte that begins no form. It takes no memory.
 pub fn check_utf8(bytes: &[u8]) -> Result<(), u32>
-    requires { length bytes.now ≤ 67108864 }
+    requires { length bytes.now ≤ file_size }
     ensures formed { OnOk result (bad_form bytes.now ≡ None) }
     ensures first { IfErr result (λ offset. bad_form bytes.now ≡ Some offset) }
     ensures within { IfErr result (λ offset. offset < length bytes.now) }

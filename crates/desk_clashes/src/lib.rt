@@ -1,4 +1,12 @@
 //! Finds the first two files whose targets clash: one target equals the other, or is a folder of it.
+//!
+//! ```text
+//! let mut targets = Targets::new(alloc);
+//! targets.push(b"a/b")?;
+//! targets.push(b"x")?;
+//! targets.push(b"a")?;
+//! targets.first_clash(alloc)?              // Some(Clash { first: 0, second: 2 }): `a` is a folder of `a/b`
+//! ```
 #![tactic(auto)]
 
 mod known;
@@ -13,6 +21,3 @@ pub struct Clash {
     pub first: usize,
     pub second: usize,
 }
-
-#[cfg(test)]
-mod tests;

@@ -7,3 +7,4 @@ mod Pairs
 mod Sets
 mod Wholes
 mod Views
+mod Numbering

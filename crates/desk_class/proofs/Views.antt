@@ -16,8 +16,8 @@ use Rattle.desk_format.specs.ClassBody.{class_body}
 use Rattle.desk_format.specs.PoolBytes.{pool_uses}
 use Rattle.desk_format.specs.PoolReading.{got, read_pool}
 use Rattle.desk_format.specs.Reading.{read}
-use Rattle.desk_format.specs.Classes.{Class, Version, header_read, class_of, read_class, fault_in, class_fault, class_uses, entries_at}
-use Rattle.desk_format.specs.Servlet.{list_in, uses_in, members_in}
+use Rattle.desk_format.specs.Classes.{Class, Version, header_read, class_of, read_class, fault_in, class_fault, class_uses, entries_at, list_in, uses_in, members_in}
+use Rattle.desk_base.specs.Limits.{file_size}
 use Rattle.desk_pool.specs.Seen.{Stops, ReadPool}
 use Rattle.desk_class.specs.Scan.{Scan, scan, scan_at, number_ahead}
 use Rattle.desk_class.specs.Parts.{this_class, class_name, pool_in, body_at_of, body_at_in, name_in, IsRead}
@@ -64,7 +64,7 @@ module _ (bytes : List ℕ) (spot : Spot) (v : Version) (at : ℕ) (s : List ℕ
         pub is_sound : class_fault bytes ≡ None
         is_sound = ap fault_in reads
 
-        pub is_read : length bytes ≤ 67108864 → at ≡ 8 → pool.uses ≡ pool_uses (at + 2) pool.entries → us ≡ pool.uses → (body_at : ℕ) → body_at ≡ at' → (i : ℕ) → i ≡ from_be_bytes w16 (take 2 (drop 2 s'))
+        pub is_read : length bytes ≤ file_size → at ≡ 8 → pool.uses ≡ pool_uses (at + 2) pool.entries → us ≡ pool.uses → (body_at : ℕ) → body_at ≡ at' → (i : ℕ) → i ≡ from_be_bytes w16 (take 2 (drop 2 s'))
             → (name : Text) → name ≡ class_name_at pool.entries i → IsRead bytes pool body_at scan'.uses scan'.members name
         is_read short eight used copied body_at body i this name named =
             let texts : pool.uses ≡ pool_uses entries_at pool.entries = used ∙ ap (λ (n : ℕ). pool_uses (n + 2) pool.entries) eight in

@@ -14,7 +14,7 @@ use Rattle.desk_base.specs.Entries.{Pool, text_at}
 use Rattle.desk_names.specs.Pieces.{pieces, names_in}
 use Rattle.desk_names.specs.SignaturePieces.{sig_pieces}
 use Rattle.desk_names.specs.SignatureScan.{is_sound_signature}
-use Rattle.desk_format.specs.Servlet.{uses_in}
+use Rattle.desk_format.specs.Classes.{uses_in}
 use Rattle.desk_class.specs.Parts.{pool_in}
 
 -- The class names of a field, method or return descriptor. An array has those of its element type. Another text has none.

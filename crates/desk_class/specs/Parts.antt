@@ -2,13 +2,13 @@
 use Rattle.std.specs.Prelude.{◌≡◌, ℕ, ◌≤◌, List, [], length, None, Result, Ok, Err}
 use Rattle.desk_base.specs.Names.{Text}
 use Rattle.desk_base.specs.Entries.{Pool, class_name_at}
+use Rattle.desk_base.specs.Limits.{file_size}
 use Rattle.desk_base.specs.declared.faults.Malformed.{Malformed}
 use Rattle.desk_base.specs.declared.kinds.Used.{Used}
 use Rattle.desk_format.specs.declared.members.Member.{Member}
 use Rattle.desk_format.specs.Trees.{Tree, Use}
 use Rattle.desk_format.specs.Trees.{both, used}
-use Rattle.desk_format.specs.Classes.{Class, Version, read_class, class_fault, entries_at}
-use Rattle.desk_format.specs.Servlet.{list_in, uses_in, members_in}
+use Rattle.desk_format.specs.Classes.{Class, Version, read_class, class_fault, entries_at, list_in, uses_in, members_in}
 use Rattle.desk_format.specs.PoolBytes.{pool_uses}
 use Rattle.desk_pool.specs.Seen.{ReadPool}
 use Rattle.desk_class.specs.declared.header.Version.{Version as CodeVersion}
@@ -43,7 +43,7 @@ version_of v = record { minor = v.minor; major = v.major }
 
 -- What a view of a class keeps beside the bytes are the parts of the class of these bytes.
 pub record IsRead (bytes : List ℕ) (pool : ReadPool) (body_at : ℕ) (us : List Used) (ms : List Member) (name : Text) : Type 0 where
-  pub short : length bytes ≤ 67108864
+  pub short : length bytes ≤ file_size
   pub sound : class_fault bytes ≡ None
   pub entries : pool.entries ≡ pool_in bytes
   pub pool_texts : pool.uses ≡ pool_uses entries_at (pool_in bytes)

@@ -22,18 +22,10 @@ fn read_head(cursor: &mut Cursor<'_>, pool: &Pool<'_>) -> Result<u16, ReadFault>
     ensures walks { (us : List UsedOf) → Walks result (walk (read pool.now.entries class_head) (walk_at us cursor.old)) cursor.new us }
     ensures this { IfOk result (λ index. index ≡ number_ahead (past 2 cursor.old)) }
 {
-    let _flags = match read_number(cursor) {
-        Ok(flags) => flags,
-        Err(fault) => return Err(fault),
-    };
-    let this = match read_class(false, cursor, pool) {
-        Ok(index) => index,
-        Err(fault) => return Err(fault),
-    };
-    match read_class(true, cursor, pool) {
-        Ok(_) => Ok(this),
-        Err(fault) => Err(fault),
-    }
+    let _flags = read_number(cursor)?;
+    let this = read_class(false, cursor, pool)?;
+    read_class(true, cursor, pool)?;
+    Ok(this)
 }
 
 /// So many interfaces.
@@ -46,10 +38,7 @@ fn read_each_interface(
     ensures { (us : List UsedOf) → Walks result (walk (times count (read pool.now.entries (Layout.index (class_kind false)))) (walk_at us cursor.old)) cursor.new us }
 {
     for _ in 0..count {
-        match read_class(false, cursor, pool) {
-            Ok(_) => {}
-            Err(fault) => return Err(fault),
-        }
+        read_class(false, cursor, pool)?;
     }
     Ok(())
 }
@@ -59,10 +48,8 @@ fn read_each_interface(
 fn read_interfaces(cursor: &mut Cursor<'_>, pool: &Pool<'_>) -> Result<(), ReadFault>
     ensures { (us : List UsedOf) → Walks result (walk (read pool.now.entries interfaces) (walk_at us cursor.old)) cursor.new us }
 {
-    match read_number(cursor) {
-        Ok(count) => read_each_interface(count, cursor, pool),
-        Err(fault) => Err(fault),
-    }
+    let count = read_number(cursor)?;
+    read_each_interface(count, cursor, pool)
 }
 
 /// The body of a class. Its uses and its members are handed over; the answer is the index of this class.
@@ -76,24 +63,10 @@ pub fn walk_body(
     ensures scans { Scans result (scan (read pool.now.entries class_body) (scan_at uses.old.items members.old.items cursor.old)) cursor.new uses.new.items members.new.items }
     ensures this { IfOk result (λ index. index ≡ number_ahead (past 2 cursor.old)) }
 {
-    let this = match read_head(cursor, pool) {
-        Ok(index) => index,
-        Err(fault) => return Err(fault),
-    };
-    match read_interfaces(cursor, pool) {
-        Ok(()) => {}
-        Err(fault) => return Err(fault),
-    }
-    match walk_members(false, cursor, pool, uses, members) {
-        Ok(()) => {}
-        Err(fault) => return Err(fault),
-    }
-    match walk_members(true, cursor, pool, uses, members) {
-        Ok(()) => {}
-        Err(fault) => return Err(fault),
-    }
-    match walk_attributes(Place::OfClass, cursor, pool, uses) {
-        Ok(()) => Ok(this),
-        Err(fault) => Err(fault),
-    }
+    let this = read_head(cursor, pool)?;
+    read_interfaces(cursor, pool)?;
+    walk_members(false, cursor, pool, uses, members)?;
+    walk_members(true, cursor, pool, uses, members)?;
+    walk_attributes(Place::OfClass, cursor, pool, uses)?;
+    Ok(this)
 }

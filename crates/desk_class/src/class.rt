@@ -6,9 +6,9 @@ ghost use Rattle.std.specs.Ordering.{nat_cmp};
 ghost use Rattle.std.specs.Cmp.Lexicographic.{slice_cmp};
 ghost use Rattle.desk_base.specs.Names.{Text as TextOf};
 ghost use Rattle.desk_base.specs.Entries.{class_name_at};
-ghost use Rattle.desk_format.specs.Classes.{class_fault, entries_at};
+ghost use Rattle.desk_base.specs.Limits.{file_size};
+ghost use Rattle.desk_format.specs.Classes.{class_fault, entries_at, uses_in, members_in};
 ghost use Rattle.desk_format.specs.PoolBytes.{pool_uses};
-ghost use Rattle.desk_format.specs.Servlet.{uses_in, members_in};
 ghost use Rattle.desk_class.specs.Parts.{IsRead, pool_in, body_at_in, name_in};
 ghost use Rattle.desk_class.specs.Held.{Holds};
 ghost use Rattle.desk_class.specs.Faults.{IsFirst};
@@ -36,7 +36,7 @@ fn name_of<'a>(pool: &Pool<'a>, index: u16) -> &'a [u8]
 
 /// A class file without a fault (JVMS 4.1), whose texts lie in its bytes. Contracts see the bytes; that they read as a class
 /// belongs to the type. No call but `read` and `class_names` takes memory.
-#[derive(Debug, Drop)]
+#[derive(Drop)]
 pub struct ClassView<'a> {
     bytes: &'a [u8],
     pool: Pool<'a>,
@@ -58,7 +58,7 @@ impl<'a> ClassView<'a> {
     /// Reads a class from its first byte to its last. Malformed is the first fault of the bytes with its place: of magic and
     /// version, of the pool, of the body, bytes behind the class, or twins. Memory is want of memory.
     pub fn read(alloc: Global, bytes: &'a [u8]) -> Result<ClassView<'a>, ReadFault>
-        requires { length bytes.now ≤ 67108864 }
+        requires { length bytes.now ≤ file_size }
         ensures bytes { IfOk result (λ class. class ≡ bytes.now) }
         ensures sound { OnOk result (class_fault bytes.now ≡ None) }
         ensures fault { IfErr result (IsFirst (class_fault bytes.now)) }
@@ -97,7 +97,7 @@ impl<'a> ClassView<'a> {
     pub fn bytes(&self) -> &'a [u8]
         ensures bytes { result.now ≡ self.now }
         ensures sound { class_fault self.now ≡ None }
-        ensures short { length self.now ≤ 67108864 }
+        ensures short { length self.now ≤ file_size }
     {
         self.bytes
     }

@@ -9,7 +9,7 @@ ghost use Rattle.desk_class.specs.Parts.{version_of};
 use desk_base::{Cursor, FaultKind, Malformed};
 
 /// The version of a class file.
-#[derive(Clone, Copy, Debug, PartialEq, Eq)]
+#[derive(Clone, Copy)]
 pub struct Version {
     pub minor: u16,
     pub major: u16,
@@ -25,11 +25,7 @@ fn read_number(cursor: &mut Cursor<'_>) -> Result<u16, Malformed>
     ensures number { Reads result (λ n. n) (number_read cursor.old.at cursor.old.left) cursor.new }
     ensures moved { OnOk result (cursor.new.at ≡ cursor.old.at + 2) }
 {
-    let at = cursor.at();
-    match cursor.u2() {
-        Ok(number) => Ok(number),
-        Err(_) => fault(FaultKind::Truncated, at),
-    }
+    Ok(cursor.u2()?)
 }
 
 /// The minor and the major version. Major 45 to 61 is accepted; from 56 on the minor must be 0 or 65,535.
@@ -53,15 +49,10 @@ pub fn read_header(cursor: &mut Cursor<'_>) -> Result<Version, Malformed>
     ensures header { Reads result version_of (header_read cursor.old.at cursor.old.left) cursor.new }
     ensures moved { OnOk result (cursor.new.at ≡ cursor.old.at + 8) }
 {
-    let at = cursor.at();
-    match cursor.take(4) {
-        Ok(bytes) => {
-            if bytes == [0xCA, 0xFE, 0xBA, 0xBE].as_slice() {
-                read_version(cursor)
-            } else {
-                fault(FaultKind::Magic, 0)
-            }
-        }
-        Err(_) => fault(FaultKind::Truncated, at),
+    let magic = cursor.take(4)?;
+    if magic == [0xCA, 0xFE, 0xBA, 0xBE].as_slice() {
+        read_version(cursor)
+    } else {
+        fault(FaultKind::Magic, 0)
     }
 }

@@ -10,14 +10,8 @@ ghost use Rattle.desk_format.specs.Trees.{text_use, uses_of};
 ghost use Rattle.desk_format.specs.Walk.{walk, walk_at, Walks, Stops};
 ghost use Rattle.desk_class.specs.Scan.{number_ahead, class_kind, descriptor_kind};
 
-use desk_base::{Cursor, FaultKind, Malformed, PoolView, ReadFault, Role, UseKind, Used};
+use desk_base::{Cursor, Malformed, PoolView, ReadFault, Role, UseKind, Used};
 use desk_pool::Pool;
-
-fn fault<T>(kind: FaultKind, at: u32) -> Result<T, ReadFault>
-    ensures { result ≡ Err (ReadFault.Malformed (record { kind = kind; at = at })) }
-{
-    Err(ReadFault::Malformed(Malformed { kind, at }))
-}
 
 /// A two-byte number. Past the cursor's end it is Truncated, at its place.
 #[tactic(auto, unfolding(desk_format::specs::Walk::walk, desk_format::specs::Reading::number_at))]
@@ -26,11 +20,7 @@ pub fn read_number(cursor: &mut Cursor<'_>) -> Result<u16, ReadFault>
     ensures value { IfOk result (λ number. number ≡ number_ahead cursor.old) }
     ensures moved { OnOk result (cursor.new ≡ past 2 cursor.old) }
 {
-    let at = cursor.at();
-    match cursor.u2() {
-        Ok(number) => Ok(number),
-        Err(_) => fault(FaultKind::Truncated, at),
-    }
+    Ok(cursor.u2()?)
 }
 
 /// An index of the pool that must name an entry that fits a use kind. Past the cursor's end it is Truncated, and where the
@@ -43,12 +33,10 @@ pub fn read_index(kind: UseKind, cursor: &mut Cursor<'_>, pool: &Pool<'_>) -> Re
     ensures moved { OnOk result (cursor.new ≡ past 2 cursor.old) }
 {
     let at = cursor.at();
-    match cursor.u2() {
-        Ok(index) => match pool.check(index, kind) {
-            None => Ok(index),
-            Some(kind) => fault(kind, at),
-        },
-        Err(_) => fault(FaultKind::Truncated, at),
+    let index = cursor.u2()?;
+    match pool.check(index, kind) {
+        None => Ok(index),
+        Some(kind) => Err(ReadFault::Malformed(Malformed { kind, at })),
     }
 }
 
@@ -82,10 +70,7 @@ pub fn walk_name(
     ensures moved { OnOk result (cursor.new ≡ past 2 cursor.old) }
 {
     let at = cursor.at();
-    let index = match read_index(UseKind::Plain, cursor, pool) {
-        Ok(index) => index,
-        Err(fault) => return Err(fault),
-    };
+    let index = read_index(UseKind::Plain, cursor, pool)?;
     uses.push(Used {
         at,
         index,
@@ -111,10 +96,7 @@ pub fn walk_descriptor(
     } else {
         UseKind::FieldDescriptor
     };
-    let index = match read_index(kind, cursor, pool) {
-        Ok(index) => index,
-        Err(fault) => return Err(fault),
-    };
+    let index = read_index(kind, cursor, pool)?;
     uses.push(Used {
         at,
         index,

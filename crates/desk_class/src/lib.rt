@@ -1,4 +1,12 @@
 //! A class file that reads from its first byte to its last (JVMS 4.1), or its first fault.
+//!
+//! ```text
+//! match ClassView::read(alloc, bytes) {
+//!     Ok(class) => rename(class.name(), class.uses()),
+//!     Err(ReadFault::Malformed(fault)) => refuse(fault.kind, fault.at),
+//!     Err(ReadFault::Memory) => return Err(Memory),
+//! }
+//! ```
 #![tactic(auto)]
 
 mod body;
@@ -7,10 +15,9 @@ mod header;
 mod items;
 mod members;
 mod names;
+mod numbers;
 mod twins;
 
 pub use class::ClassView;
 pub use desk_format::Member;
-
-#[cfg(test)]
-mod tests;
+pub use numbers::TextNumbers;

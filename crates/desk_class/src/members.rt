@@ -25,18 +25,9 @@ fn walk_head(
     ensures member { IfOk result (λ member. member ≡ member_ahead method cursor.old) }
 {
     let at = cursor.at();
-    let _flags = match read_number(cursor) {
-        Ok(flags) => flags,
-        Err(fault) => return Err(fault),
-    };
-    let name = match walk_name(cursor, pool, uses) {
-        Ok(name) => name,
-        Err(fault) => return Err(fault),
-    };
-    let descriptor = match walk_descriptor(method, cursor, pool, uses) {
-        Ok(descriptor) => descriptor,
-        Err(fault) => return Err(fault),
-    };
+    let _flags = read_number(cursor)?;
+    let name = walk_name(cursor, pool, uses)?;
+    let descriptor = walk_descriptor(method, cursor, pool, uses)?;
     Ok(Member {
         at,
         name,
@@ -67,14 +58,9 @@ fn walk_member(
     ensures walks { Walks result (walk (read pool.now.entries (member_layout method)) (walk_at uses.old.items cursor.old)) cursor.new uses.new.items }
     ensures member { IfOk result (λ member. member ≡ member_ahead method cursor.old) }
 {
-    let member = match walk_head(method, cursor, pool, uses) {
-        Ok(member) => member,
-        Err(fault) => return Err(fault),
-    };
-    match walk_attributes(place_of(method), cursor, pool, uses) {
-        Ok(()) => Ok(member),
-        Err(fault) => Err(fault),
-    }
+    let member = walk_head(method, cursor, pool, uses)?;
+    walk_attributes(place_of(method), cursor, pool, uses)?;
+    Ok(member)
 }
 
 /// So many methods or fields.
@@ -90,10 +76,8 @@ fn walk_each_member(
     ensures { Scans result (scan (times count (read pool.now.entries (Layout.member (member_layout method)))) (scan_at uses.old.items members.old.items cursor.old)) cursor.new uses.new.items members.new.items }
 {
     for _ in 0..count {
-        match walk_member(method, cursor, pool, uses) {
-            Ok(member) => members.push(member)?,
-            Err(fault) => return Err(fault),
-        }
+        let member = walk_member(method, cursor, pool, uses)?;
+        members.push(member)?;
     }
     Ok(())
 }
@@ -109,8 +93,6 @@ pub fn walk_members(
 ) -> Result<(), ReadFault>
     ensures { Scans result (scan (read pool.now.entries (many (Layout.member (member_layout method)))) (scan_at uses.old.items members.old.items cursor.old)) cursor.new uses.new.items members.new.items }
 {
-    match read_number(cursor) {
-        Ok(count) => walk_each_member(method, count, cursor, pool, uses, members),
-        Err(fault) => Err(fault),
-    }
+    let count = read_number(cursor)?;
+    walk_each_member(method, count, cursor, pool, uses, members)
 }

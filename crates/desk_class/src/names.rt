@@ -10,7 +10,7 @@ ghost use Rattle.desk_names.specs.Pieces.{names_in};
 ghost use Rattle.desk_names.specs.SignatureScan.{wanted_signature};
 ghost use Rattle.desk_class.specs.Held.{has, is_held, descriptor_names, signature_names, names_of, held_by};
 
-use crate::twins::text_at;
+use crate::numbers::text_at;
 use desk_base::{Memory, Role, Text, TextList, Used};
 use desk_names::{
     ClassName, DescParts, Part, SigParts, Want, Which, read_descriptor, read_signature, split_class,

@@ -1,2 +1,1 @@
-mod Stripping
 mod DotCuts

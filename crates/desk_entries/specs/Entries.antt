@@ -1,8 +1,8 @@
 -- What a key and its value say in each rule file, or the fault: of the key where it hasn't its form, and else of the value.
-use Rattle.std.specs.Prelude.{◌≡◌, ⊤, Bool, true, false, not, ◌&&◌, ◌||◌, ◌==◌, [], ◌∷◌, Option, Some, None, Result, Ok, Err, if◌then◌else◌}
+use Rattle.std.specs.Prelude.{◌≡◌, ⊤, Bool, not, ◌&&◌, ◌||◌, ◌==◌, [], ◌∷◌, Some, None, Result, Ok, Err, if◌then◌else◌}
 use Rattle.std.specs.List.{list_any, before_first, after_first}
 use Rattle.desk_base.specs.Names.{Text, segments, dot, is_dotted, is_empty}
-use Rattle.desk_entries.specs.Blanks.{stripped}
+use Rattle.desk_lines.specs.Blanks.{trimmed_end}
 use Rattle.desk_entries.specs.Forms.{is_semicolon, is_below, source_text, is_symbolic_name, is_version, is_plain, is_stored}
 use Rattle.desk_entries.specs.declared.faults.EntryFault.{EntryFault}
 use Rattle.desk_entries.specs.declared.faults.EntryFault.TheVariants.{Key, Value}
@@ -29,7 +29,7 @@ rename_between below source target =
     else Ok (record { source = segments dot source; target = segments dot target; below = below })
 
 abbrev pub rename_of : Text → Text → Result Rename EntryFault
-rename_of key value = rename_between (is_below key) (source_text key) (stripped value)
+rename_of key value = rename_between (is_below key) (source_text key) (trimmed_end value)
 
 -- ---- versions.properties: a package; and a version, or one for imports, `;` and one for exports
 
@@ -44,7 +44,7 @@ versions_in value =
     else versions_between value value
 
 abbrev pub versions_of : Text → Text → Result Versions EntryFault
-versions_of key value = if not (is_dotted key) then Err Key else versions_in (stripped value)
+versions_of key value = if not (is_dotted key) then Err Key else versions_in (trimmed_end value)
 
 -- ---- bundles.properties: a symbolic name; and the new one, or the new one, `;` and a version
 
@@ -62,7 +62,7 @@ update_in value =
     else plain_update value
 
 abbrev pub update_of : Text → Text → Result Update EntryFault
-update_of key value = if not (is_symbolic_name key) then Err Key else update_in (stripped value)
+update_of key value = if not (is_symbolic_name key) then Err Key else update_in (trimmed_end value)
 
 -- ---- direct.properties: a string that isn't empty; and the new one, which is modified UTF-8, as a class file stores texts
 -- ---- (JVMS 4.4.7)
@@ -81,12 +81,12 @@ mark_in (b ∷ []) = if b == 33 then Ok Exclude else Err Value
 mark_in (b ∷ c ∷ t) = Err Value
 
 abbrev pub mark_of : Text → Text → Result Mark EntryFault
-mark_of key value = if is_empty key then Err Key else mark_in (stripped value)
+mark_of key value = if is_empty key then Err Key else mark_in (trimmed_end value)
 
 -- ---- text.properties: a pattern; and the name of a file of text rules
 
 abbrev pub text_name_of : Text → Text → Result Text EntryFault
-text_name_of key value = if is_empty key then Err Key else Ok (stripped value)
+text_name_of key value = if is_empty key then Err Key else Ok (trimmed_end value)
 
 -- ---- text rules: a text that isn't empty; and any text
 

@@ -1,6 +1,7 @@
 -- Forms of keys and values.
 use Rattle.std.specs.Prelude.{ℕ, Bool, not, ◌&&◌, ◌||◌, ◌==◌, nat_lt, nat_le, ◌-◌, length, take, [], ◌∷◌, is_none, if◌then◌else◌}
 use Rattle.std.specs.List.{list_all, ends_with}
+use Rattle.desk_base.specs.Limits.{file_size}
 use Rattle.desk_base.specs.Names.{Text, is_empty, is_letter, is_digit}
 use Rattle.desk_base.specs.Utf8.{bad_form}
 
@@ -43,4 +44,4 @@ is_plain = list_all is_plain_byte
 -- a text in modified UTF-8, as a class file stores texts (JVMS 4.4.7), and of at most 67,108,864 bytes, which is more than a
 -- rule file holds
 abbrev pub is_stored : Text → Bool
-is_stored t = nat_le (length t) 67108864 && is_none (bad_form t)
+is_stored t = nat_le (length t) file_size && is_none (bad_form t)

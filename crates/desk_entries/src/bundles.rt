@@ -6,9 +6,10 @@ ghost use Rattle.desk_entries.specs.Forms.{is_symbolic_byte, is_symbolic_name};
 ghost use Rattle.desk_entries.specs.Entries.{update_of, plain_update, update_with, IsError};
 
 use crate::faults::{EntryError, EntryFault};
-use crate::values::{cut_at_semicolon, has_semicolon, stripped};
+use crate::values::{cut_at_semicolon, has_semicolon};
 use crate::versions::is_version;
 use desk_base::Text;
+use desk_lines::trim_trailing_blanks;
 use std::alloc::Global;
 
 /// What takes the place of a bundle's symbolic name (OSGi Core, `Bundle-SymbolicName`).
@@ -84,7 +85,7 @@ pub fn read_update(alloc: Global, key: &[u8], value: &[u8]) -> Result<Update, En
     if !is_symbolic_name(key) {
         return Err(EntryError::Fault(EntryFault::Key));
     }
-    let value = stripped(value);
+    let value = trim_trailing_blanks(value);
     if has_semicolon(value) {
         let (name, version) = cut_at_semicolon(value);
         read_versioned(alloc, name, version)

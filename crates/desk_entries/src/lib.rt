@@ -1,4 +1,9 @@
 //! One key and one value of a rule file: what they say, or which of the two hasn't its form.
+//!
+//! ```text
+//! read_rename(alloc, b"javax.servlet.*", b"jakarta.servlet")?; // the package, and all below it, with their new name
+//! read_rename(alloc, b"javax..servlet", b"jakarta.servlet"); // Err: the key hasn't its form
+//! ```
 #![tactic(auto)]
 
 ghost use Rattle.std.specs.Prelude.{◌≡◌};
@@ -9,8 +14,6 @@ mod faults;
 mod patterns;
 mod renames;
 mod strings;
-#[cfg(test)]
-mod tests;
 mod values;
 mod versions;
 

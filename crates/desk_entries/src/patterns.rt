@@ -4,7 +4,7 @@ ghost use Rattle.std.specs.Prelude.{◌≡◌, Ok, Err, MatchResult};
 ghost use Rattle.desk_entries.specs.Entries.{mark_of, text_name_of};
 
 use crate::faults::EntryFault;
-use crate::values::stripped;
+use desk_lines::trim_trailing_blanks;
 
 /// What a pattern of `selection.properties` says of the paths that it fits.
 #[derive(Clone, Copy, Debug, PartialEq, Eq)]
@@ -22,7 +22,7 @@ pub fn read_mark(key: &[u8], value: &[u8]) -> Result<Mark, EntryFault>
     if key.is_empty() {
         return Err(EntryFault::Key);
     }
-    match stripped(value) {
+    match trim_trailing_blanks(value) {
         [] => Ok(Mark::Include),
         [b'!'] => Ok(Mark::Exclude),
         _ => Err(EntryFault::Value),
@@ -37,6 +37,6 @@ pub fn read_text_name<'a>(key: &[u8], value: &'a [u8]) -> Result<&'a [u8], Entry
     if key.is_empty() {
         Err(EntryFault::Key)
     } else {
-        Ok(stripped(value))
+        Ok(trim_trailing_blanks(value))
     }
 }

@@ -7,8 +7,9 @@ ghost use Rattle.desk_entries.specs.Entries.{rename_of, IsError};
 
 use crate::dots::split_at_dots;
 use crate::faults::{EntryError, EntryFault};
-use crate::values::{is_stored, stripped};
+use crate::values::is_stored;
 use desk_base::{Memory, TextList};
+use desk_lines::trim_trailing_blanks;
 use desk_names::is_dotted;
 use std::alloc::Global;
 
@@ -55,7 +56,7 @@ pub fn read_rename(alloc: Global, key: &[u8], value: &[u8]) -> Result<Rename, En
     ensures refused { IfErr result (IsError (rename_of key.now value.now)) }
 {
     let (source, below) = cut_key(key);
-    let target = stripped(value);
+    let target = trim_trailing_blanks(value);
     if !is_dotted(source) {
         return Err(EntryError::Fault(EntryFault::Key));
     }

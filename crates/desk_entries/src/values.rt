@@ -1,29 +1,10 @@
-//! Values as they are read: without blanks at the end, in two parts, and as a class file stores texts.
+//! Values as they are read: in two parts, and as a class file stores texts.
 
 ghost use Rattle.std.specs.Prelude.{◌≡◌};
 ghost use Rattle.std.specs.List.{list_any, before_first, after_first, position_or_len};
-ghost use Rattle.desk_entries.specs.Blanks.{is_blank, stripped};
 ghost use Rattle.desk_entries.specs.Forms.{is_semicolon, is_stored};
 
-use desk_base::check_utf8;
-
-/// Whether a byte is a space or a tab.
-fn is_blank(byte: u8) -> bool
-    ensures { result ≡ is_blank byte }
-{
-    byte == b' ' || byte == b'\t'
-}
-
-/// A text without the spaces and tabs at its end.
-pub fn stripped(text: &[u8]) -> &[u8]
-    ensures { result.now ≡ stripped text.now }
-{
-    let mut end = text.len();
-    while end > 0 && is_blank(text[end - 1]) {
-        end -= 1;
-    }
-    &text[..end]
-}
+use desk_base::{FILE_SIZE, check_utf8};
 
 /// The place of the first `;`, or the text's length.
 fn place_of_semicolon(text: &[u8]) -> usize
@@ -62,5 +43,5 @@ pub fn cut_at_semicolon(text: &[u8]) -> (&[u8], &[u8])
 pub fn is_stored(text: &[u8]) -> bool
     ensures { result ≡ is_stored text.now }
 {
-    text.len() <= 67_108_864 && check_utf8(text).is_ok()
+    text.len() <= FILE_SIZE && check_utf8(text).is_ok()
 }

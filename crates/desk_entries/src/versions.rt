@@ -6,8 +6,9 @@ ghost use Rattle.desk_entries.specs.Forms.{is_version_byte, is_version};
 ghost use Rattle.desk_entries.specs.Entries.{versions_of, versions_between, IsError};
 
 use crate::faults::{EntryError, EntryFault};
-use crate::values::{cut_at_semicolon, has_semicolon, stripped};
+use crate::values::{cut_at_semicolon, has_semicolon};
 use desk_base::Text;
+use desk_lines::trim_trailing_blanks;
 use desk_names::is_dotted;
 use std::alloc::Global;
 
@@ -68,7 +69,7 @@ pub fn read_versions(alloc: Global, key: &[u8], value: &[u8]) -> Result<Versions
     if !is_dotted(key) {
         return Err(EntryError::Fault(EntryFault::Key));
     }
-    let value = stripped(value);
+    let value = trim_trailing_blanks(value);
     if has_semicolon(value) {
         let (imported, exported) = cut_at_semicolon(value);
         both_versions(alloc, imported, exported)

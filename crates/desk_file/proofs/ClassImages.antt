@@ -5,7 +5,7 @@ use Rattle.desk_base.specs.declared.faults.Malformed.{Malformed}
 use Rattle.desk_format.specs.Classes.{Class, read_class, fault_in, class_fault}
 use Rattle.desk_format.specs.NewClass.{Refusal, refusal}
 use Rattle.desk_rewrite.specs.Refused.{Refuses}
-use Rattle.desk_images.specs.RuleImages.{images_of}
+use Rattle.desk_rewrite.specs.RuleImages.{images_of}
 use Rattle.desk_rewrite.specs.declared.rewriting.RewriteFault.{RewriteFault}
 use Rattle.desk_rewrite.specs.declared.rewriting.RewriteFault.TheVariants as rewrite
 use Rattle.desk_rules.specs.Rules.{Rules}

@@ -1,6 +1,10 @@
 -- When a file has no image.
 use Rattle.std.specs.Prelude.{◌≡◌, ⊤, Result, Err}
 use Rattle.desk_base.specs.Names.{Text}
+use Rattle.desk_base.specs.declared.faults.ReadFault.{ReadFault}
+use Rattle.desk_base.specs.declared.faults.ReadFault.TheVariants as read
+use Rattle.desk_metainf.specs.declared.MetaFault.{MetaFault}
+use Rattle.desk_metainf.specs.declared.MetaFault.TheVariants as meta
 use Rattle.desk_report.specs.declared.lines.Reason.{Reason}
 use Rattle.desk_report.specs.declared.lines.Reason.TheVariants as reason
 use Rattle.desk_rewrite.specs.declared.rewriting.RewriteFault.{RewriteFault}
@@ -21,12 +25,22 @@ IsFaultOf made Memory = ⊤
 abbrev pub IsServiceFault : Rules → Text → FileFault → Type 0
 IsServiceFault rules bytes fault = IsFaultOf (service_image rules bytes) fault
 
+-- why a service file has none
+abbrev pub service_fault : MetaFault → FileFault
+service_fault (meta.BadLine at) = Refused (reason.BadLine at)
+service_fault meta.Memory = Memory
+
 -- why a class that reads has none
 abbrev pub file_fault : RewriteFault → FileFault
 file_fault (rewrite.Overlong index size) = Refused (reason.Overlong index size)
 file_fault (rewrite.PoolFull count needed) = Refused (reason.PoolFull count needed)
 file_fault (rewrite.Twins first second) = Refused (reason.Twins first second)
 file_fault rewrite.Memory = Memory
+
+-- why bytes have none that aren't a well-formed class
+abbrev pub read_fault : ReadFault → FileFault
+read_fault (read.Malformed fault) = Refused (reason.Malformed fault)
+read_fault read.Memory = Memory
 
 -- a class has none for this reason
 abbrev pub IsClassFault : Rules → Text → FileFault → Type 0

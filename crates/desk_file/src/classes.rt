@@ -1,8 +1,9 @@
 //! The image of a class.
 
 ghost use Rattle.std.specs.Prelude.{◌≡◌, ◌≤◌, Ok, IfOk, IfErr, length};
+ghost use Rattle.desk_base.specs.Limits.{file_size};
 ghost use Rattle.desk_file.specs.Classes.{class_image};
-ghost use Rattle.desk_file.specs.Faults.{IsClassFault, file_fault};
+ghost use Rattle.desk_file.specs.Faults.{IsClassFault};
 
 use crate::images::{FileFault, Image};
 use desk_base::ReadFault;
@@ -13,21 +14,37 @@ use desk_rewrite::{RewriteFault, Rewritten, rewrite};
 use desk_rules::RuleSet;
 use std::alloc::Global;
 
-/// Why a class that reads has no image.
-fn refused(fault: RewriteFault) -> FileFault
-    ensures { result ≡ file_fault fault }
-{
-    match fault {
-        RewriteFault::Overlong { index, length } => {
-            FileFault::Refused(Reason::Overlong { index, length })
+impl From<ReadFault> for FileFault {
+    ghost use Rattle.desk_file.specs.Faults.{read_fault};
+
+    ghost from_gives = { λ why fault. fault ≡ read_fault why };
+
+    fn from(why: ReadFault) -> FileFault {
+        match why {
+            ReadFault::Malformed(fault) => FileFault::Refused(Reason::Malformed(fault)),
+            ReadFault::Memory => FileFault::Memory,
         }
-        RewriteFault::PoolFull { count, needed } => {
-            FileFault::Refused(Reason::PoolFull { count, needed })
+    }
+}
+
+impl From<RewriteFault> for FileFault {
+    ghost use Rattle.desk_file.specs.Faults.{file_fault};
+
+    ghost from_gives = { λ why fault. fault ≡ file_fault why };
+
+    fn from(why: RewriteFault) -> FileFault {
+        match why {
+            RewriteFault::Overlong { index, length } => {
+                FileFault::Refused(Reason::Overlong { index, length })
+            }
+            RewriteFault::PoolFull { count, needed } => {
+                FileFault::Refused(Reason::PoolFull { count, needed })
+            }
+            RewriteFault::Twins { first, second } => {
+                FileFault::Refused(Reason::Twins { first, second })
+            }
+            RewriteFault::Memory => FileFault::Memory,
         }
-        RewriteFault::Twins { first, second } => {
-            FileFault::Refused(Reason::Twins { first, second })
-        }
-        RewriteFault::Memory => FileFault::Memory,
     }
 }
 
@@ -36,34 +53,25 @@ fn refused(fault: RewriteFault) -> FileFault
 /// well-formed class, else `Overlong`, `PoolFull` or `Twins`, in this order. The only other error is want of memory.
 #[tactic(auto, using(crate::proofs::ClassImages::malformed))]
 pub(crate) fn class_image(alloc: Global, rules: &RuleSet, bytes: &[u8]) -> Result<Image, FileFault>
-    requires { length bytes.now ≤ 67108864 }
+    requires { length bytes.now ≤ file_size }
     ensures ok { IfOk result (λ found. class_image rules.now bytes.now ≡ Ok found) }
     ensures err { IfErr result (IsClassFault rules.now bytes.now) }
 {
-    let view = match ClassView::read(alloc, bytes) {
-        Ok(view) => view,
-        Err(ReadFault::Malformed(fault)) => {
-            return Err(FileFault::Refused(Reason::Malformed(fault)));
-        }
-        Err(ReadFault::Memory) => return Err(FileFault::Memory),
-    };
-    match rewrite(alloc, &view, rules, &NoImages::new(rules)) {
-        Ok(
-            Rewritten {
-                bytes,
-                renamed,
-                added,
-                odd,
-            },
-        ) => Ok(Image {
-            bytes,
-            detail: Detail::Class {
-                renamed,
-                added,
-                odd,
-                links: 0,
-            },
-        }),
-        Err(fault) => Err(refused(fault)),
-    }
+    let view = ClassView::read(alloc, bytes)?;
+    let new = rewrite(alloc, rules, &NoImages::new(rules), &view)?;
+    let Rewritten {
+        bytes,
+        renamed,
+        added,
+        odd,
+    } = new;
+    Ok(Image {
+        bytes,
+        detail: Detail::Class {
+            renamed,
+            added,
+            odd,
+            links: 0,
+        },
+    })
 }

@@ -1,6 +1,7 @@
 //! One file under rules.
 
 ghost use Rattle.std.specs.Prelude.{◌≡◌, ◌≤◌, IfOk, length};
+ghost use Rattle.desk_base.specs.Limits.{file_size};
 ghost use Rattle.desk_file.specs.Outcomes.{outcome};
 
 use crate::images::{FileFault, Image, image_of_bytes};
@@ -33,7 +34,7 @@ pub fn migrate_file(
     path: &Text,
     bytes: &[u8],
 ) -> Result<Outcome, Memory>
-    requires { length bytes.now ≤ 67108864 }
+    requires { length bytes.now ≤ file_size }
     ensures { IfOk result (λ made. made ≡ outcome rules.now path.now bytes.now) }
 {
     match image_of_bytes(alloc, rules, path, bytes) {

@@ -1,12 +1,13 @@
 //! The image of a file.
 
 ghost use Rattle.std.specs.Prelude.{◌≡◌, ◌≤◌, Ok, IfOk, IfErr, length, unwrap_or};
+ghost use Rattle.desk_base.specs.Limits.{file_size};
 ghost use Rattle.desk_file.specs.Faults.{IsFaultOf, IsFileFault, IsServiceFault};
 ghost use Rattle.desk_file.specs.Images.{copied, image, image_by, service_image};
 
 use crate::classes::class_image;
 use crate::treatments::{Treatment, treatment_of};
-use desk_base::{Memory, Text};
+use desk_base::{Changed, Memory, Text};
 use desk_metainf::{MetaFault, migrate_service};
 use desk_report::{Detail, Reason};
 use desk_rules::RuleSet;
@@ -37,22 +38,31 @@ impl From<Memory> for FileFault {
     }
 }
 
+impl From<MetaFault> for FileFault {
+    ghost use Rattle.std.specs.Prelude.{◌≡◌};
+    ghost use Rattle.desk_file.specs.Faults.{service_fault};
+
+    ghost from_gives = { λ why fault. fault ≡ service_fault why };
+
+    fn from(why: MetaFault) -> FileFault {
+        match why {
+            MetaFault::BadLine { at } => FileFault::Refused(Reason::BadLine { at }),
+            MetaFault::Memory => FileFault::Memory,
+        }
+    }
+}
+
 /// The image of a service file.
 fn service_image(alloc: Global, rules: &RuleSet, bytes: &[u8]) -> Result<Image, FileFault>
-    requires { length bytes.now ≤ 67108864 }
+    requires { length bytes.now ≤ file_size }
     ensures ok { IfOk result (λ found. service_image rules.now bytes.now ≡ Ok found) }
     ensures err { IfErr result (IsServiceFault rules.now bytes.now) }
 {
-    match migrate_service(alloc, bytes, rules) {
-        Ok(changed) => Ok(Image {
-            bytes: changed.bytes,
-            detail: Detail::Service {
-                changed: changed.changed,
-            },
-        }),
-        Err(MetaFault::BadLine { at }) => Err(FileFault::Refused(Reason::BadLine { at })),
-        Err(MetaFault::Memory) => Err(FileFault::Memory),
-    }
+    let Changed { bytes, changed } = migrate_service(alloc, rules, bytes)?;
+    Ok(Image {
+        bytes,
+        detail: Detail::Service { changed },
+    })
 }
 
 /// The image of a file by its treatment, and none where the file is copied.
@@ -62,7 +72,7 @@ fn changed_image(
     treatment: Treatment,
     bytes: &[u8],
 ) -> Result<Option<Image>, FileFault>
-    requires { length bytes.now ≤ 67108864 }
+    requires { length bytes.now ≤ file_size }
     ensures ok { IfOk result (λ found. image_by rules.now bytes.now treatment ≡ Ok (unwrap_or found (copied bytes.now))) }
     ensures err { IfErr result (IsFaultOf (image_by rules.now bytes.now treatment)) }
 {
@@ -74,24 +84,38 @@ fn changed_image(
     }
 }
 
+/// The image of a file by its path, and none where the file is copied.
+#[tactic(auto, unfolding(crate::specs::Images::image))]
+fn image_at(
+    alloc: Global,
+    rules: &RuleSet,
+    path: &Text,
+    bytes: &[u8],
+) -> Result<Option<Image>, FileFault>
+    requires { length bytes.now ≤ file_size }
+    ensures ok { IfOk result (λ found. image rules.now path.now bytes.now ≡ Ok (unwrap_or found (copied bytes.now))) }
+    ensures err { IfErr result (IsFileFault rules.now path.now bytes.now) }
+{
+    let treatment = treatment_of(alloc, rules, path)?;
+    changed_image(alloc, rules, treatment, bytes)
+}
+
 /// The image of a file of at most 67,108,864 bytes, by its path. A file that is copied keeps its bytes,
 /// and no others are made. `Refused` comes exactly where the file has no image: `Malformed`, `Overlong`,
 /// `PoolFull` or `Twins` for a selected class; `BadLine` for a selected service file with a provider that
 /// holds a blank, with the offset of the first byte of the first such line; `NotBuilt` for a selected file
 /// whose kind isn't built. The only other error is want of memory.
-#[tactic(auto, unfolding(crate::specs::Images::image))]
 pub fn image_of(
     alloc: Global,
     rules: &RuleSet,
     path: &Text,
     bytes: Text,
 ) -> Result<Image, FileFault>
-    requires { length bytes ≤ 67108864 }
+    requires { length bytes ≤ file_size }
     ensures ok { IfOk result (λ found. image rules.now path.now bytes ≡ Ok found) }
     ensures err { IfErr result (IsFileFault rules.now path.now bytes) }
 {
-    let treatment = treatment_of(alloc, rules, path)?;
-    match changed_image(alloc, rules, treatment, bytes.as_bytes())? {
+    match image_at(alloc, rules, path, bytes.as_bytes())? {
         Some(image) => Ok(image),
         None => Ok(Image {
             bytes,
@@ -101,19 +125,17 @@ pub fn image_of(
 }
 
 /// The image of a file, as `image_of` gives it; bytes are made anew where they are copied.
-#[tactic(auto, unfolding(crate::specs::Images::image))]
 pub(crate) fn image_of_bytes(
     alloc: Global,
     rules: &RuleSet,
     path: &Text,
     bytes: &[u8],
 ) -> Result<Image, FileFault>
-    requires { length bytes.now ≤ 67108864 }
+    requires { length bytes.now ≤ file_size }
     ensures ok { IfOk result (λ found. image rules.now path.now bytes.now ≡ Ok found) }
     ensures err { IfErr result (IsFileFault rules.now path.now bytes.now) }
 {
-    let treatment = treatment_of(alloc, rules, path)?;
-    match changed_image(alloc, rules, treatment, bytes)? {
+    match image_at(alloc, rules, path, bytes)? {
         Some(image) => Ok(image),
         None => Ok(Image {
             bytes: Text::from_bytes(alloc, bytes)?,

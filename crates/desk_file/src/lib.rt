@@ -1,11 +1,19 @@
 //! One file: where it goes, and what it becomes there.
+//!
+//! ```text
+//! let path = Text::from_bytes(alloc, b"META-INF/services/javax.servlet.F")?;
+//! let target = target_of(alloc, &rules, &path)?; // META-INF/services/jakarta.servlet.F
+//! match image_of(alloc, &rules, &path, bytes) {
+//!     Ok(Image { bytes, detail }) => write(&target, &bytes, detail),
+//!     Err(FileFault::Refused(reason)) => tell(&path, reason),
+//!     Err(FileFault::Memory) => return Err(Memory),
+//! }
+//! ```
 #![tactic(auto)]
 
 mod classes;
 mod files;
 mod images;
-#[cfg(test)]
-mod tests;
 mod treatments;
 
 pub use files::{Outcome, migrate_file};

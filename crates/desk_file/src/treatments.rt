@@ -29,7 +29,7 @@ pub fn target_of(alloc: Global, rules: &RuleSet, path: &Text) -> Result<Text, Me
     ensures target { IfOk result (λ found. found ≡ target rules.now path.now) }
     ensures relative { IfOk result (λ found. IsTrue (is_relative_path path.now) → IsTrue (is_relative_path found)) }
 {
-    target(alloc, path.as_bytes(), rules)
+    target(alloc, rules, path.as_bytes())
 }
 
 /// Whether a text rule file fits a path.

@@ -11,7 +11,8 @@ use Rattle.std.specs.Map.{lookup}
 use Rattle.std.specs.FinMap.{get, insert, from_entries, find, gets, get_tied, get-from_entries, get-insert, get-remove}
 use Rattle.desk_base.specs.Names.{Text}
 use Rattle.desk_folders.specs.Contents.{Contents, ChangesOnly, setting}
-use Rattle.desk_folders.specs.ContentsLaws.{same_texts, ChangesOnly-refl}
+use Rattle.desk_base.specs.TextMaps.{same_texts}
+use Rattle.desk_folders.specs.ContentsLaws.{ChangesOnly-refl}
 use Rattle.desk_folders.specs.InMemory.{InMemory, leaving, called, filled}
 use Rattle.desk_folders.specs.declared.folders.GenFile.{GenFile}
 

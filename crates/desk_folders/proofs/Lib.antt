@@ -2,3 +2,4 @@ pub mod Below
 pub mod Members
 pub mod Entries
 pub mod FirstPaths
+mod Listings

@@ -1,5 +1,5 @@
 -- What folders tell of their contents, how one path of them changes, and what stands below a root.
-use Rattle.std.specs.Prelude.{◌≡◌, ◌⊎◌, ℕ, ◌+◌, ◌<◌, ◌≤◌, ◌==◌, ◌^◌, ◌-◌, ◌++◌, List, [], ◌∷◌, length, Option, Some, None, cond, option_map, option_and_then, unwrap_or, map, take, drop, All, Contains, if◌then◌else◌}
+use Rattle.std.specs.Prelude.{◌≡◌, ◌⊎◌, ℕ, ◌+◌, ◌<◌, ◌≤◌, ◌==◌, ◌++◌, List, [], ◌∷◌, length, Option, Some, None, cond, option_map, option_and_then, unwrap_or, map, take, drop, All, Contains, if◌then◌else◌}
 use Rattle.std.specs.List.{filter_map}
 use Rattle.std.specs.Ordering.{nat_cmp}
 use Rattle.std.specs.Cmp.Lexicographic.{slice_cmp}
@@ -11,10 +11,6 @@ use Rattle.desk_base.specs.Paths.{folder, full, is_relative_path}
 -- from full paths to bytes
 abbrev pub Contents : Type 0
 Contents = FinMap (slice_cmp nat_cmp) Text
-
--- a count is greater than before, or stands at its last value
-abbrev pub Rose : ℕ → ℕ → Type 0
-Rose old new = (old < new) ⊎ (2 ^ 64 - 1 ≤ new)
 
 -- with this left at a path, or nothing
 abbrev pub setting : Text → Option Text → Contents → Contents

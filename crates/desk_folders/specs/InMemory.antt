@@ -1,8 +1,9 @@
 -- What folders in memory hold.
-use Rattle.std.specs.Prelude.{ℕ, ◌+◌, ◌-◌, ◌^◌, ◌==◌, ◌++◌, ◌/◌, Bool, List, [], ◌∷◌, Option, Some, min, take, length, refl, if◌then◌else◌}
+use Rattle.std.specs.Prelude.{ℕ, ◌==◌, ◌++◌, ◌/◌, Bool, List, [], ◌∷◌, Option, Some, take, length, refl, if◌then◌else◌}
 use Rattle.std.specs.List.{list_any}
 use Rattle.std.specs.FinMap as fin
 use Rattle.std.specs.Coded.{Coded, code_by, coded×, coded_list, coded_ℕ}
+use Rattle.desk_base.specs.Counts.{counted}
 use Rattle.desk_base.specs.Names.{Text}
 use Rattle.desk_folders.specs.Contents.{Contents, setting, bytes_at}
 use Rattle.desk_folders.specs.declared.folders.GenFile.{GenFile}
@@ -18,10 +19,6 @@ abbrev pub in_memory_code : Coded InMemory
 in_memory_code =
     code_by (Contents × (ℕ × (ℕ × List ℕ))) (coded× (fin.code (coded_list coded_ℕ) (coded_list coded_ℕ)) (coded× coded_ℕ (coded× coded_ℕ (coded_list coded_ℕ))))
     (λ m. (m.contents, (m.faults, (m.calls, m.failing)))) (λ p. record { contents = p.0; faults = p.1.0; calls = p.1.1.0; failing = p.1.1.1 }) (λ _. refl)
-
--- the next count, which stays at its last value
-abbrev pub counted : ℕ → ℕ
-counted n = min (n + 1) (2 ^ 64 - 1)
 
 -- whether the next call fails
 abbrev pub fails : InMemory → Bool

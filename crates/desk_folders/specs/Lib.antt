@@ -1,3 +1,4 @@
 pub mod Contents
 pub mod ContentsLaws
 pub mod InMemory
+pub mod Disk

@@ -7,9 +7,11 @@ ghost use Rattle.std.specs.Ordering.{nat_cmp};
 ghost use Rattle.std.specs.Cmp.Lexicographic.{slice_cmp};
 ghost use Rattle.std.specs.FinMap as fin;
 ghost use Rattle.desk_base.specs.Paths.{is_root, is_full_path, is_relative_path};
-ghost use Rattle.desk_folders.specs.Contents.{Contents, Rose, ChangesOnly, IsPart, IsListing, holding, adding, bytes_at, paths_below};
+ghost use Rattle.desk_base.specs.Counts.{Rose};
+ghost use Rattle.desk_folders.specs.Contents.{Contents, ChangesOnly, IsPart, IsListing, holding, adding, bytes_at, paths_below};
 
 use desk_base::{Memory, Text, TextList};
+use std::alloc::{AllocError, AllocFailed};
 use thiserror::Error;
 
 /// Why a call on folders failed.
@@ -30,6 +32,28 @@ impl From<Memory> for FolderFault {
     ghost from_gives = { λ _ it. it ≡ fault.Memory };
 
     fn from(_: Memory) -> FolderFault {
+        FolderFault::Memory
+    }
+}
+
+impl From<AllocError> for FolderFault {
+    ghost use Rattle.std.specs.Prelude.{◌≡◌};
+    ghost use Rattle.desk_folders.specs.declared.folders.FolderFault.TheVariants as fault;
+
+    ghost from_gives = { λ _ it. it ≡ fault.Memory };
+
+    fn from(_: AllocError) -> FolderFault {
+        FolderFault::Memory
+    }
+}
+
+impl<T: Drop> From<AllocFailed<T>> for FolderFault {
+    ghost use Rattle.std.specs.Prelude.{◌≡◌};
+    ghost use Rattle.desk_folders.specs.declared.folders.FolderFault.TheVariants as fault;
+
+    ghost from_gives = { λ _ it. it ≡ fault.Memory };
+
+    fn from(_: AllocFailed<T>) -> FolderFault {
         FolderFault::Memory
     }
 }

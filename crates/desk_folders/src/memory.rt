@@ -9,7 +9,8 @@ ghost use Rattle.std.specs.Cmp.Lexicographic.{slice_cmp};
 ghost use Rattle.std.specs.FinMap as fin;
 ghost use Rattle.std.specs.BTreeMap.{get};
 ghost use Rattle.desk_base.specs.Paths.{is_root, is_full_path, is_relative_path};
-ghost use Rattle.desk_folders.specs.Contents.{Rose, ChangesOnly, IsPart, IsListing, bytes_at, holding, adding, paths_below};
+ghost use Rattle.desk_base.specs.Counts.{Rose};
+ghost use Rattle.desk_folders.specs.Contents.{ChangesOnly, IsPart, IsListing, bytes_at, holding, adding, paths_below};
 ghost use Rattle.desk_folders.specs.InMemory.{called, fails, leaving, growing, half, filled};
 
 use crate::listing::paths_of;

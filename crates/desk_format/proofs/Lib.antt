@@ -2,7 +2,6 @@ pub mod Steps
 pub mod Follows
 pub mod Exact
 pub mod Patched
-pub mod SampleFaults
 pub mod TagLemmas
 pub mod Walks
 pub mod Nested

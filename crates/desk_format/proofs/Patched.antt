@@ -5,9 +5,9 @@ use Rattle.std.proofs.lemmas.List.{take_at, drop_at}
 use Rattle.desk_base.specs.Entries.{Pool}
 use Rattle.desk_format.specs.Trees.{Tree, Use, map_tree, Each, print, uses, uses_of, text_use, text_in_role, IsPlaced}
 use Rattle.desk_base.specs.declared.kinds.Used.{Used}
-use Rattle.desk_base.specs.declared.targets.Target.{Target}
-use Rattle.desk_base.specs.declared.targets.Target.TheVariants as targets
-use Rattle.desk_base.specs.Targets.{target_of, may_be_none}
+use Rattle.desk_base.specs.declared.referents.Referent.{Referent}
+use Rattle.desk_base.specs.declared.referents.Referent.TheVariants as referents
+use Rattle.desk_base.specs.Referents.{referent_of, may_be_none}
 use Rattle.desk_format.specs.Layouts.{Layout}
 use Rattle.desk_format.specs.Reading.{Got, read}
 use Rattle.desk_format.specs.Exchange.{Change, index_or, moved, exchanged, exchange, Suits, patch, put_two}
@@ -31,18 +31,18 @@ abbrev stands : ℕ → Option Used → Type 0
 stands at None = Unit {0}
 stands at (Some u) = u.at ≡ at
 
-in_role-at : (target : Target) (at i : ℕ) → stands at (text_in_role target at i)
-in_role-at (targets.Text role form) at i = refl
-in_role-at (targets.Class form) at i = tt
-in_role-at (targets.NameAndType form) at i = tt
-in_role-at (targets.Entry choice) at i = tt
+in_role-at : (referent : Referent) (at i : ℕ) → stands at (text_in_role referent at i)
+in_role-at (referents.Text role form) at i = refl
+in_role-at (referents.Class form) at i = tt
+in_role-at (referents.NameAndType form) at i = tt
+in_role-at (referents.Entry choice) at i = tt
 
 unless : (at : ℕ) (b : Bool) (o : Option Used) → stands at o → stands at (cond b None o)
 unless at true o h = tt
 unless at false o h = h
 
 text_use-at : (u : Use) → stands u.at (text_use u)
-text_use-at u = unless u.at (may_be_none u.kind && u.index == 0) (text_in_role (target_of u.kind) u.at u.index) (in_role-at (target_of u.kind) u.at u.index)
+text_use-at u = unless u.at (may_be_none u.kind && u.index == 0) (text_in_role (referent_of u.kind) u.at u.index) (in_role-at (referent_of u.kind) u.at u.index)
 
 patch_use : (g : Used → ℕ) (base i at : ℕ) (o : Option Used) (pre post : List ℕ) → stands at o → at ≡ base + length pre
     → patch g base (uses_of o) (pre ++ to_be_bytes w16 i ++ post) ≡ pre ++ to_be_bytes w16 (index_or g i o) ++ post

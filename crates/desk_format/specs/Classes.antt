@@ -12,6 +12,7 @@ use Rattle.desk_format.specs.PoolBytes.{two, print_pool, pool_uses}
 use Rattle.desk_format.specs.PoolReading.{Got, got, Reader, fault_at, item, then_read, done, number_read, read_pool}
 use Rattle.desk_format.specs.ClassBody.{class_body}
 use Rattle.desk_format.specs.Members.{Twins, first_twins, named_in, members}
+use Rattle.desk_format.specs.declared.members.Member.{Member}
 
 -- A class: its minor and major version, its constant pool, the offset behind that, and its body.
 pub record Class : Type 0 where
@@ -113,3 +114,18 @@ entries_at = 10
 -- the uses of texts: those of the pool, then those of the body
 abbrev pub class_uses : Class → List Used
 class_uses c = pool_uses entries_at c.pool ++ uses c.body
+
+-- ---- what the bytes of a class hold
+
+-- a list that the class of some bytes has, and none where these are no class
+abbrev pub list_in : {A : Type 0} → (Class → List A) → Result Class Malformed → List A
+list_in f (Ok c) = f c
+list_in f (Err e) = []
+
+-- its uses of texts
+abbrev pub uses_in : List ℕ → List Used
+uses_in bytes = list_in class_uses (read_class bytes)
+
+-- its fields, and then its methods
+abbrev pub members_in : List ℕ → List Member
+members_in bytes = list_in (λ c. members c.body) (read_class bytes)

@@ -17,9 +17,5 @@ pub mod Classes
 pub mod Split
 pub mod NewPool
 pub mod NewClass
-pub mod Samples
-pub mod Servlet
 pub mod Tags
-pub mod Renames
 pub mod Walk
-pub mod Compiled

@@ -10,11 +10,11 @@ use Rattle.desk_format.specs.Exchange.{Change}
 use Rattle.desk_format.specs.Split.{Want, missing_texts, split, chosen}
 
 -- what the use of an index in a role wants
-abbrev pub wish : Images → Pool → Role → ℕ → Want
-wish im pool role i = record { index = i; text = image im role (text_at pool i) }
+abbrev pub want_in_role : Images → Pool → Role → ℕ → Want
+want_in_role im pool role i = record { index = i; text = image im role (text_at pool i) }
 
 abbrev pub wants : Images → Pool → List Used → List Want
-wants im pool us = map (λ u. wish im pool u.role u.index) us
+wants im pool us = map (λ u. want_in_role im pool u.role u.index) us
 
 -- the index that takes the place of one in a role
 abbrev pub Choice : Type 0
@@ -35,7 +35,7 @@ abbrev pub new_texts : Images → Pool → List Used → Pool
 new_texts im pool us = split (wants im pool us) pool
 
 abbrev pub choice : Images → Pool → List Used → Choice
-choice im pool us role i = chosen (new_texts im pool us) (wish im pool role i)
+choice im pool us role i = chosen (new_texts im pool us) (want_in_role im pool role i)
 
 abbrev pub new_pool : Images → Pool → List Used → Pool
 new_pool im pool us = map (option_map (with_texts (choice im pool us))) (new_texts im pool us)

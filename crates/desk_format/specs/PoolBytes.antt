@@ -3,7 +3,7 @@ use Rattle.std.specs.Prelude.{ℕ, suc, ◌+◌, List, [], ◌∷◌, ◌++◌, 
 use Rattle.std.specs.Int.{w16, to_be_bytes}
 use Rattle.desk_base.specs.declared.kinds.Used.{Used}
 use Rattle.desk_base.specs.Entries.{Entry, utf8, integer, float, long, double, class, string, fieldref, methodref, interface_methodref, name_and_type, method_handle, method_type, dynamic, invoke_dynamic, module_named, package_named, tag_of, number_of, Pool}
-use Rattle.desk_base.specs.Targets.{Link, links}
+use Rattle.desk_base.specs.Referents.{Link, links}
 use Rattle.desk_format.specs.Trees.{text_in_role, uses_of}
 
 -- a two-byte number
@@ -53,7 +53,7 @@ print_pool slots = two (suc (length slots)) ++ print_slots slots
 -- the texts that the indices of an entry name, with their roles, where its tag stands at an offset
 abbrev pub uses_among : ℕ → List Link → List Used
 uses_among at [] = []
-uses_among at (l ∷ ls) = uses_of (text_in_role l.target (at + l.behind) l.index) ++ uses_among at ls
+uses_among at (l ∷ ls) = uses_of (text_in_role l.referent (at + l.behind) l.index) ++ uses_among at ls
 
 -- the uses of texts, in index order and then by place, where the first entry stands at an offset
 abbrev pub pool_uses : ℕ → Pool → List Used

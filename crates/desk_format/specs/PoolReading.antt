@@ -12,7 +12,7 @@ use Rattle.desk_base.specs.Names.{Text}
 use Rattle.desk_base.specs.Utf8.{bad_form}
 use Rattle.desk_base.specs.Entries.{Pool, Entry, utf8, integer, float, long, double, class, string, fieldref, methodref, interface_methodref, name_and_type, method_handle, method_type, dynamic, invoke_dynamic, module_named, package_named, is_wide, tag_of}
 use Rattle.desk_format.specs.PoolBytes.{size}
-use Rattle.desk_base.specs.Targets.{Link, links}
+use Rattle.desk_base.specs.Referents.{Link, links}
 use Rattle.desk_base.specs.Misfits.{or_else, wrong_entry, wrong_text}
 
 -- what was read, the offset behind it, and the bytes that are left there
@@ -167,10 +167,10 @@ first_fault check at (None ∷ slots) = first_fault check at slots
 first_fault check at (Some e ∷ slots) = or_else (first_among check at (links e)) (first_fault check (at + size e) slots)
 
 abbrev pub names_wrong : Pool → Check
-names_wrong pool l = wrong_entry pool l.target l.index
+names_wrong pool l = wrong_entry pool l.referent l.index
 
 abbrev pub leads_wrong : Pool → Check
-leads_wrong pool l = wrong_text pool l.target l.index
+leads_wrong pool l = wrong_text pool l.referent l.index
 
 -- ---- the pool: its count, and the entries of the indices from 1 to the count minus 1
 

@@ -3,9 +3,9 @@ use Rattle.std.specs.Prelude.{◌≡◌, ℕ, ◌+◌, List, [], ◌∷◌, ◌+
 use Rattle.std.specs.Int.{w16, to_be_bytes}
 use Rattle.desk_base.specs.declared.kinds.UseKind.{UseKind}
 use Rattle.desk_base.specs.declared.kinds.Used.{Used}
-use Rattle.desk_base.specs.declared.targets.Target.{Target}
-use Rattle.desk_base.specs.declared.targets.Target.TheVariants as targets
-use Rattle.desk_base.specs.Targets.{target_of, may_be_none}
+use Rattle.desk_base.specs.declared.referents.Referent.{Referent}
+use Rattle.desk_base.specs.declared.referents.Referent.TheVariants as referents
+use Rattle.desk_base.specs.Referents.{referent_of, may_be_none}
 
 -- An index as it stands in the body: its offset from the start of the file, what it must name, and its number.
 pub record Use : Type 0 where
@@ -62,13 +62,13 @@ IsPlaced at (member a) = IsPlaced at a
 -- ---- uses
 
 -- an index that must name a text, as a use of it in a role
-abbrev pub text_in_role : Target → ℕ → ℕ → Option Used
-text_in_role (targets.Text role form) at index = Some (record { at = at; index = index; role = role })
+abbrev pub text_in_role : Referent → ℕ → ℕ → Option Used
+text_in_role (referents.Text role form) at index = Some (record { at = at; index = index; role = role })
 text_in_role _ at index = None
 
 -- The text that an index of the body names, with its role. Index 0, where it may stand, names none.
 abbrev pub text_use : Use → Option Used
-text_use u = if may_be_none u.kind && u.index == 0 then None else text_in_role (target_of u.kind) u.at u.index
+text_use u = if may_be_none u.kind && u.index == 0 then None else text_in_role (referent_of u.kind) u.at u.index
 
 abbrev pub uses_of : Option Used → List Used
 uses_of None = []

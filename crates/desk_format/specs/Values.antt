@@ -5,10 +5,10 @@ use Rattle.desk_base.specs.declared.kinds.Tag.{Tag}
 use Rattle.desk_base.specs.declared.kinds.Tag.TheVariants as tags
 use Rattle.desk_base.specs.declared.kinds.Role.{Role}
 use Rattle.desk_base.specs.declared.kinds.UseKind.{UseKind}
-use Rattle.desk_base.specs.declared.targets.Target.{Target}
-use Rattle.desk_base.specs.declared.targets.Target.TheVariants as targets
+use Rattle.desk_base.specs.declared.referents.Referent.{Referent}
+use Rattle.desk_base.specs.declared.referents.Referent.TheVariants as referents
 use Rattle.desk_base.specs.Entries.{Entry, utf8, integer, float, long, double, class, string, fieldref, methodref, interface_methodref, name_and_type, method_handle, method_type, dynamic, invoke_dynamic, module_named, package_named, Pool, entry_at, text_at}
-use Rattle.desk_base.specs.Targets.{target_of, may_be_none}
+use Rattle.desk_base.specs.Referents.{referent_of, may_be_none}
 
 -- none: index 0. text: what a Utf8 is by itself. text_as: a text that is used in a role.
 pub data Value : Type 0 where
@@ -56,11 +56,11 @@ value_within (suc levels) pool i = value_in (value_within levels pool) (text_at 
 abbrev pub value_of : Pool → ℕ → Value
 value_of pool i = value_within 3 pool i
 
--- what an index of a target leads to, a text with its role
-abbrev pub value_as : Target → Pool → ℕ → Value
-value_as (targets.Text role form) pool i = text_as role (text_at pool i)
+-- what an index of a referent leads to, a text with its role
+abbrev pub value_as : Referent → Pool → ℕ → Value
+value_as (referents.Text role form) pool i = text_as role (text_at pool i)
 value_as _ pool i = value_of pool i
 
 -- what an index of a use kind leads to
 abbrev pub value_of_kind : Pool → UseKind → ℕ → Value
-value_of_kind pool kind i = if may_be_none kind && i == 0 then none else value_as (target_of kind) pool i
+value_of_kind pool kind i = if may_be_none kind && i == 0 then none else value_as (referent_of kind) pool i

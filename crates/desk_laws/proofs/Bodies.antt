@@ -8,13 +8,13 @@ use Rattle.desk_base.specs.declared.kinds.Used.{Used}
 use Rattle.desk_base.specs.declared.kinds.UseKind.{UseKind}
 use Rattle.desk_base.specs.declared.kinds.UseKind.TheVariants as kinds
 use Rattle.desk_base.specs.Utf8.{bad_form}
-use Rattle.desk_base.specs.declared.targets.Form.TheVariants as forms
+use Rattle.desk_base.specs.declared.referents.Form.TheVariants as forms
 use Rattle.desk_base.specs.Entries.{Entry, utf8, is_wide, tag_of}
 use Rattle.desk_format.specs.PoolBytes.{size}
 use Rattle.desk_base.specs.Entries.{Pool, entry_at, tag_at, text_at, text_in}
-use Rattle.desk_base.specs.declared.targets.Target.{Target}
-use Rattle.desk_base.specs.declared.targets.Target.TheVariants as targets
-use Rattle.desk_base.specs.Targets.{fits, Link, links, target_of, may_be_none}
+use Rattle.desk_base.specs.declared.referents.Referent.{Referent}
+use Rattle.desk_base.specs.declared.referents.Referent.TheVariants as referents
+use Rattle.desk_base.specs.Referents.{fits, Link, links, referent_of, may_be_none}
 use Rattle.desk_base.specs.Misfits.{wrong_entry, wrong_text, or_else, misfit}
 use Rattle.desk_format.specs.PoolBytes.{uses_among, pool_uses}
 use Rattle.desk_laws.proofs.Indices.{uses_as, reindexed, indices, text_uses, uses-indices, each_index, all_indices, by_choice, new_index-is}
@@ -45,15 +45,15 @@ pub all_append : {A : Type 0} (P : A → Type 0) (xs ys : List A) → AllByRecur
 all_append P [] ys h k = k
 all_append P (x ∷ xs) ys h k = (h.0, all_append P xs ys h.1 k)
 
-named_as : (old : Pool) (t : Target) (at i : ℕ) → fits t (tag_at old i) ≡ true → AllByRecursion (NamesText old) (uses_as t at i)
-named_as old (targets.Text role form) at i h = (as_text role form (tag_at old i) h, tt)
-named_as old (targets.Class form) at i h = tt
-named_as old (targets.NameAndType form) at i h = tt
-named_as old (targets.Entry entries) at i h = tt
+named_as : (old : Pool) (t : Referent) (at i : ℕ) → fits t (tag_at old i) ≡ true → AllByRecursion (NamesText old) (uses_as t at i)
+named_as old (referents.Text role form) at i h = (as_text role form (tag_at old i) h, tt)
+named_as old (referents.Class form) at i h = tt
+named_as old (referents.NameAndType form) at i h = tt
+named_as old (referents.Entry entries) at i h = tt
 
 named_among : (old : Pool) (at : ℕ) (ls : List Link) → AllByRecursion (Links old) ls → AllByRecursion (NamesText old) (uses_among at ls)
 named_among old at [] h = tt
-named_among old at (l ∷ ls) h = all_append (NamesText old) (uses_as l.target _ l.index) (uses_among at ls) (named_as old l.target _ l.index (names_fitting old l.target l.index h.0.names)) (named_among old at ls h.1)
+named_among old at (l ∷ ls) h = all_append (NamesText old) (uses_as l.referent _ l.index) (uses_among at ls) (named_as old l.referent _ l.index (names_fitting old l.referent l.index h.0.names)) (named_among old at ls h.1)
 
 pub named_in_pool : (old : Pool) (at : ℕ) (slots : Pool) → EachLink (Links old) slots → AllByRecursion (NamesText old) (pool_uses at slots)
 named_in_pool old at [] h = tt
@@ -62,21 +62,21 @@ named_in_pool old at (Some e ∷ slots) h = all_append (NamesText old) (uses_amo
 
 -- what a fitting use of a body says: it is index 0 and may be, or it names a fitting entry
 pub record Says (old : Pool) (u : Use) : Type 0 where
-  pub fitting : (may_be_none u.kind && nat_eq u.index 0) ≡ false → Fitting old (target_of u.kind) u.index
+  pub fitting : (may_be_none u.kind && nat_eq u.index 0) ≡ false → Fitting old (referent_of u.kind) u.index
 
-says_by : (old : Pool) (u : Use) (x : Bool) → (may_be_none u.kind && nat_eq u.index 0) ≡ x → cond x None (or_else (wrong_entry old (target_of u.kind) u.index) (wrong_text old (target_of u.kind) u.index)) ≡ None → Says old u
+says_by : (old : Pool) (u : Use) (x : Bool) → (may_be_none u.kind && nat_eq u.index 0) ≡ x → cond x None (or_else (wrong_entry old (referent_of u.kind) u.index) (wrong_text old (referent_of u.kind) u.index)) ≡ None → Says old u
 says_by old u true p h = record { fitting = λ q. absurd cc }
 says_by old u false p h =
-    let n : Neither (wrong_entry old (target_of u.kind) u.index) (wrong_text old (target_of u.kind) u.index) = neither (wrong_entry old (target_of u.kind) u.index) (wrong_text old (target_of u.kind) u.index) h in
+    let n : Neither (wrong_entry old (referent_of u.kind) u.index) (wrong_text old (referent_of u.kind) u.index) = neither (wrong_entry old (referent_of u.kind) u.index) (wrong_text old (referent_of u.kind) u.index) h in
     record { fitting = λ q. record { names = n.first; leads = n.second } }
 
 says : (old : Pool) (u : Use) → Fits old u → Says old u
 unfolding misfit
 says old u f = says_by old u (may_be_none u.kind && nat_eq u.index 0) refl f.fits
 
-text_named : (old : Pool) (u : Use) (x : Bool) → (may_be_none u.kind && nat_eq u.index 0) ≡ x → Says old u → AllByRecursion (NamesText old) (uses_of (cond x None (text_in_role (target_of u.kind) u.at u.index)))
+text_named : (old : Pool) (u : Use) (x : Bool) → (may_be_none u.kind && nat_eq u.index 0) ≡ x → Says old u → AllByRecursion (NamesText old) (uses_of (cond x None (text_in_role (referent_of u.kind) u.at u.index)))
 text_named old u true p h = tt
-text_named old u false p h = let f : Fitting old (target_of u.kind) u.index = h.fitting p in named_as old (target_of u.kind) u.at u.index (names_fitting old (target_of u.kind) u.index f.names)
+text_named old u false p h = let f : Fitting old (referent_of u.kind) u.index = h.fitting p in named_as old (referent_of u.kind) u.at u.index (names_fitting old (referent_of u.kind) u.index f.names)
 
 pub named_in_body : (old : Pool) (us : List Use) → AllByRecursion (Fits old) us → AllByRecursion (NamesText old) (text_uses us)
 named_in_body old [] h = tt
@@ -128,22 +128,22 @@ module _ (im : Images) (old : Pool) (us : List Used) (k : KeepsForms im) (w : Is
   choice_small : (role : Role) (i : ℕ) → Led im old us role i → IsTwoBytes (choice im old us role i)
   choice_small role i l = let room : IsTwoBytes (suc (length old) + length (added im old us)) = accepted.room in omega (arith, l.within)
 
-  target_small : (t : Target) (i : ℕ) → fits t (tag_at old i) ≡ true → IsUsed us t i → NewSmall (choice im old us) t i
-  target_small (targets.Text role form) i h u = choice_small role i (led_text im old us w.linked used role form i h u)
-  target_small (targets.Class form) i h u = tt
-  target_small (targets.NameAndType form) i h u = tt
-  target_small (targets.Entry entries) i h u = tt
+  referent_small : (t : Referent) (i : ℕ) → fits t (tag_at old i) ≡ true → IsUsed us t i → NewSmall (choice im old us) t i
+  referent_small (referents.Text role form) i h u = choice_small role i (led_text im old us w.linked used role form i h u)
+  referent_small (referents.Class form) i h u = tt
+  referent_small (referents.NameAndType form) i h u = tt
+  referent_small (referents.Entry entries) i h u = tt
 
   pub holdable : AllByRecursion WantHoldable (wants im old us)
   holdable = wants_holdable im old us k w.shaped named accepted.short
 
   -- a fact of each index of the new pool
-  pub each_new : (P : Link → Type 0) → ((l : Link) → OldLink old us l → P (record l { index = reindexed (choice im old us) l.target l.index })) → EachLink P (new_pool im old us)
+  pub each_new : (P : Link → Type 0) → ((l : Link) → OldLink old us l → P (record l { index = reindexed (choice im old us) l.referent l.index })) → EachLink P (new_pool im old us)
   each_new P f = linked_new (choice im old us) (wants im old us) holdable P (OldLink old us) f 1 old (added im old us) old_links
 
-  new_fitting : (l : Link) → OldLink old us l → Links (new_pool im old us) (record l { index = reindexed (choice im old us) l.target l.index })
+  new_fitting : (l : Link) → OldLink old us l → Links (new_pool im old us) (record l { index = reindexed (choice im old us) l.referent l.index })
   new_fitting l o =
-      let f : Fitting (new_pool im old us) l.target (reindexed (choice im old us) l.target l.index) = moved im old us w.linked used k l.target l.index (record { names = o.fits.names; leads = o.fits.leads }) o.used o.kept.goes in
+      let f : Fitting (new_pool im old us) l.referent (reindexed (choice im old us) l.referent l.index) = moved im old us w.linked used k l.referent l.index (record { names = o.fits.names; leads = o.fits.leads }) o.used o.kept.goes in
       record { names = f.names; leads = f.leads }
 
   pub well_formed_new : IsWellFormed (new_pool im old us)
@@ -151,7 +151,7 @@ module _ (im : Images) (old : Pool) (us : List Used) (k : KeepsForms im) (w : Is
       let room : IsTwoBytes (suc (length old) + length (added im old us)) = accepted.room in
       record {
         shaped = shaped_new (choice im old us) (wants im old us) holdable 1 false old (added im old us) w.shaped
-            (each_map (OldLink old us) (LinkSmall (choice im old us)) old (λ l o. target_small l.target l.index (names_fitting old l.target l.index o.fits.names) o.used) old_links)
+            (each_map (OldLink old us) (LinkSmall (choice im old us)) old (λ l o. referent_small l.referent l.index (names_fitting old l.referent l.index o.fits.names) o.used) old_links)
             (missing_holdable (kept (wants im old us) 1 old) (wants im old us) holdable);
         small = omega (arith, length-new im old us);
         linked = each_new (Links (new_pool im old us)) new_fitting;
@@ -159,20 +159,20 @@ module _ (im : Images) (old : Pool) (us : List Used) (k : KeepsForms im) (w : Is
 
   -- ---- the uses of the body
 
-  old_value : (t : Target) (i : ℕ) → fits t (tag_at old i) ≡ true → IsUsed us t i → Other t → value_as t (new_pool im old us) (reindexed (choice im old us) t i) ≡ renamed_value im (value_as t old i)
-  old_value (targets.Text role form) i h u o = ap (text_as role) (leads_to im old us w.linked used (targets.Text role form) i h u)
-  old_value (targets.Class form) i h u o = follows im old us w.linked used 3 (values im old us w.linked used 3) (targets.Class form) i h u o
-  old_value (targets.NameAndType form) i h u o = follows im old us w.linked used 3 (values im old us w.linked used 3) (targets.NameAndType form) i h u o
-  old_value (targets.Entry entries) i h u o = follows im old us w.linked used 3 (values im old us w.linked used 3) (targets.Entry entries) i h u o
+  old_value : (t : Referent) (i : ℕ) → fits t (tag_at old i) ≡ true → IsUsed us t i → Other t → value_as t (new_pool im old us) (reindexed (choice im old us) t i) ≡ renamed_value im (value_as t old i)
+  old_value (referents.Text role form) i h u o = ap (text_as role) (leads_to im old us w.linked used (referents.Text role form) i h u)
+  old_value (referents.Class form) i h u o = follows im old us w.linked used 3 (values im old us w.linked used 3) (referents.Class form) i h u o
+  old_value (referents.NameAndType form) i h u o = follows im old us w.linked used 3 (values im old us w.linked used 3) (referents.NameAndType form) i h u o
+  old_value (referents.Entry entries) i h u o = follows im old us w.linked used 3 (values im old us w.linked used 3) (referents.Entry entries) i h u o
 
-  stays_small : (t : Target) (i : ℕ) → IsTwoBytes i → NewSmall (choice im old us) t i → IsTwoBytes (reindexed (choice im old us) t i)
-  stays_small (targets.Text role form) i h s = s
-  stays_small (targets.Class form) i h s = h
-  stays_small (targets.NameAndType form) i h s = h
-  stays_small (targets.Entry entries) i h s = h
+  stays_small : (t : Referent) (i : ℕ) → IsTwoBytes i → NewSmall (choice im old us) t i → IsTwoBytes (reindexed (choice im old us) t i)
+  stays_small (referents.Text role form) i h s = s
+  stays_small (referents.Class form) i h s = h
+  stays_small (referents.NameAndType form) i h s = h
+  stays_small (referents.Entry entries) i h s = h
 
 -- the table of use kinds
-kinds_kept : (kind : UseKind) → Kept (target_of kind)
+kinds_kept : (kind : UseKind) → Kept (referent_of kind)
 kinds_kept kinds.Plain = record { goes = refl; other = tt }
 kinds_kept kinds.PlainOrNone = record { goes = refl; other = tt }
 kinds_kept kinds.AttrName = record { goes = refl; other = tt }
@@ -185,7 +185,7 @@ kinds_kept kinds.FieldSig = record { goes = refl; other = tt }
 kinds_kept kinds.Str = record { goes = refl; other = tt }
 kinds_kept _ = record { goes = refl; other = refl }
 
-not_zero : (t : Target) (pool : Pool) (i : ℕ) → fits t (tag_at pool i) ≡ true → nat_eq i 0 ≡ false
+not_zero : (t : Referent) (pool : Pool) (i : ℕ) → fits t (tag_at pool i) ≡ true → nat_eq i 0 ≡ false
 not_zero t pool zero h = absurd cc
 not_zero t pool (suc i) h = grind (arith, nat_tests)
 
@@ -203,10 +203,10 @@ module _ (im : Images) (old : Pool) (us : List Used) (k : KeepsForms im) (w : Is
   New = new_pool im old us
 
   abbrev index_by : UseKind → ℕ → Bool → ℕ
-  index_by kind i x = cond x i (reindexed (choice im old us) (target_of kind) i)
+  index_by kind i x = cond x i (reindexed (choice im old us) (referent_of kind) i)
 
-  name_stays : (kind : UseKind) (i : ℕ) → fits (target_of kind) (tag_at old i) ≡ true → IsUsed us (target_of kind) i → name_under New kind (reindexed (choice im old us) (target_of kind) i) ≡ name_under old kind i
-  name_stays kinds.AttrName i h u = leads_to im old us w.linked used (targets.Text roles.AttrName forms.Any) i h u
+  name_stays : (kind : UseKind) (i : ℕ) → fits (referent_of kind) (tag_at old i) ≡ true → IsUsed us (referent_of kind) i → name_under New kind (reindexed (choice im old us) (referent_of kind) i) ≡ name_under old kind i
+  name_stays kinds.AttrName i h u = leads_to im old us w.linked used (referents.Text roles.AttrName forms.Any) i h u
   name_stays _ i h u = refl
 
   -- what a use of a body owes
@@ -216,40 +216,40 @@ module _ (im : Images) (old : Pool) (us : List Used) (k : KeepsForms im) (w : Is
     pub name : name_under New kind i' ≡ name_under old kind i
     pub value : value_of_kind New kind i' ≡ renamed_value im (value_of_kind old kind i)
 
-  leading : (kind : UseKind) (i : ℕ) (x : Bool) → (may_be_none kind && nat_eq i 0) ≡ x → IsTwoBytes i → (x ≡ false → Fitting old (target_of kind) i) → (x ≡ false → IsUsed us (target_of kind) i) → Leading kind i (index_by kind i x)
+  leading : (kind : UseKind) (i : ℕ) (x : Bool) → (may_be_none kind && nat_eq i 0) ≡ x → IsTwoBytes i → (x ≡ false → Fitting old (referent_of kind) i) → (x ≡ false → IsUsed us (referent_of kind) i) → Leading kind i (index_by kind i x)
   unfolding misfit
   leading kind i true p small f u = record { small = small; fits = rw p refl; name = none_suits old New kind i i p refl; value = rw p refl }
   leading kind i false p small f u =
-      let t : Target = target_of kind in
-      let i' : ℕ = reindexed (choice im old us) (target_of kind) i in
-      let fit : Fitting old (target_of kind) i = f refl in
-      let names : fits (target_of kind) (tag_at old i) ≡ true = names_fitting old (target_of kind) i fit.names in
-      let new : Fitting New (target_of kind) (reindexed (choice im old us) (target_of kind) i) = moved im old us w.linked used k (target_of kind) i fit (u refl) (kinds_kept kind).goes in
-      let named' : fits (target_of kind) (tag_at New (reindexed (choice im old us) (target_of kind) i)) ≡ true = names_fitting New (target_of kind) (reindexed (choice im old us) (target_of kind) i) new.names in
-      let p' : (may_be_none kind && nat_eq (reindexed (choice im old us) (target_of kind) i) 0) ≡ false = and_false (may_be_none kind) _ (not_zero (target_of kind) New (reindexed (choice im old us) (target_of kind) i) named') in
+      let t : Referent = referent_of kind in
+      let i' : ℕ = reindexed (choice im old us) (referent_of kind) i in
+      let fit : Fitting old (referent_of kind) i = f refl in
+      let names : fits (referent_of kind) (tag_at old i) ≡ true = names_fitting old (referent_of kind) i fit.names in
+      let new : Fitting New (referent_of kind) (reindexed (choice im old us) (referent_of kind) i) = moved im old us w.linked used k (referent_of kind) i fit (u refl) (kinds_kept kind).goes in
+      let named' : fits (referent_of kind) (tag_at New (reindexed (choice im old us) (referent_of kind) i)) ≡ true = names_fitting New (referent_of kind) (reindexed (choice im old us) (referent_of kind) i) new.names in
+      let p' : (may_be_none kind && nat_eq (reindexed (choice im old us) (referent_of kind) i) 0) ≡ false = and_false (may_be_none kind) _ (not_zero (referent_of kind) New (reindexed (choice im old us) (referent_of kind) i) named') in
       record {
-        small = stays_small im old us k w used named accepted (target_of kind) i small (target_small im old us k w used named accepted (target_of kind) i names (u refl));
-        fits = rw p' (or_else-none (wrong_entry New (target_of kind) i') (wrong_text New (target_of kind) i') new.names new.leads);
+        small = stays_small im old us k w used named accepted (referent_of kind) i small (referent_small im old us k w used named accepted (referent_of kind) i names (u refl));
+        fits = rw p' (or_else-none (wrong_entry New (referent_of kind) i') (wrong_text New (referent_of kind) i') new.names new.leads);
         name = name_stays kind i names (u refl);
-        value = rw (p', p) (old_value im old us k w used named accepted (target_of kind) i names (u refl) (kinds_kept kind).other);
+        value = rw (p', p) (old_value im old us k w used named accepted (referent_of kind) i names (u refl) (kinds_kept kind).other);
       }
 
-  renames_one : (u : Use) → Fits old u → ((may_be_none u.kind && nat_eq u.index 0) ≡ false → IsUsed us (target_of u.kind) u.index) → (from to : ℕ) → Renames im old New (change_by (choice im old us) from to) u
+  renames_one : (u : Use) → Fits old u → ((may_be_none u.kind && nat_eq u.index 0) ≡ false → IsUsed us (referent_of u.kind) u.index) → (from to : ℕ) → Renames im old New (change_by (choice im old us) from to) u
   renames_one u f is from to =
       let s : Says old u = says old u f in
       let l : Leading u.kind u.index (new_index (by_choice (choice im old us)) u)
       = subst (Leading u.kind u.index) (sym (new_index-is (choice im old us) u)) (leading u.kind u.index (may_be_none u.kind && nat_eq u.index 0) refl f.small s.fitting is) in
       record { suits = record { small = l.small; fits = l.fits; name = l.name }; leads = l.value }
 
-  body_used : (t : Target) (at i : ℕ) (more : List Used) → Within (uses_as t at i ++ more) us → IsUsed us t i
-  body_used (targets.Text role form) at i more h = h.has role i (inl (refl, refl))
-  body_used (targets.Class form) at i more h = tt
-  body_used (targets.NameAndType form) at i more h = tt
-  body_used (targets.Entry entries) at i more h = tt
+  body_used : (t : Referent) (at i : ℕ) (more : List Used) → Within (uses_as t at i ++ more) us → IsUsed us t i
+  body_used (referents.Text role form) at i more h = h.has role i (inl (refl, refl))
+  body_used (referents.Class form) at i more h = tt
+  body_used (referents.NameAndType form) at i more h = tt
+  body_used (referents.Entry entries) at i more h = tt
 
-  pub use_used : (u : Use) (more : List Used) (x : Bool) → (may_be_none u.kind && nat_eq u.index 0) ≡ x → Within (uses_of (cond x None (text_in_role (target_of u.kind) u.at u.index)) ++ more) us → (may_be_none u.kind && nat_eq u.index 0) ≡ false → IsUsed us (target_of u.kind) u.index
+  pub use_used : (u : Use) (more : List Used) (x : Bool) → (may_be_none u.kind && nat_eq u.index 0) ≡ x → Within (uses_of (cond x None (text_in_role (referent_of u.kind) u.at u.index)) ++ more) us → (may_be_none u.kind && nat_eq u.index 0) ≡ false → IsUsed us (referent_of u.kind) u.index
   use_used u more true p h q = absurd cc
-  use_used u more false p h q = body_used (target_of u.kind) u.at u.index more h
+  use_used u more false p h q = body_used (referent_of u.kind) u.at u.index more h
 
   pub renames_all : (body : List Use) → AllByRecursion (Fits old) body → Within (text_uses body) us → (from to : ℕ) → AllByRecursion (Renames im old New (change_by (choice im old us) from to)) body
   renames_all [] f h from to = tt

@@ -2,20 +2,20 @@
 use Rattle.std.proofs.Common.{◌≡◌, ℕ, Bool, true, false, cond, ◌&&◌, List, [], ◌∷◌, ◌++◌, Option, None, nat_eq, refl, ap, ap₂, sym, ◌∙◌, append_assoc, append-nil}
 use Rattle.std.specs.List.{AllByRecursion}
 use Rattle.desk_base.specs.declared.kinds.Used.{Used}
-use Rattle.desk_base.specs.declared.targets.Target.{Target}
-use Rattle.desk_base.specs.declared.targets.Target.TheVariants as targets
-use Rattle.desk_base.specs.Targets.{target_of, may_be_none}
+use Rattle.desk_base.specs.declared.referents.Referent.{Referent}
+use Rattle.desk_base.specs.declared.referents.Referent.TheVariants as referents
+use Rattle.desk_base.specs.Referents.{referent_of, may_be_none}
 use Rattle.desk_format.specs.Trees.{Tree, Use, Each, text_in_role, text_use, uses_of, uses}
 use Rattle.desk_format.specs.Exchange.{index_or, new_index}
 use Rattle.desk_format.specs.NewPool.{Choice}
 
 -- an index that must name a text, as a list of uses
-abbrev pub uses_as : Target → ℕ → ℕ → List Used
+abbrev pub uses_as : Referent → ℕ → ℕ → List Used
 uses_as t at i = uses_of (text_in_role t at i)
 
--- the index of a target with that of a text exchanged
-abbrev pub reindexed : Choice → Target → ℕ → ℕ
-reindexed g (targets.Text role form) i = g role i
+-- the index of a referent with that of a text exchanged
+abbrev pub reindexed : Choice → Referent → ℕ → ℕ
+reindexed g (referents.Text role form) i = g role i
 reindexed g _ i = i
 
 abbrev pub indices : {U : Type 0} → Tree U → List U
@@ -67,12 +67,12 @@ all_indices P (Tree.used u) h = (h, tt)
 all_indices P (Tree.both a b) h = both_parts P (indices a) (indices b) (all_indices P a h.0) (all_indices P b h.1)
 all_indices P (Tree.member a) h = all_indices P a h
 
--- the new index of a use, by its target
-in_role_index : (g : Choice) (t : Target) (at i : ℕ) → index_or (λ (v : Used). g v.role v.index) i (text_in_role t at i) ≡ reindexed g t i
-in_role_index g (targets.Text role form) at i = refl
-in_role_index g (targets.Class form) at i = refl
-in_role_index g (targets.NameAndType form) at i = refl
-in_role_index g (targets.Entry entries) at i = refl
+-- the new index of a use, by its referent
+in_role_index : (g : Choice) (t : Referent) (at i : ℕ) → index_or (λ (v : Used). g v.role v.index) i (text_in_role t at i) ≡ reindexed g t i
+in_role_index g (referents.Text role form) at i = refl
+in_role_index g (referents.Class form) at i = refl
+in_role_index g (referents.NameAndType form) at i = refl
+in_role_index g (referents.Entry entries) at i = refl
 
 unless_none : (g : Choice) (i j : ℕ) (x : Bool) (o : Option Used) → index_or (λ (v : Used). g v.role v.index) i o ≡ j → index_or (λ (v : Used). g v.role v.index) i (cond x None o) ≡ cond x i j
 unless_none g i j true o h = refl
@@ -81,5 +81,5 @@ unless_none g i j false o h = h
 abbrev pub by_choice : Choice → Used → ℕ
 by_choice g v = g v.role v.index
 
-pub new_index-is : (g : Choice) (u : Use) → new_index (by_choice g) u ≡ cond (may_be_none u.kind && nat_eq u.index 0) u.index (reindexed g (target_of u.kind) u.index)
-new_index-is g u = unless_none g u.index (reindexed g (target_of u.kind) u.index) (may_be_none u.kind && nat_eq u.index 0) (text_in_role (target_of u.kind) u.at u.index) (in_role_index g (target_of u.kind) u.at u.index)
+pub new_index-is : (g : Choice) (u : Use) → new_index (by_choice g) u ≡ cond (may_be_none u.kind && nat_eq u.index 0) u.index (reindexed g (referent_of u.kind) u.index)
+new_index-is g u = unless_none g u.index (reindexed g (referent_of u.kind) u.index) (may_be_none u.kind && nat_eq u.index 0) (text_in_role (referent_of u.kind) u.at u.index) (in_role_index g (referent_of u.kind) u.at u.index)

@@ -4,7 +4,7 @@ use Rattle.std.specs.List.{AllByRecursion}
 use Rattle.desk_base.specs.declared.faults.FaultKind.{FaultKind}
 use Rattle.desk_format.specs.PoolBytes.{size}
 use Rattle.desk_base.specs.Entries.{Pool}
-use Rattle.desk_base.specs.Targets.{Link, links}
+use Rattle.desk_base.specs.Referents.{Link, links}
 use Rattle.desk_base.specs.Misfits.{or_else}
 use Rattle.desk_format.specs.PoolReading.{Check, fault_of_link, first_among, first_fault}
 use Rattle.desk_laws.specs.Sound.{EachLink}

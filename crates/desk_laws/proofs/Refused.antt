@@ -8,7 +8,7 @@ use Rattle.desk_base.specs.declared.kinds.Used.{Used}
 use Rattle.desk_base.specs.Entries.{Pool, entry_at, utf8}
 use Rattle.desk_format.specs.Resolved.{Images}
 use Rattle.desk_format.specs.Split.{Want, wanted}
-use Rattle.desk_format.specs.NewPool.{wants, wish}
+use Rattle.desk_format.specs.NewPool.{wants, want_in_role}
 use Rattle.desk_format.specs.NewClass.{Refusal, is_long, any_long, overlong_from, full_at}
 use Rattle.desk_laws.specs.Sound.{IsTwoBytes}
 use Rattle.desk_laws.proofs.Split.{IsWant}
@@ -72,9 +72,9 @@ short_among : (im : Images) (old : Pool) (all : List Want) (us : List Used) → 
 short_among im old all [] h n among = tt
 short_among im old all (u ∷ us) h n among =
     let p = is_utf8 (entry_at old u.index) n.0 in
-    let w : Want = wish im old u.role u.index in
-    let short : is_long (wish im old u.role u.index).text ≡ false = want_short all (wish im old u.role u.index) (among (wish im old u.role u.index) (inl refl)) (index_short all old u.index p.0 h p.1) in
-    (short_is (wish im old u.role u.index).text short, short_among im old all us h n.1 (λ v is. among v (inr is)))
+    let w : Want = want_in_role im old u.role u.index in
+    let short : is_long (want_in_role im old u.role u.index).text ≡ false = want_short all (want_in_role im old u.role u.index) (among (want_in_role im old u.role u.index) (inl refl)) (index_short all old u.index p.0 h p.1) in
+    (short_is (want_in_role im old u.role u.index).text short, short_among im old all us h n.1 (λ v is. among v (inr is)))
 
 pub all_short : (im : Images) (old : Pool) (us : List Used) → overlong_from (wants im old us) 1 old ≡ None → AllByRecursion (NamesText old) us → AllByRecursion (λ (w : Want). IsTwoBytes (length w.text)) (wants im old us)
 all_short im old us h n = short_among im old (wants im old us) us h n (λ w is. is)

@@ -6,9 +6,9 @@ use Rattle.desk_base.specs.declared.kinds.Used.{Used}
 use Rattle.desk_base.specs.Entries.{utf8}
 use Rattle.desk_format.specs.PoolBytes.{size}
 use Rattle.desk_base.specs.Entries.{Pool, entry_at, tag_at, text_at, text_in}
-use Rattle.desk_base.specs.declared.targets.Target.{Target}
-use Rattle.desk_base.specs.declared.targets.Target.TheVariants as targets
-use Rattle.desk_base.specs.Targets.{fits, target_of, may_be_none, Link, links}
+use Rattle.desk_base.specs.declared.referents.Referent.{Referent}
+use Rattle.desk_base.specs.declared.referents.Referent.TheVariants as referents
+use Rattle.desk_base.specs.Referents.{fits, referent_of, may_be_none, Link, links}
 use Rattle.desk_format.specs.PoolBytes.{uses_among, pool_uses}
 use Rattle.desk_laws.proofs.Indices.{uses_as, reindexed, indices, text_uses, each_index, all_indices, by_choice, new_index-is}
 use Rattle.desk_laws.specs.Sound.{IsTwoBytes, IsShaped, EachLink, Links, IsWellFormed}
@@ -25,25 +25,25 @@ use Rattle.desk_laws.specs.NewPools.{KeepsForms, IsAccepted, IsRenamedPool, all_
 use Rattle.desk_laws.specs.Classes.{IsSettled, IsOwnImage}
 use Rattle.desk_laws.proofs.Linked.{has_right, IsUsed, LinkUsed, Within}
 use Rattle.desk_laws.proofs.Moved.{is_utf8, names_fitting, leads_to}
-use Rattle.desk_laws.proofs.Stable.{Own, Stays, added_none, target_stays, pool_same}
+use Rattle.desk_laws.proofs.Stable.{Own, Stays, added_none, referent_stays, pool_same}
 use Rattle.desk_laws.proofs.Bodies.{NamesText, all_append, sound_at, each_new, new_pools, pool_within, body_within, uses_are, all_named}
 
-abbrev pub OnText : Images → Pool → Target → ℕ → Type 0
-OnText im pool (targets.Text role form) i = image im role (text_at pool i) ≡ text_at pool i
+abbrev pub OnText : Images → Pool → Referent → ℕ → Type 0
+OnText im pool (referents.Text role form) i = image im role (text_at pool i) ≡ text_at pool i
 OnText im pool _ i = Unit {0}
 
 module _ (im : Images) (pool : Pool) where
-  self_as : (t : Target) (at i : ℕ) → OnText im pool t i → AllByRecursion (IsOwnImage im pool) (uses_as t at i)
-  self_as (targets.Text role form) at i h = (h, tt)
-  self_as (targets.Class form) at i h = tt
-  self_as (targets.NameAndType form) at i h = tt
-  self_as (targets.Entry entries) at i h = tt
+  self_as : (t : Referent) (at i : ℕ) → OnText im pool t i → AllByRecursion (IsOwnImage im pool) (uses_as t at i)
+  self_as (referents.Text role form) at i h = (h, tt)
+  self_as (referents.Class form) at i h = tt
+  self_as (referents.NameAndType form) at i h = tt
+  self_as (referents.Entry entries) at i h = tt
 
-  self_among : (at : ℕ) (ls : List Link) → AllByRecursion (λ (l : Link). OnText im pool l.target l.index) ls → AllByRecursion (IsOwnImage im pool) (uses_among at ls)
+  self_among : (at : ℕ) (ls : List Link) → AllByRecursion (λ (l : Link). OnText im pool l.referent l.index) ls → AllByRecursion (IsOwnImage im pool) (uses_among at ls)
   self_among at [] h = tt
-  self_among at (l ∷ ls) h = all_append (IsOwnImage im pool) (uses_as l.target (at + l.behind) l.index) (uses_among at ls) (self_as l.target (at + l.behind) l.index h.0) (self_among at ls h.1)
+  self_among at (l ∷ ls) h = all_append (IsOwnImage im pool) (uses_as l.referent (at + l.behind) l.index) (uses_among at ls) (self_as l.referent (at + l.behind) l.index h.0) (self_among at ls h.1)
 
-  self_in_pool : (at : ℕ) (slots : Pool) → EachLink (λ (l : Link). OnText im pool l.target l.index) slots → AllByRecursion (IsOwnImage im pool) (pool_uses at slots)
+  self_in_pool : (at : ℕ) (slots : Pool) → EachLink (λ (l : Link). OnText im pool l.referent l.index) slots → AllByRecursion (IsOwnImage im pool) (pool_uses at slots)
   self_in_pool at [] h = tt
   self_in_pool at (None ∷ slots) h = self_in_pool at slots h
   self_in_pool at (Some e ∷ slots) h = all_append (IsOwnImage im pool) (uses_among at (links e)) (pool_uses (at + size e) slots) (self_among at (links e) h.0) (self_in_pool (at + size e) slots h.1)
@@ -80,55 +80,55 @@ exchange-same g at (Tree.member a) same low p h = ap Tree.member (exchange-same 
 exchange-same g at (Tree.both a b) same low p h = ap₂ Tree.both (exchange-same g at a same low p.0 h.0) (exchange-same g (at + length (print a)) b same (omega arith) p.1 h.1)
 
 -- a use whose value was renamed is its own image
-on_text : (im : Images) (new : Pool) → IsSettled im → (t : Target) (i' : ℕ) (x' : Bool) (before : Value) → x' ≡ false → cond x' none (value_as t new i') ≡ renamed_value im before → OnText im new t i'
-on_text im new s (targets.Text role form) i' true before p h = absurd cc
-on_text im new s (targets.Text role form) i' false (text_as r t) p h =
+on_text : (im : Images) (new : Pool) → IsSettled im → (t : Referent) (i' : ℕ) (x' : Bool) (before : Value) → x' ≡ false → cond x' none (value_as t new i') ≡ renamed_value im before → OnText im new t i'
+on_text im new s (referents.Text role form) i' true before p h = absurd cc
+on_text im new s (referents.Text role form) i' false (text_as r t) p h =
     let role_is : role ≡ r = cc in
     let text_is : text_at new i' ≡ image im r t = cc in
     let image_is : text_at new i' ≡ image im role t = text_is ∙ ap (λ (q : Role). image im q t) (sym role_is) in
     ap (image im role) image_is ∙ s.again role t ∙ sym image_is
-on_text im new s (targets.Text role form) i' false _ p h = absurd cc
-on_text im new s (targets.Class form) i' x' before p h = tt
-on_text im new s (targets.NameAndType form) i' x' before p h = tt
-on_text im new s (targets.Entry entries) i' x' before p h = tt
+on_text im new s (referents.Text role form) i' false _ p h = absurd cc
+on_text im new s (referents.Class form) i' x' before p h = tt
+on_text im new s (referents.NameAndType form) i' x' before p h = tt
+on_text im new s (referents.Entry entries) i' x' before p h = tt
 
 -- an index of the new pool is that of an image
-on_link : (im : Images) (old : Pool) (us : List Used) → IsSettled im → EachLink (Links old) old → EachLink (LinkUsed us) old → (t : Target) (i : ℕ) → fits t (tag_at old i) ≡ true → IsUsed us t i → OnText im (new_pool im old us) t (reindexed (choice im old us) t i)
-on_link im old us s linked used (targets.Text role form) i h u =
-    let e : text_at (new_pool im old us) (choice im old us role i) ≡ image im role (text_at old i) = leads_to im old us linked used (targets.Text role form) i h u in
+on_link : (im : Images) (old : Pool) (us : List Used) → IsSettled im → EachLink (Links old) old → EachLink (LinkUsed us) old → (t : Referent) (i : ℕ) → fits t (tag_at old i) ≡ true → IsUsed us t i → OnText im (new_pool im old us) t (reindexed (choice im old us) t i)
+on_link im old us s linked used (referents.Text role form) i h u =
+    let e : text_at (new_pool im old us) (choice im old us role i) ≡ image im role (text_at old i) = leads_to im old us linked used (referents.Text role form) i h u in
     ap (image im role) e ∙ s.again role (text_at old i) ∙ sym e
-on_link im old us s linked used (targets.Class form) i h u = tt
-on_link im old us s linked used (targets.NameAndType form) i h u = tt
-on_link im old us s linked used (targets.Entry entries) i h u = tt
+on_link im old us s linked used (referents.Class form) i h u = tt
+on_link im old us s linked used (referents.NameAndType form) i h u = tt
+on_link im old us s linked used (referents.Entry entries) i h u = tt
 
 module _ (im : Images) (new : Pool) where
   abbrev BodyOn : Use → Type 0
-  BodyOn u = (may_be_none u.kind && nat_eq u.index 0) ≡ false → OnText im new (target_of u.kind) u.index
+  BodyOn u = (may_be_none u.kind && nat_eq u.index 0) ≡ false → OnText im new (referent_of u.kind) u.index
 
-  self_use : (u : Use) (x : Bool) → (may_be_none u.kind && nat_eq u.index 0) ≡ x → BodyOn u → AllByRecursion (IsOwnImage im new) (uses_of (cond x None (text_in_role (target_of u.kind) u.at u.index)))
+  self_use : (u : Use) (x : Bool) → (may_be_none u.kind && nat_eq u.index 0) ≡ x → BodyOn u → AllByRecursion (IsOwnImage im new) (uses_of (cond x None (text_in_role (referent_of u.kind) u.at u.index)))
   self_use u true p h = tt
-  self_use u false p h = self_as im new (target_of u.kind) u.at u.index (h p)
+  self_use u false p h = self_as im new (referent_of u.kind) u.at u.index (h p)
 
   self_body : (us : List Use) → AllByRecursion BodyOn us → AllByRecursion (IsOwnImage im new) (text_uses us)
   self_body [] h = tt
   self_body (u ∷ us) h = all_append (IsOwnImage im new) (uses_of (text_use u)) (text_uses us) (self_use u (may_be_none u.kind && nat_eq u.index 0) refl h.0) (self_body us h.1)
 
-  reindexed_stays : (us : List Used) (t : Target) (i : ℕ) → Stays (choice im new us) t i → reindexed (choice im new us) t i ≡ i
-  reindexed_stays us (targets.Text role form) i h = h
-  reindexed_stays us (targets.Class form) i h = refl
-  reindexed_stays us (targets.NameAndType form) i h = refl
-  reindexed_stays us (targets.Entry entries) i h = refl
+  reindexed_stays : (us : List Used) (t : Referent) (i : ℕ) → Stays (choice im new us) t i → reindexed (choice im new us) t i ≡ i
+  reindexed_stays us (referents.Text role form) i h = h
+  reindexed_stays us (referents.Class form) i h = refl
+  reindexed_stays us (referents.NameAndType form) i h = refl
+  reindexed_stays us (referents.Entry entries) i h = refl
 
   module _ (us : List Used) (own : AllByRecursion (Own new) (wants im new us)) where
-    head_used : (t : Target) (at i : ℕ) (more : List Used) → Within (uses_as t at i ++ more) us → IsUsed us t i
-    head_used (targets.Text role form) at i more h = h.has role i (inl (refl, refl))
-    head_used (targets.Class form) at i more h = tt
-    head_used (targets.NameAndType form) at i more h = tt
-    head_used (targets.Entry entries) at i more h = tt
+    head_used : (t : Referent) (at i : ℕ) (more : List Used) → Within (uses_as t at i ++ more) us → IsUsed us t i
+    head_used (referents.Text role form) at i more h = h.has role i (inl (refl, refl))
+    head_used (referents.Class form) at i more h = tt
+    head_used (referents.NameAndType form) at i more h = tt
+    head_used (referents.Entry entries) at i more h = tt
 
-    index_stays : (u : Use) (more : List Used) (x : Bool) → Within (uses_of (cond x None (text_in_role (target_of u.kind) u.at u.index)) ++ more) us → cond x u.index (reindexed (choice im new us) (target_of u.kind) u.index) ≡ u.index
+    index_stays : (u : Use) (more : List Used) (x : Bool) → Within (uses_of (cond x None (text_in_role (referent_of u.kind) u.at u.index)) ++ more) us → cond x u.index (reindexed (choice im new us) (referent_of u.kind) u.index) ≡ u.index
     index_stays u more true h = refl
-    index_stays u more false h = reindexed_stays us (target_of u.kind) u.index (target_stays im new us own (target_of u.kind) u.index (head_used (target_of u.kind) u.at u.index more h))
+    index_stays u more false h = reindexed_stays us (referent_of u.kind) u.index (referent_stays im new us own (referent_of u.kind) u.index (head_used (referent_of u.kind) u.at u.index more h))
 
     pub indices_stay : (body : List Use) → Within (text_uses body) us → AllByRecursion (λ (u : Use). new_index (by_choice (choice im new us)) u ≡ u.index) body
     indices_stay [] h = tt
@@ -150,7 +150,7 @@ pub record IsUnchanged (im : Images) (at : ℕ) (pool : Pool) (from : ℕ) (tree
   pub accepted : IsAccepted im pool (all_uses at pool tree)
 
 unchanged : (im : Images) (at : ℕ) (new : Pool) (from : ℕ) (tree : Tree Use) → IsWellFormed new → IsTwoBytes (suc (length new)) → Each (Fits new) tree
-    → EachLink (λ (l : Link). OnText im new l.target l.index) new → Each (BodyOn im new) tree → IsPlaced from tree → IsUnchanged im at new from tree
+    → EachLink (λ (l : Link). OnText im new l.referent l.index) new → Each (BodyOn im new) tree → IsPlaced from tree → IsUnchanged im at new from tree
 unchanged im at new from tree w few fits on body_on placed =
     let us : List Used = all_uses at new tree in
     let named : AllByRecursion (NamesText new) (all_uses at new tree) = all_named at new tree w.linked fits in
@@ -195,14 +195,14 @@ second im at old tree from to k settled w fits placed accepted =
     let room : IsTwoBytes (suc (length old) + length (added im old us)) = accepted.room in
     let count : length new ≡ length old + length (added im old us) = n.pool.count in
     let few : IsTwoBytes (suc (length new)) = omega (arith, count) in
-    let on : EachLink (λ (m : Link). OnText im new m.target m.index) new
-    = each_new im old us k w used named accepted (λ (m : Link). OnText im new m.target m.index)
-    (λ m o. on_link im old us settled w.linked used m.target m.index (names_fitting old m.target m.index o.fits.names) o.used) in
+    let on : EachLink (λ (m : Link). OnText im new m.referent m.index) new
+    = each_new im old us k w used named accepted (λ (m : Link). OnText im new m.referent m.index)
+    (λ m o. on_link im old us settled w.linked used m.referent m.index (names_fitting old m.referent m.index o.fits.names) o.used) in
     let fits' : Each (Fits new) (exchange change tree)
     = each_two (Fits new) (Fits old) (Renames im old new change) (exchanged change) tree (λ u f r. record { small = r.suits.small; fits = r.suits.fits }) fits renames in
     let body_on : Each (BodyOn im new) (exchange change tree)
     = each_two (BodyOn im new) (Fits old) (Renames im old new change) (exchanged change) tree
-    (λ u f r p. on_text im new settled (target_of u.kind) (new_index change.index u) (may_be_none u.kind && nat_eq (new_index change.index u) 0) (value_of_kind old u.kind u.index) p r.leads) fits renames in
+    (λ u f r p. on_text im new settled (referent_of u.kind) (new_index change.index u) (may_be_none u.kind && nat_eq (new_index change.index u) 0) (value_of_kind old u.kind u.index) p r.leads) fits renames in
     let place : moved change from ≡ to = omega arith in
     unchanged im at new to (exchange change tree) n.pool.well_formed few fits' on body_on
     (subst (λ (m : ℕ). IsPlaced m (exchange change tree)) place (IsPlaced-exchange change from tree (omega arith) placed))

@@ -6,9 +6,9 @@ use Rattle.std.specs.Cmp.Lexicographic.{slice_cmp}
 use Rattle.desk_base.specs.Utf8.{bad_form}
 use Rattle.desk_base.specs.Entries.{Entry, utf8, class, string, fieldref, methodref, interface_methodref, name_and_type, method_handle, method_type, dynamic, invoke_dynamic, module_named, package_named, tag_of, is_wide}
 use Rattle.desk_base.specs.Entries.{Pool}
-use Rattle.desk_base.specs.declared.targets.Target.{Target}
-use Rattle.desk_base.specs.declared.targets.Target.TheVariants as targets
-use Rattle.desk_base.specs.Targets.{Link, link, links, handled}
+use Rattle.desk_base.specs.declared.referents.Referent.{Referent}
+use Rattle.desk_base.specs.declared.referents.Referent.TheVariants as referents
+use Rattle.desk_base.specs.Referents.{Link, link, links, handled}
 use Rattle.desk_laws.specs.Sound.{IsTwoBytes, IsSound, IsShaped, EachLink}
 use Rattle.desk_format.specs.Split.{Want, wanted, holds, keep, kept_entry, kept, has_text, add, missing, entry_of}
 use Rattle.desk_format.specs.NewPool.{Choice, with_texts}
@@ -48,12 +48,12 @@ missing_holdable pool (w ∷ ws) h =
     if_either (AllByRecursion Holdable) (has_text w.text pool) (missing pool ws) (add w.text (missing pool ws)) rest (add_holdable w.text (missing pool ws) h.0 rest)
 
 -- the new index of a text is small
-abbrev pub NewSmall : Choice → Target → ℕ → Type 0
-NewSmall g (targets.Text role form) i = IsTwoBytes (g role i)
+abbrev pub NewSmall : Choice → Referent → ℕ → Type 0
+NewSmall g (referents.Text role form) i = IsTwoBytes (g role i)
 NewSmall g _ i = Unit {0}
 
 abbrev pub LinkSmall : Choice → Link → Type 0
-LinkSmall g l = NewSmall g l.target l.index
+LinkSmall g l = NewSmall g l.referent l.index
 
 module _ (g : Choice) (ws : List Want) (wants : AllByRecursion WantHoldable ws) where
   sound_new : (k : ℕ) (e : Entry) → IsSound e → AllByRecursion (LinkSmall g) (links e) → IsSound (with_texts g (kept_entry ws k e))
@@ -87,10 +87,10 @@ module _ (g : Choice) (ws : List Want) (wants : AllByRecursion WantHoldable ws) 
   -- ---- links
 
   abbrev pub relink : Link → Link
-  relink l = record l { index = reindexed g l.target l.index }
+  relink l = record l { index = reindexed g l.referent l.index }
 
   pub handled_stays : (kind i : ℕ) → reindexed g (handled kind) i ≡ i
-  handled_stays kind i = handled_all (λ (t : Target). reindexed g t i ≡ i) refl refl refl refl kind
+  handled_stays kind i = handled_all (λ (t : Referent). reindexed g t i ≡ i) refl refl refl refl kind
 
   links_new : (P Q : Link → Type 0) → ((l : Link) → Q l → P (relink l)) → (k : ℕ) (e : Entry) → AllByRecursion Q (links e) → AllByRecursion P (links (with_texts g (kept_entry ws k e)))
   links_new P Q f k (class i) h = (f _ h.0, tt)

@@ -7,13 +7,13 @@ use Rattle.desk_base.specs.declared.kinds.Role.{Role}
 use Rattle.desk_base.specs.declared.kinds.Used.{Used}
 use Rattle.desk_base.specs.Entries.{Entry, utf8, class, string, name_and_type, method_type, module_named, package_named}
 use Rattle.desk_base.specs.Entries.{Pool, entry_at, text_at, text_in}
-use Rattle.desk_base.specs.declared.targets.Target.{Target}
-use Rattle.desk_base.specs.declared.targets.Target.TheVariants as targets
-use Rattle.desk_base.specs.Targets.{Link, links}
+use Rattle.desk_base.specs.declared.referents.Referent.{Referent}
+use Rattle.desk_base.specs.declared.referents.Referent.TheVariants as referents
+use Rattle.desk_base.specs.Referents.{Link, links}
 use Rattle.desk_laws.specs.Sound.{EachLink}
 use Rattle.desk_format.specs.Resolved.{Images, image}
 use Rattle.desk_format.specs.Split.{Want, wanted, holds, keep, kept_entry, kept, is_text, has_text, missing, entry_of}
-use Rattle.desk_format.specs.NewPool.{Choice, wish, wants, with_texts, new_texts, choice, new_pool, added}
+use Rattle.desk_format.specs.NewPool.{Choice, want_in_role, wants, with_texts, new_texts, choice, new_pool, added}
 use Rattle.desk_laws.proofs.Slots.{kept-at, length-kept}
 use Rattle.desk_laws.proofs.Passes.{each_map}
 use Rattle.desk_laws.proofs.Linked.{HasUse, IsUsed, LinkUsed, is_want}
@@ -79,11 +79,11 @@ own_at pool (v ∷ vs) w h is = elim is [ inl e ↦ subst (Own pool) e h.0 | inr
 
 -- ---- no index is exchanged
 
-abbrev pub Stays : Choice → Target → ℕ → Type 0
-Stays g (targets.Text role form) i = g role i ≡ i
+abbrev pub Stays : Choice → Referent → ℕ → Type 0
+Stays g (referents.Text role form) i = g role i ≡ i
 Stays g _ i = Unit {0}
 
-with_same : (g : Choice) (e : Entry) → AllByRecursion (λ (l : Link). Stays g l.target l.index) (links e) → with_texts g e ≡ e
+with_same : (g : Choice) (e : Entry) → AllByRecursion (λ (l : Link). Stays g l.referent l.index) (links e) → with_texts g e ≡ e
 with_same g (class i) h = ap class h.0
 with_same g (string i) h = ap string h.0
 with_same g (name_and_type n d) h = ap₂ name_and_type h.0 h.1.0
@@ -92,7 +92,7 @@ with_same g (module_named i) h = ap module_named h.0
 with_same g (package_named i) h = ap package_named h.0
 with_same g _ h = refl
 
-slots_same : (g : Choice) (pool : Pool) → EachLink (λ (l : Link). Stays g l.target l.index) pool → map (option_map (with_texts g)) pool ≡ pool
+slots_same : (g : Choice) (pool : Pool) → EachLink (λ (l : Link). Stays g l.referent l.index) pool → map (option_map (with_texts g)) pool ≡ pool
 slots_same g [] h = refl
 slots_same g (None ∷ slots) h = ap (λ (rest : Pool). None ∷ rest) (slots_same g slots h)
 slots_same g (Some e ∷ slots) h = ap₂ (λ (f : Entry) (rest : Pool). Some f ∷ rest) (with_same g e h.0) (slots_same g slots h.1)
@@ -106,18 +106,18 @@ module _ (im : Images) (pool : Pool) (us : List Used) (own : AllByRecursion (Own
 
   pub choice_stays : (role : Role) (i : ℕ) → HasUse us role i → choice im pool us role i ≡ i
   choice_stays role i h =
-      let w : Want = wish im pool role i in
-      let o : Own pool (wish im pool role i) = own_at pool (wants im pool us) (wish im pool role i) own (is_want im pool us role i h) in
+      let w : Want = want_in_role im pool role i in
+      let o : Own pool (want_in_role im pool role i) = own_at pool (wants im pool us) (want_in_role im pool role i) own (is_want im pool us role i h) in
       let same : text_at (new_texts im pool us) i ≡ image im role (text_at pool i) = ap (λ (p : Pool). text_at p i) texts_same ∙ ap text_in o.names in
       rw ((bytes_eq-Decides (text_at (new_texts im pool us) i) (image im role (text_at pool i))).1 same) refl
 
-  pub target_stays : (t : Target) (i : ℕ) → IsUsed us t i → Stays (choice im pool us) t i
-  target_stays (targets.Text role form) i l = choice_stays role i l
-  target_stays (targets.Class form) i l = tt
-  target_stays (targets.NameAndType form) i l = tt
-  target_stays (targets.Entry entries) i l = tt
+  pub referent_stays : (t : Referent) (i : ℕ) → IsUsed us t i → Stays (choice im pool us) t i
+  referent_stays (referents.Text role form) i l = choice_stays role i l
+  referent_stays (referents.Class form) i l = tt
+  referent_stays (referents.NameAndType form) i l = tt
+  referent_stays (referents.Entry entries) i l = tt
 
   pub pool_same : EachLink (LinkUsed us) pool → new_pool im pool us ≡ pool
   pool_same used =
       ap (map (option_map (with_texts (choice im pool us)))) texts_same
-      ∙ slots_same (choice im pool us) pool (each_map (LinkUsed us) (λ (l : Link). Stays (choice im pool us) l.target l.index) pool (λ l u. target_stays l.target l.index u) used)
+      ∙ slots_same (choice im pool us) pool (each_map (LinkUsed us) (λ (l : Link). Stays (choice im pool us) l.referent l.index) pool (λ l u. referent_stays l.referent l.index u) used)

@@ -6,8 +6,8 @@ use Rattle.desk_base.specs.Utf8.{bad_form}
 use Rattle.desk_base.specs.declared.kinds.Role.{Role}
 use Rattle.desk_base.specs.declared.kinds.Tag.TheVariants as tags
 use Rattle.desk_base.specs.declared.kinds.Used.{Used}
-use Rattle.desk_base.specs.declared.targets.Form.{Form}
-use Rattle.desk_base.specs.Targets.{has_form, goes_with}
+use Rattle.desk_base.specs.declared.referents.Form.{Form}
+use Rattle.desk_base.specs.Referents.{has_form, goes_with}
 use Rattle.desk_base.specs.Entries.{Pool, tag_at}
 use Rattle.desk_format.specs.Trees.{Tree, Use, Each, uses}
 use Rattle.desk_format.specs.Values.{value_of}

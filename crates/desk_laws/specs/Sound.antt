@@ -4,7 +4,7 @@ use Rattle.std.specs.List.{AllByRecursion}
 use Rattle.desk_base.specs.Utf8.{bad_form}
 use Rattle.desk_base.specs.Entries.{Entry, utf8, integer, float, long, double, class, string, fieldref, methodref, interface_methodref, name_and_type, method_handle, method_type, dynamic, invoke_dynamic, module_named, package_named, is_wide, tag_of}
 use Rattle.desk_base.specs.Entries.{Pool}
-use Rattle.desk_base.specs.Targets.{Link, links}
+use Rattle.desk_base.specs.Referents.{Link, links}
 use Rattle.desk_format.specs.PoolReading.{names_wrong, leads_wrong}
 
 abbrev pub IsTwoBytes : ℕ → Type 0

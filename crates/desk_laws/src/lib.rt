@@ -1,4 +1,9 @@
 //! The laws of a class that is renamed.
+//!
+//! ```text
+//! // a call teaches a proof the law: what is read prints to its bytes
+//! desk_laws::printed_classes();
+//! ```
 #![tactic(auto)]
 
 mod laws;

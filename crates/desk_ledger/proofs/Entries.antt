@@ -9,7 +9,7 @@ use Rattle.std.specs.Map.{lookup}
 use Rattle.std.specs.FinMap.{get, insert, remove, from_entries, find, get-from_entries, get-insert, get-remove}
 use Rattle.desk_base.specs.Names.{Text}
 use Rattle.desk_ledger.specs.declared.keeper.Held.{Held}
-use Rattle.desk_ledger.specs.LedgerLaws.{same_rows}
+use Rattle.desk_base.specs.TextMaps.{same_texts}
 
 -- what entries have at a target
 abbrev pub entry_at : List (Text × Held) → Text → Option Held
@@ -25,13 +25,13 @@ get_text es q = get-from_entries nat_list_cmp_total es q ∙ find_text es q
 -- entries with one target's row exchanged are the rows with it exchanged
 pub one_inserted : (es fs : List (Text × Held)) (k : Text) (held : Held) → ((q : Text) → entry_at fs q ≡ cond (is_at (slice_cmp nat_cmp k) q) (Some held) (entry_at es q))
     → from_entries {R = slice_cmp nat_cmp} fs ≡ insert (from_entries es) k held
-one_inserted es fs k held h = same_rows _ _ (λ q.
+one_inserted es fs k held h = same_texts _ _ (λ q.
     get_text fs q ∙ h q ∙ ap (λ b. cond b (Some held) (entry_at es q)) ((eq_by_cmp_equiv nat_list_cmp_total).symm k q)
     ∙ sym (get-insert nat_list_cmp_total (from_entries es) k held q ∙ ap (cond (eq_by_cmp (slice_cmp nat_cmp) q k) (Some held)) (get_text es q)))
 
 -- entries without one target's row are the rows without it
 pub one_removed : (es fs : List (Text × Held)) (k : Text) → ((q : Text) → entry_at fs q ≡ cond (is_at (slice_cmp nat_cmp k) q) None (entry_at es q))
     → from_entries {R = slice_cmp nat_cmp} fs ≡ remove (from_entries es) k
-one_removed es fs k h = same_rows _ _ (λ q.
+one_removed es fs k h = same_texts _ _ (λ q.
     get_text fs q ∙ h q ∙ ap (λ b. cond b None (entry_at es q)) ((eq_by_cmp_equiv nat_list_cmp_total).symm k q)
     ∙ sym (get-remove nat_list_cmp_total (from_entries es) k q ∙ ap (cond (eq_by_cmp (slice_cmp nat_cmp) q k) None) (get_text es q)))

@@ -1,8 +1,9 @@
 -- What a keeper in memory holds.
-use Rattle.std.specs.Prelude.{ℕ, ◌+◌, ◌-◌, ◌^◌, ◌==◌, Bool, List, Option, Some, min, refl, if◌then◌else◌}
+use Rattle.std.specs.Prelude.{ℕ, ◌==◌, Bool, List, Option, Some, refl, if◌then◌else◌}
 use Rattle.std.specs.List.{list_any}
 use Rattle.std.specs.FinMap as fin
 use Rattle.std.specs.Coded.{Coded, code_by, coded×, coded_list, coded_option, coded_ℕ}
+use Rattle.desk_base.specs.Counts.{counted}
 use Rattle.desk_base.specs.Names.{Text}
 use Rattle.desk_ledger.specs.declared.keeper.Header.{Header}
 use Rattle.desk_ledger.specs.declared.keeper.Held.{Held}
@@ -34,10 +35,6 @@ abbrev pub in_memory_code : Coded InMemory
 in_memory_code =
     code_by (Ledger × (Option Text × (ℕ × (ℕ × List ℕ)))) (coded× ledger_code (coded× (coded_option text_code) (coded× coded_ℕ (coded× coded_ℕ (coded_list coded_ℕ)))))
     (λ k. (k.ledger, (k.attached, (k.faults, (k.calls, k.failing))))) (λ p. record { ledger = p.0; attached = p.1.0; faults = p.1.1.0; calls = p.1.1.1.0; failing = p.1.1.1.1 }) (λ _. refl)
-
--- the next count, which stays at its last value
-abbrev pub counted : ℕ → ℕ
-counted n = min (n + 1) (2 ^ 64 - 1)
 
 -- whether the next call fails
 abbrev pub fails : InMemory → Bool

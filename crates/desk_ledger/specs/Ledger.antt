@@ -1,5 +1,5 @@
 -- What a ledger contains: a header, and rows by their targets.
-use Rattle.std.specs.Prelude.{◌⊎◌, ◌<◌, ◌≤◌, ◌-◌, ◌^◌, ℕ, Option, Some}
+use Rattle.std.specs.Prelude.{◌≡◌, List, [], Option, Some, IfSome}
 use Rattle.std.specs.Ordering.{nat_cmp}
 use Rattle.std.specs.Cmp.Lexicographic.{slice_cmp}
 use Rattle.std.specs.FinMap as fin
@@ -8,10 +8,6 @@ use Rattle.desk_base.specs.Names.{Text}
 use Rattle.desk_ledger.specs.declared.keeper.Header.{Header}
 use Rattle.desk_ledger.specs.declared.keeper.Row.{Row}
 use Rattle.desk_ledger.specs.declared.keeper.Held.{Held}
-
--- a count is greater than before, or stands at its last value
-abbrev pub Rose : ℕ → ℕ → Type 0
-Rose old new = (old < new) ⊎ (2 ^ 64 - 1 ≤ new)
 
 -- what was written to each target, and from what
 abbrev pub Rows : Type 0
@@ -37,3 +33,7 @@ with_row row l = record l { rows = fin.insert l.rows row.target (held_in row) }
 
 abbrev pub without_row : Text → Ledger → Ledger
 without_row target l = record l { rows = fin.remove l.rows target }
+
+-- of the rows that wait to be written outside, where any can wait, there is none
+abbrev pub NoneWaits : Option (List Row) → Type 0
+NoneWaits waiting = IfSome waiting (λ rows. rows ≡ [])

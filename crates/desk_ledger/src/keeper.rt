@@ -2,10 +2,12 @@
 
 ghost use Rattle.std.specs.Prelude.{◌≡◌, ◌≤◌, ℕ, List, Option, option_map, Some, Err, OnOk, OnErr, IfOk, IfSome, IsSome};
 ghost use Rattle.std.specs.FinMap as fin;
-ghost use Rattle.desk_ledger.specs.Ledger.{Ledger, Rose, row_at, with_header, with_row, without_row};
+ghost use Rattle.desk_base.specs.Counts.{Rose};
+ghost use Rattle.desk_ledger.specs.Ledger.{Ledger, NoneWaits, row_at, with_header, with_row, without_row};
 
 use crate::Digest;
 use desk_base::{Memory, Text};
+use std::alloc::AllocError;
 use thiserror::Error;
 
 /// Why a call on a keeper failed.
@@ -30,8 +32,19 @@ impl From<Memory> for KeeperFault {
     }
 }
 
+impl From<AllocError> for KeeperFault {
+    ghost use Rattle.std.specs.Prelude.{◌≡◌};
+    ghost use Rattle.desk_ledger.specs.declared.keeper.KeeperFault.TheVariants as fault;
+
+    ghost from_gives = { λ _ it. it ≡ fault.Memory };
+
+    fn from(_: AllocError) -> KeeperFault {
+        KeeperFault::Memory
+    }
+}
+
 /// Which run a ledger belongs to: the written roots of source and target, and the digest of the rules.
-#[derive(Debug, Drop)]
+#[derive(Clone, Debug, Drop)]
 pub struct Header {
     pub from: Text,
     pub to: Text,
@@ -39,7 +52,7 @@ pub struct Header {
 }
 
 /// What was written to a target: the path of its source, and the digest of the source's bytes.
-#[derive(Debug, Drop)]
+#[derive(Clone, Debug, Drop)]
 pub struct Row {
     pub target: Text,
     pub source: Text,
@@ -47,7 +60,7 @@ pub struct Row {
 }
 
 /// What a ledger holds under a target: the path of its source, and the digest of the source's bytes.
-#[derive(Debug, Drop)]
+#[derive(Clone, Debug, Drop)]
 pub struct Held {
     pub source: Text,
     pub digest: Digest,
@@ -57,11 +70,17 @@ pub struct Held {
 /// it is attached to, and it counts its faults. A count never falls, and rises in each call that
 /// answers `Failed`, unless it stands at 18,446,744,073,709,551,615. After an error nothing changed.
 pub trait Keeper {
+    ghost use Rattle.desk_ledger.specs.declared.keeper.Row.{Row};
+
     /// What it tells of its contents.
     ghost told: { Self → Option Ledger };
 
     /// The name that was attached last.
     ghost attached: { Self → Option (List ℕ) };
+
+    /// The rows that were put and don't stand outside yet; none at all where it writes nothing outside, or
+    /// no ledger is attached.
+    ghost waiting: { Self → Option (List Row) };
 
     /// How many faults there were.
     ghost faults: { Self → ℕ };
@@ -102,9 +121,9 @@ pub trait Keeper {
         ensures failed { result ≡ Err KeeperFault.Failed → Rose (faults self.old) (faults self.new) };
 
     /// Keeps a row, in place of the row of its target if there is one.
-    fn put(&mut self, row: &Row) -> Result<(), KeeperFault>
+    fn put(&mut self, row: Row) -> Result<(), KeeperFault>
         requires { IsSome (attached self.old) }
-        ensures ok { OnOk result (told self.new ≡ option_map (with_row row.now) (told self.old)) }
+        ensures ok { OnOk result (told self.new ≡ option_map (with_row row) (told self.old)) }
         ensures err { OnErr result (told self.new ≡ told self.old) }
         ensures attached { attached self.new ≡ attached self.old }
         ensures counts { faults self.old ≤ faults self.new }
@@ -115,6 +134,16 @@ pub trait Keeper {
         requires { IsSome (attached self.old) }
         ensures ok { OnOk result (told self.new ≡ option_map (without_row target.now) (told self.old)) }
         ensures err { OnErr result (told self.new ≡ told self.old) }
+        ensures attached { attached self.new ≡ attached self.old }
+        ensures counts { faults self.old ≤ faults self.new }
+        ensures failed { result ≡ Err KeeperFault.Failed → Rose (faults self.old) (faults self.new) };
+
+    /// Makes what was put, set and forgotten stand outside, where it outlives the program. A keeper that
+    /// writes nothing outside has nothing to do.
+    fn commit(&mut self) -> Result<(), KeeperFault>
+        requires { IsSome (attached self.old) }
+        ensures written { OnOk result (NoneWaits (waiting self.new)) }
+        ensures told { told self.new ≡ told self.old }
         ensures attached { attached self.new ≡ attached self.old }
         ensures counts { faults self.old ≤ faults self.new }
         ensures failed { result ≡ Err KeeperFault.Failed → Rose (faults self.old) (faults self.new) };

@@ -3,13 +3,12 @@ use Rattle.std.proofs.Common.{◌≡◌, ◌≢◌, ◌≤◌, ◌+◌, ◌-◌,
 use Rattle.std.specs.Str.{bytes_eq}
 use Rattle.std.proofs.lemmas.Bool.{false_from_ne_true}
 use Rattle.std.proofs.lemmas.Slice.Eq.{bytes_eq-Decides}
-use Rattle.std.proofs.lemmas.List.{take_at, drop_at, drop-drop, append_cancel_right}
+use Rattle.std.proofs.lemmas.List.{take_at, drop_at, drop-drop}
 use Rattle.desk_base.specs.Names.{Text, is_empty}
-use Rattle.desk_metainf.specs.Lines.{End, line, end_bytes, joined, lines}
-use Rattle.desk_metainf.specs.Cuts.{until, onward, is_inked, back_blanks, front_blanks}
+use Rattle.desk_lines.specs.Cuts.{until, onward}
+use Rattle.desk_lines.specs.Blanks.{not_blank, trailing_blanks, leading_blanks}
 use Rattle.desk_metainf.specs.Services.{is_hash, provider, with_provider, line_image, is_changed}
-use Rattle.desk_metainf.specs.Reading.{IsFirstLine, IsProviderPlace, exchanged, is_exchanged}
-use Rattle.desk_metainf.proofs.LineLaws.{joined-lines}
+use Rattle.desk_metainf.specs.Reading.{IsProviderAt, exchanged, is_exchanged}
 use Rattle.desk_metainf.proofs.ServiceLaws.{parts_joined}
 
 -- what is exchanged for itself leaves the line
@@ -43,19 +42,18 @@ cut_parts front name more from to from_is to_is =
       more_is = ap (drop to) (sym (append_assoc front name more)) ∙ drop_at (front ++ name) more to (sym both);
     }
 
--- the parts of a line's content, and its end
-pub record LineCut (content end : Text) (from to : ℕ) : Type 0 where
-  pub front_is : take from (content ++ end) ≡ front_blanks (until is_hash content)
-  pub name_is : take (to - from) (drop from (content ++ end)) ≡ provider content
-  pub more_is : drop to (content ++ end) ≡ (back_blanks (onward is_inked (until is_hash content)) ++ onward is_hash content) ++ end
+-- the parts of a line's content
+pub record LineCut (content : Text) (from to : ℕ) : Type 0 where
+  pub front_is : take from content ≡ leading_blanks (until is_hash content)
+  pub name_is : take (to - from) (drop from content) ≡ provider content
+  pub more_is : drop to content ≡ trailing_blanks (onward not_blank (until is_hash content)) ++ onward is_hash content
 
-pub line_cut : (content end : Text) (from to : ℕ) → IsProviderPlace content from to → LineCut content end from to
-line_cut content end from to place =
-    let front = front_blanks (until is_hash content) in
-    let back = back_blanks (onward is_inked (until is_hash content)) ++ onward is_hash content in
-    let parts : content ++ end ≡ front ++ (provider content ++ (back ++ end)) =
-    ap (λ (t : Text). t ++ end) (sym (parts_joined content)) ∙ append_assoc front (provider content ++ back) end ∙ ap (λ (t : Text). front ++ t) (append_assoc (provider content) back end) in
-    let cut = cut_parts front (provider content) (back ++ end) from to place.from_is place.to_is in
+pub line_cut : (content : Text) (from to : ℕ) → IsProviderAt content from to → LineCut content from to
+line_cut content from to place =
+    let front = leading_blanks (until is_hash content) in
+    let back = trailing_blanks (onward not_blank (until is_hash content)) ++ onward is_hash content in
+    let parts : content ≡ front ++ (provider content ++ back) = sym (parts_joined content) in
+    let cut = cut_parts front (provider content) back from to place.from_is place.to_is in
     record {
       front_is = ap (take from) parts ∙ cut.front_is;
       name_is = ap (λ (t : Text). take (to - from) (drop from t)) parts ∙ cut.name_is;
@@ -76,41 +74,19 @@ line_image_with image at_nothing content =
       | false ↦ λ e. refl
     ] refl
 
-pub exchanged_line : (image : Text → Text) → image [] ≡ [] → (content end : Text) (from to : ℕ) → IsProviderPlace content from to → exchanged image from to (content ++ end) ≡ line_image image content ++ end
-exchanged_line image at_nothing content end from to place =
-    let cut = line_cut content end from to place in
-    let front = front_blanks (until is_hash content) in
-    let back = back_blanks (onward is_inked (until is_hash content)) ++ onward is_hash content in
-    let new = image (provider content) in
-    ap (λ (t : Text). t ++ (image (take (to - from) (drop from (content ++ end))) ++ drop to (content ++ end))) cut.front_is
-    ∙ ap (λ (t : Text). front ++ (image t ++ drop to (content ++ end))) cut.name_is
-    ∙ ap (λ (t : Text). front ++ (new ++ t)) cut.more_is
-    ∙ ap (λ (t : Text). front ++ t) (sym (append_assoc new back end))
-    ∙ sym (append_assoc front (new ++ back) end)
-    ∙ ap (λ (t : Text). t ++ end) (sym (line_image_with image at_nothing content))
+pub exchanged_line : (image : Text → Text) → image [] ≡ [] → (content : Text) (from to : ℕ) → IsProviderAt content from to → exchanged image from to content ≡ line_image image content
+exchanged_line image at_nothing content from to place =
+    let cut = line_cut content from to place in
+    let front = leading_blanks (until is_hash content) in
+    ap (λ (t : Text). t ++ (image (take (to - from) (drop from content)) ++ drop to content)) cut.front_is
+    ∙ ap (λ (t : Text). front ++ (image t ++ drop to content)) cut.name_is
+    ∙ ap (λ (t : Text). front ++ (image (provider content) ++ t)) cut.more_is
+    ∙ sym (line_image_with image at_nothing content)
 
 changed_name : (image : Text → Text) → image [] ≡ [] → (name : Text) → not (bytes_eq (image name) name) ≡ (not (is_empty name) && not (bytes_eq (image name) name))
 changed_name image at_nothing [] = sym (agrees (image []) [] at_nothing)
 changed_name image at_nothing (b ∷ name) = refl
 
-pub exchanged_changed : (image : Text → Text) → image [] ≡ [] → (content end : Text) (from to : ℕ) → IsProviderPlace content from to → is_exchanged image from to (content ++ end) ≡ is_changed image content
-exchanged_changed image at_nothing content end from to place =
-    ap (λ (t : Text). not (bytes_eq (image t) t)) (line_cut content end from to place).name_is ∙ changed_name image at_nothing (provider content)
-
--- a first line, with its end
-pub record FirstOf (r : Text) (content next : ℕ) : Type 0 where
-  pub end : End
-  pub same : lines r ≡ line (take content r) end ∷ lines (drop next r)
-  pub whole : take next r ≡ take content r ++ end_bytes end
-
-pub first_of : (r : Text) (content next : ℕ) → IsFirstLine r content next → FirstOf r content next
-first_of r content next first =
-    let text : r ≡ (take content r ++ end_bytes first.end) ++ drop next r =
-    sym (joined-lines r) ∙ ap joined first.same
-    ∙ ap (λ (t : Text). take content r ++ (end_bytes first.end ++ t)) (joined-lines (drop next r))
-    ∙ sym (append_assoc (take content r) (end_bytes first.end) (drop next r)) in
-    record {
-      end = first.end;
-      same = first.same;
-      whole = append_cancel_right (take next r) (take content r ++ end_bytes first.end) (drop next r) (take-append-drop next r ∙ text);
-    }
+pub exchanged_changed : (image : Text → Text) → image [] ≡ [] → (content : Text) (from to : ℕ) → IsProviderAt content from to → is_exchanged image from to content ≡ is_changed image content
+exchanged_changed image at_nothing content from to place =
+    ap (λ (t : Text). not (bytes_eq (image t) t)) (line_cut content from to place).name_is ∙ changed_name image at_nothing (provider content)

@@ -1,7 +1,4 @@
-pub mod LineLaws
-pub mod Cuts
 pub mod ServiceLaws
-pub mod Reading
 pub mod Places
 pub mod Exchanged
 pub mod Migrating

@@ -1,8 +1,7 @@
 -- How far a service file is migrated, line by line.
-use Rattle.std.proofs.Common.{◌≡◌, ◌<◌, ◌≤◌, ◌+◌, ◌-◌, ℕ, Bool, true, false, cond, not, List, [], ◌∷◌, ◌++◌, length, take, drop, Some, None, Result, Ok, Err, ◌==◌, ◌||◌, take-append-drop, refl, sym, ap, ◌∙◌, inl, inr, arith, append_assoc, append-nil, length-drop, drop_of_length-le}
-use Rattle.std.specs.List.{list_all}
+use Rattle.std.proofs.Common.{◌≡◌, ◌<◌, ◌≤◌, ◌+◌, ◌-◌, ℕ, Bool, true, false, cond, not, List, [], ◌∷◌, ◌++◌, length, take, drop, Some, None, Result, Ok, Err, ◌==◌, ◌||◌, refl, sym, ap, ◌∙◌, inl, inr, arith, append_assoc, append-nil, length-append}
+use Rattle.std.specs.List.{list_all, list_any}
 use Rattle.std.proofs.lemmas.Bool.{and_from, eqb-true, both_ways, cases_Bool, not_from_false, not-true, false_from_ne_true, cases_lt}
-use Rattle.std.proofs.lemmas.List.{drop-drop, length-take-le}
 use Rattle.desk_base.specs.Names.{Text, is_dotted, is_identifier_byte}
 use Rattle.desk_base.specs.declared.Changed.{Changed}
 use Rattle.desk_rules.specs.Rules.{Rules}
@@ -10,15 +9,14 @@ use Rattle.desk_rules.specs.Images.{dotted}
 use Rattle.desk_rules.specs.RuleSets.{IsRuleSet}
 use Rattle.desk_rules.proofs.Laws.{dotted_stay, dotted_keep_form}
 use Rattle.desk_rules.proofs.DottedBytes.{dotted_bytes, dotted_filled}
-use Rattle.desk_metainf.specs.Lines.{Line, end_bytes, joined, lines}
-use Rattle.desk_metainf.specs.Cuts.{is_inked}
+use Rattle.desk_lines.specs.declared.lines.LineEnd.{LineEnd}
+use Rattle.desk_lines.specs.Lines.{Line, line, end_bytes, joined, lines}
+use Rattle.desk_lines.specs.Blanks.{is_blank, not_blank}
+use Rattle.desk_lines.proofs.Trimming.{any_blank}
 use Rattle.desk_metainf.specs.Services.{provider, line_image, is_bad, first_bad, is_changed, count_changed, on_contents, service_by, service, ServiceStays, is_name_byte, is_provider_name}
-use Rattle.desk_metainf.specs.Reading.{IsFirstLine, IsProviderPlace, exchanged, is_exchanged}
+use Rattle.desk_metainf.specs.Reading.{IsProviderAt, exchanged, is_exchanged}
 use Rattle.desk_metainf.proofs.ServiceLaws.{IsImage, service-twice}
-use Rattle.desk_metainf.proofs.Exchanged.{line_cut, exchanged_line, exchanged_changed, first_of}
-
-take_and_drop : (n : ℕ) (t : Text) → take n t ++ drop n t ≡ t
-take_and_drop n t = take-append-drop n t
+use Rattle.desk_metainf.proofs.Exchanged.{line_cut, exchanged_line, exchanged_changed}
 
 no_bytes : (t : Text) → length t ≤ 0 → t ≡ []
 no_bytes [] h = refl
@@ -32,7 +30,7 @@ bytes_of (Err at) = []
 other_than : (n : ℕ) → is_identifier_byte n ≡ false → (b : ℕ) → is_identifier_byte b ≡ true → not (b == n) ≡ true
 other_than n none b h = not_from_false _ (false_from_ne_true (b == n) (λ e. both_ways (is_identifier_byte n) none (ap is_identifier_byte (sym (eqb-true b n e)) ∙ h)))
 
-blank_apart : (b : ℕ) → is_identifier_byte b ≡ true → is_inked b ≡ true
+blank_apart : (b : ℕ) → is_identifier_byte b ≡ true → not_blank b ≡ true
 blank_apart b h = neither (b == 32) (b == 9) (not-true _ (other_than 32 refl b h)) (not-true _ (other_than 9 refl b h)) where
   neither : (x y : Bool) → x ≡ false → y ≡ false → not (x || y) ≡ true
   neither true y h k = absurd cc
@@ -54,74 +52,73 @@ image_of_names rules is = record {
   again = λ t h. dotted_stay rules is t;
 }
 
--- the lines up to a place are migrated: their bytes, and how many of their names changed
-pub record IsMigratedTo (rules : Rules) (text : Text) (at : ℕ) (bytes : Text) (changed : ℕ) : Type 0 where
-  pub inside : at ≤ length text
-  pub few : changed ≤ at
-  pub bytes_are : bytes ++ joined (on_contents (line_image (dotted rules.renames)) (lines (drop at text))) ≡ joined (on_contents (line_image (dotted rules.renames)) (lines text))
-  pub changed_are : changed + count_changed (dotted rules.renames) (lines (drop at text)) ≡ count_changed (dotted rules.renames) (lines text)
-  pub good : first_bad at (lines (drop at text)) ≡ first_bad 0 (lines text)
-  pub settled : 0 < at → IsRuleSet rules
+-- the lines before the rest of a text are migrated: their bytes, and how many of their names changed
+pub record IsMigratedTo (rules : Rules) (text rest bytes : Text) (changed : ℕ) : Type 0 where
+  pub inside : length rest ≤ length text
+  pub few : changed + length rest ≤ length text
+  pub bytes_are : bytes ++ joined (on_contents (line_image (dotted rules.renames)) (lines rest)) ≡ joined (on_contents (line_image (dotted rules.renames)) (lines text))
+  pub changed_are : changed + count_changed (dotted rules.renames) (lines rest) ≡ count_changed (dotted rules.renames) (lines text)
+  pub good : first_bad (length text - length rest) (lines rest) ≡ first_bad 0 (lines text)
+  pub settled : length rest < length text → IsRuleSet rules
 
-pub migrated_none : (rules : Rules) (text : Text) → IsMigratedTo rules text 0 [] 0
-migrated_none rules text = record { inside = omega arith; few = omega arith; bytes_are = refl; changed_are = omega arith; good = refl; settled = λ h. absurd (omega arith) }
+pub migrated_none : (rules : Rules) (text : Text) → IsMigratedTo rules text text [] 0
+migrated_none rules text =
+    let start : length text - length text ≡ 0 = omega arith in
+    record {
+      inside = omega arith;
+      few = omega arith;
+      bytes_are = refl;
+      changed_are = omega arith;
+      good = ap (λ (n : ℕ). first_bad n (lines text)) start;
+      settled = λ h. absurd (omega arith);
+    }
 
 -- a first line whose provider name is found
-pub record Reads (r : Text) (content next from to : ℕ) : Type 0 where
-  pub first : IsFirstLine r content next
-  pub order : content ≤ next
-  pub within : next ≤ length r
-  pub further : 0 < next
-  pub place : IsProviderPlace (take content r) from to
+pub record Reads (rest content more : Text) (end : LineEnd) (from to : ℕ) : Type 0 where
+  pub same : lines rest ≡ line content end ∷ lines more
+  pub whole : rest ≡ content ++ (end_bytes end ++ more)
+  pub shorter : length more < length rest
+  pub place : IsProviderAt content from to
 
--- the name of a first line, and whether it is bad
-name_in_line : (r : Text) (content next from to : ℕ) → Reads r content next from to → take (to - from) (drop from r) ≡ provider (take content r)
-name_in_line r content next from to reads =
-    let cut = line_cut (take content r) (drop content r) from to reads.place in
-    ap (λ (t : Text). take (to - from) (drop from t)) (sym (take_and_drop content r)) ∙ cut.name_is
+-- whether the name is bad
+bad_is : (content : Text) (from to : ℕ) → IsProviderAt content from to → list_any is_blank (take (to - from) (drop from content)) ≡ is_bad content
+bad_is content from to place = any_blank (take (to - from) (drop from content)) ∙ ap (λ (t : Text). not (list_all not_blank t)) (line_cut content from to place).name_is
 
-pub bad_here : (rules : Rules) (text : Text) (at : ℕ) (bytes : Text) (changed : ℕ) → IsMigratedTo rules text at bytes changed → (content next from to : ℕ) → Reads (drop at text) content next from to
-    → list_all is_inked (take (to - from) (drop from (drop at text))) ≡ false → service rules text ≡ Err at
-bad_here rules text at bytes changed so_far content next from to reads bad =
-    let r = drop at text in
-    let first = first_of r content next reads.first in
-    let is : is_bad (take content r) ≡ true = ap (λ (t : Text). not (list_all is_inked t)) (sym (name_in_line r content next from to reads)) ∙ ap not bad in
-    let here : first_bad at (lines r) ≡ Some at = ap (first_bad at) first.same ∙ ap (λ (b : Bool). cond b (Some at) (first_bad (at + length (take content r ++ end_bytes first.end)) (lines (drop next r)))) is in
+pub bad_here : (rules : Rules) (text rest bytes : Text) (changed : ℕ) → IsMigratedTo rules text rest bytes changed → (content more : Text) (end : LineEnd) (from to : ℕ) → Reads rest content more end from to
+    → list_any is_blank (take (to - from) (drop from content)) ≡ true → service rules text ≡ Err (length text - length rest)
+bad_here rules text rest bytes changed so_far content more end from to reads bad =
+    let at = length text - length rest in
+    let is : is_bad content ≡ true = sym (bad_is content from to reads.place) ∙ bad in
+    let here : first_bad at (lines rest) ≡ Some at = ap (first_bad at) reads.same ∙ ap (λ (b : Bool). cond b (Some at) (first_bad (at + length (content ++ end_bytes end)) (lines more))) is in
     ap (service_by (dotted rules.renames) (lines text)) (sym so_far.good ∙ here)
 
-pub one_line : (rules : Rules) (text : Text) (at : ℕ) (bytes : Text) (changed : ℕ) → IsMigratedTo rules text at bytes changed → (content next from to : ℕ) → Reads (drop at text) content next from to
-    → list_all is_inked (take (to - from) (drop from (drop at text))) ≡ true → IsRuleSet rules → (new : Text) → new ≡ bytes ++ exchanged (dotted rules.renames) from to (take next (drop at text))
-    → (count : ℕ) → count ≡ changed + cond (is_exchanged (dotted rules.renames) from to (take next (drop at text))) 1 0 → IsMigratedTo rules text (at + next) new count
-one_line rules text at bytes changed so_far content next from to reads inked settled new new_is count count_is =
+pub one_line : (rules : Rules) (text rest bytes : Text) (changed : ℕ) → IsMigratedTo rules text rest bytes changed → (content more : Text) (end : LineEnd) (from to : ℕ) → Reads rest content more end from to
+    → list_any is_blank (take (to - from) (drop from content)) ≡ false → IsRuleSet rules → (new : Text) → new ≡ bytes ++ (exchanged (dotted rules.renames) from to content ++ end_bytes end)
+    → (count : ℕ) → count ≡ changed + cond (is_exchanged (dotted rules.renames) from to content) 1 0 → IsMigratedTo rules text more new count
+one_line rules text rest bytes changed so_far content more end from to reads clear settled new new_is count count_is =
     let image = dotted rules.renames in
-    let r = drop at text in
-    let c = take content r in
-    let first = first_of r content next reads.first in
-    let rest : drop next r ≡ drop (at + next) text = drop-drop next at text in
-    let line_is : exchanged image from to (take next r) ≡ line_image image c ++ end_bytes first.end = ap (exchanged image from to) first.whole ∙ exchanged_line image refl c (end_bytes first.end) from to reads.place in
-    let flag_is : is_exchanged image from to (take next r) ≡ is_changed image c = ap (is_exchanged image from to) first.whole ∙ exchanged_changed image refl c (end_bytes first.end) from to reads.place in
-    let good : is_bad c ≡ false = ap (λ (t : Text). not (list_all is_inked t)) (sym (name_in_line r content next from to reads)) ∙ ap not inked in
-    let size : length (c ++ end_bytes first.end) ≡ next = ap length (sym first.whole) ∙ length-take-le next r reads.within in
-    let tail = joined (on_contents (line_image image) (lines (drop next r))) in
+    let at = length text - length rest in
+    let line_is : exchanged image from to content ≡ line_image image content = exchanged_line image refl content from to reads.place in
+    let flag_is : is_exchanged image from to content ≡ is_changed image content = exchanged_changed image refl content from to reads.place in
+    let good : is_bad content ≡ false = sym (bad_is content from to reads.place) ∙ clear in
+    let size : length (content ++ end_bytes end) + length more ≡ length rest =
+    sym (length-append (content ++ end_bytes end) more) ∙ ap length (append_assoc content (end_bytes end) more ∙ sym reads.whole) in
+    let next : at + length (content ++ end_bytes end) ≡ length text - length more = omega (arith, so_far.inside, size) in
+    let tail = joined (on_contents (line_image image) (lines more)) in
     record {
-      inside = omega (arith, so_far.inside, reads.within, length-drop at text);
-      few = omega (arith, so_far.few, reads.further, count_is, at_most_one (is_exchanged image from to (take next r)));
-      bytes_are = ap (λ (t : Text). t ++ joined (on_contents (line_image image) (lines (drop (at + next) text)))) (new_is ∙ ap (λ (t : Text). bytes ++ t) line_is)
-          ∙ ap (λ (t : Text). (bytes ++ (line_image image c ++ end_bytes first.end)) ++ joined (on_contents (line_image image) (lines t))) (sym rest)
-          ∙ append_assoc bytes (line_image image c ++ end_bytes first.end) tail
-          ∙ ap (λ (t : Text). bytes ++ t) (append_assoc (line_image image c) (end_bytes first.end) tail)
-          ∙ ap (λ (ls : List Line). bytes ++ joined (on_contents (line_image image) ls)) (sym first.same)
+      inside = omega (arith, so_far.inside, reads.shorter);
+      few = omega (arith, so_far.few, reads.shorter, count_is, at_most_one (is_exchanged image from to content));
+      bytes_are = ap (λ (t : Text). t ++ tail) (new_is ∙ ap (λ (t : Text). bytes ++ (t ++ end_bytes end)) line_is)
+          ∙ append_assoc bytes (line_image image content ++ end_bytes end) tail
+          ∙ ap (λ (t : Text). bytes ++ t) (append_assoc (line_image image content) (end_bytes end) tail)
+          ∙ ap (λ (ls : List Line). bytes ++ joined (on_contents (line_image image) ls)) (sym reads.same)
           ∙ so_far.bytes_are;
       changed_are =
-          let now : count_changed image (lines r) ≡ cond (is_changed image c) 1 0 + count_changed image (lines (drop (at + next) text)) =
-          ap (count_changed image) first.same ∙ ap (λ (t : Text). cond (is_changed image c) 1 0 + count_changed image (lines t)) rest in
-          let one : count ≡ changed + cond (is_changed image c) 1 0 = count_is ∙ ap (λ (b : Bool). changed + cond b 1 0) flag_is in
-          let all : changed + count_changed image (lines r) ≡ count_changed image (lines text) = so_far.changed_are in
-          sums changed (cond (is_changed image c) 1 0) (count_changed image (lines (drop (at + next) text))) count (count_changed image (lines r)) (count_changed image (lines text)) one now all;
-      good = sym (ap (first_bad at) first.same
-          ∙ ap (λ (b : Bool). cond b (Some at) (first_bad (at + length (c ++ end_bytes first.end)) (lines (drop next r)))) good
-          ∙ ap (λ (n : ℕ). first_bad (at + n) (lines (drop next r))) size
-          ∙ ap (λ (t : Text). first_bad (at + next) (lines t)) rest)
+          let one : count ≡ changed + cond (is_changed image content) 1 0 = count_is ∙ ap (λ (b : Bool). changed + cond b 1 0) flag_is in
+          sums changed (cond (is_changed image content) 1 0) (count_changed image (lines more)) count (count_changed image (lines rest)) (count_changed image (lines text)) one (ap (count_changed image) reads.same) so_far.changed_are;
+      good = sym (ap (first_bad at) reads.same
+          ∙ ap (λ (b : Bool). cond b (Some at) (first_bad (at + length (content ++ end_bytes end)) (lines more))) good
+          ∙ ap (λ (n : ℕ). first_bad n (lines more)) next)
           ∙ so_far.good;
       settled = λ h. settled;
     }
@@ -133,11 +130,10 @@ one_line rules text at bytes changed so_far content next from to reads inked set
     sums : (a b c d e f : ℕ) → d ≡ a + b → e ≡ b + c → a + e ≡ f → d + c ≡ f
     sums a b c d e f h k l = omega arith
 
-pub all_migrated : (rules : Rules) (text : Text) (at : ℕ) (bytes : Text) (changed : ℕ) → IsMigratedTo rules text at bytes changed → length text ≤ at → service rules text ≡ Ok (record { bytes = bytes; changed = changed })
-all_migrated rules text at bytes changed so_far done =
+pub all_migrated : (rules : Rules) (text rest bytes : Text) (changed : ℕ) → IsMigratedTo rules text rest bytes changed → rest ≡ [] → service rules text ≡ Ok (record { bytes = bytes; changed = changed })
+all_migrated rules text rest bytes changed so_far none =
     let image = dotted rules.renames in
-    let none : drop at text ≡ [] = drop_of_length-le text done in
-    let clear : first_bad 0 (lines text) ≡ None = sym so_far.good ∙ ap (λ (t : Text). first_bad at (lines t)) none in
+    let clear : first_bad 0 (lines text) ≡ None = sym so_far.good ∙ ap (λ (t : Text). first_bad (length text - length rest) (lines t)) none in
     let bytes_is : bytes ≡ joined (on_contents (line_image image) (lines text)) =
     sym (append-nil bytes) ∙ ap (λ (t : Text). bytes ++ joined (on_contents (line_image image) (lines t))) (sym none) ∙ so_far.bytes_are in
     let changed_is : changed ≡ count_changed image (lines text) =
@@ -147,12 +143,12 @@ all_migrated rules text at bytes changed so_far done =
     ∙ ap (λ (n : ℕ). Ok (record { bytes = bytes; changed = n })) (sym changed_is)
 
 -- the image of a service file stays
-pub image_stays : (rules : Rules) (text : Text) (at : ℕ) (bytes : Text) (changed : ℕ) → IsMigratedTo rules text at bytes changed → length text ≤ at → ServiceStays rules bytes
-image_stays rules text at bytes changed so_far done = elim (cases_lt 0 at) [
-  | inl some ↦ service-twice (dotted rules.renames) (image_of_names rules (so_far.settled some)) text (record { bytes = bytes; changed = changed }) (all_migrated rules text at bytes changed so_far done)
-  | inr none ↦
+pub image_stays : (rules : Rules) (text rest bytes : Text) (changed : ℕ) → IsMigratedTo rules text rest bytes changed → rest ≡ [] → ServiceStays rules bytes
+image_stays rules text rest bytes changed so_far none = elim (cases_lt 0 (length text)) [
+  | inl some ↦ service-twice (dotted rules.renames) (image_of_names rules (so_far.settled (omega (arith, ap length none)))) text (record { bytes = bytes; changed = changed }) (all_migrated rules text rest bytes changed so_far none)
+  | inr few ↦
       let nothing : text ≡ [] = no_bytes text (omega arith) in
-      let same : Ok (record { bytes = bytes; changed = changed }) ≡ Ok (record { bytes = []; changed = 0 }) = sym (all_migrated rules text at bytes changed so_far done) ∙ ap (service rules) nothing in
+      let same : Ok (record { bytes = bytes; changed = changed }) ≡ Ok (record { bytes = []; changed = 0 }) = sym (all_migrated rules text rest bytes changed so_far none) ∙ ap (service rules) nothing in
       let bytes_is : bytes ≡ [] = ap bytes_of same in
       ap (λ (t : Text). service rules t) bytes_is ∙ ap (λ (t : Text). Ok (record { bytes = t; changed = 0 })) (sym bytes_is)
 ]

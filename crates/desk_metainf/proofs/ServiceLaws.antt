@@ -6,12 +6,16 @@ use Rattle.std.proofs.lemmas.Bool.{and_parts, and_from, not-true, not-false, eqb
 use Rattle.std.proofs.lemmas.List.Folds.{list_all-append}
 use Rattle.std.proofs.lemmas.Slice.Eq.{bytes_eq-Decides}
 use Rattle.desk_base.specs.Names.{Text, is_empty}
-use Rattle.desk_metainf.specs.Lines.{End, unended, lf, cr, crlf, Line, line, end_bytes, joined, lines, is_flat, is_lf, begins_lf, ends_well, is_formed}
-use Rattle.desk_metainf.specs.Cuts.{until, onward, is_blank, is_inked, stripped, back_blanks, front_blanks}
+use Rattle.desk_lines.specs.declared.lines.LineEnd.{LineEnd}
+use Rattle.desk_lines.specs.declared.lines.LineEnd.TheVariants as ends
+use Rattle.desk_lines.specs.Lines.{Line, line, end_bytes, joined, lines, is_one_line, is_lf, begins_lf, ends_well, are_well_ended}
+use Rattle.desk_lines.specs.Cuts.{until, onward, stops}
+use Rattle.desk_lines.specs.Blanks.{is_blank, not_blank, trimmed_end, trailing_blanks, leading_blanks}
 use Rattle.desk_metainf.specs.Services.{is_hash, provider, with_provider, line_image, is_bad, first_bad, is_changed, count_changed, on_contents, migrated, service_by, service_of, is_name_byte, is_provider_name}
 use Rattle.desk_base.specs.declared.Changed.{Changed}
-use Rattle.desk_metainf.proofs.LineLaws.{formed-lines, lines-joined}
-use Rattle.desk_metainf.proofs.Cuts.{stops, fails, until-onward, fails-until, stops-onward, until-append, onward-append, stripped-back, all_blank, stripped-append, back-append, all_weaker}
+use Rattle.desk_lines.proofs.LineLaws.{formed-lines, lines-joined}
+use Rattle.desk_lines.proofs.Cuts.{fails, until-onward, fails-until, stops-onward, until-append, onward-append, all_weaker}
+use Rattle.desk_lines.proofs.Trimming.{trimmed-trailing, all_blank, trimmed_end-append, trailing-append}
 
 abbrev pub built : Text → Text → Text → Text → Text
 built front name back comment = front ++ (name ++ (back ++ comment))
@@ -22,13 +26,13 @@ blank_no_hash b h = elim (or_cases _ _ h) [
   | inr e ↦ ap (λ (n : ℕ). not (n == 35)) (eqb-true b 9 e)
 ]
 
-blank_not_inked : (b : ℕ) → is_blank b ≡ true → not (is_inked b) ≡ true
+blank_not_inked : (b : ℕ) → is_blank b ≡ true → not (not_blank b) ≡ true
 blank_not_inked b h = ap (λ (c : Bool). not (not c)) h
 
-not_not : (b : ℕ) → not (is_inked b) ≡ true → is_blank b ≡ true
+not_not : (b : ℕ) → not (not_blank b) ≡ true → is_blank b ≡ true
 not_not b h = not-false _ (not-true _ h)
 
-name_inked : (b : ℕ) → is_name_byte b ≡ true → is_inked b ≡ true
+name_inked : (b : ℕ) → is_name_byte b ≡ true → not_blank b ≡ true
 name_inked b h = (and_parts _ _ h).0
 
 name_no_hash : (b : ℕ) → is_name_byte b ≡ true → not (is_hash b) ≡ true
@@ -68,28 +72,28 @@ comment_of front name back comment p =
     ap (onward is_hash) (outer front name back comment)
     ∙ onward-append is_hash (front ++ (name ++ back)) comment (before_hash front name back p.front_blank p.named p.back_blank) p.behind
 
-starts_inked : (name more : Text) → is_provider_name name ≡ true → stops is_inked (name ++ more) ≡ true
+starts_inked : (name more : Text) → is_provider_name name ≡ true → stops not_blank (name ++ more) ≡ true
 starts_inked [] more h = absurd cc
 starts_inked (b ∷ name) more h = name_inked b (and_parts _ _ h).0
 
-front_of : (front name back comment : Text) → Parts front name back comment → front_blanks (until is_hash (built front name back comment)) ≡ front
+front_of : (front name back comment : Text) → Parts front name back comment → leading_blanks (until is_hash (built front name back comment)) ≡ front
 front_of front name back comment p =
-    ap front_blanks (code_of front name back comment p)
-    ∙ until-append is_inked front (name ++ back) (all_weaker is_blank (λ b. not (is_inked b)) blank_not_inked front p.front_blank) (starts_inked name back p.named)
+    ap leading_blanks (code_of front name back comment p)
+    ∙ until-append not_blank front (name ++ back) (all_weaker is_blank (λ b. not (not_blank b)) blank_not_inked front p.front_blank) (starts_inked name back p.named)
 
-inner_of : (front name back comment : Text) → Parts front name back comment → onward is_inked (until is_hash (built front name back comment)) ≡ name ++ back
+inner_of : (front name back comment : Text) → Parts front name back comment → onward not_blank (until is_hash (built front name back comment)) ≡ name ++ back
 inner_of front name back comment p =
-    ap (onward is_inked) (code_of front name back comment p)
-    ∙ onward-append is_inked front (name ++ back) (all_weaker is_blank (λ b. not (is_inked b)) blank_not_inked front p.front_blank) (starts_inked name back p.named)
+    ap (onward not_blank) (code_of front name back comment p)
+    ∙ onward-append not_blank front (name ++ back) (all_weaker is_blank (λ b. not (not_blank b)) blank_not_inked front p.front_blank) (starts_inked name back p.named)
 
-all_inked : (name : Text) → is_provider_name name ≡ true → list_all is_inked name ≡ true
-all_inked name h = all_weaker is_name_byte is_inked name_inked name (and_parts _ _ h).1
+all_inked : (name : Text) → is_provider_name name ≡ true → list_all not_blank name ≡ true
+all_inked name h = all_weaker is_name_byte not_blank name_inked name (and_parts _ _ h).1
 
 provider_of : (front name back comment : Text) → Parts front name back comment → provider (built front name back comment) ≡ name
-provider_of front name back comment p = ap stripped (inner_of front name back comment p) ∙ stripped-append name back (all_inked name p.named) p.back_blank
+provider_of front name back comment p = ap trimmed_end (inner_of front name back comment p) ∙ trimmed_end-append name back (all_inked name p.named) p.back_blank
 
-back_of : (front name back comment : Text) → Parts front name back comment → back_blanks (onward is_inked (until is_hash (built front name back comment))) ≡ back
-back_of front name back comment p = ap back_blanks (inner_of front name back comment p) ∙ back-append name back (all_inked name p.named) p.back_blank
+back_of : (front name back comment : Text) → Parts front name back comment → trailing_blanks (onward not_blank (until is_hash (built front name back comment))) ≡ back
+back_of front name back comment p = ap trailing_blanks (inner_of front name back comment p) ∙ trailing-append name back (all_inked name p.named) p.back_blank
 
 exchanged : (front name back comment other : Text) → Parts front name back comment → with_provider other (built front name back comment) ≡ built front other back comment
 exchanged front name back comment other p =
@@ -102,11 +106,11 @@ pub record IsImage (image : Text → Text) : Type 0 where
   pub again : (t : Text) → is_provider_name t ≡ true → image (image t) ≡ image t
 
 -- a content is its parts
-pub parts_joined : (c : Text) → built (front_blanks (until is_hash c)) (provider c) (back_blanks (onward is_inked (until is_hash c))) (onward is_hash c) ≡ c
+pub parts_joined : (c : Text) → built (leading_blanks (until is_hash c)) (provider c) (trailing_blanks (onward not_blank (until is_hash c))) (onward is_hash c) ≡ c
 parts_joined c =
-    outer (front_blanks (until is_hash c)) (provider c) (back_blanks (onward is_inked (until is_hash c))) (onward is_hash c)
-    ∙ ap (λ (t : Text). (front_blanks (until is_hash c) ++ t) ++ onward is_hash c) (stripped-back (onward is_inked (until is_hash c)))
-    ∙ ap (λ (t : Text). t ++ onward is_hash c) (until-onward is_inked (until is_hash c))
+    outer (leading_blanks (until is_hash c)) (provider c) (trailing_blanks (onward not_blank (until is_hash c))) (onward is_hash c)
+    ∙ ap (λ (t : Text). (leading_blanks (until is_hash c) ++ t) ++ onward is_hash c) (trimmed-trailing (onward not_blank (until is_hash c)))
+    ∙ ap (λ (t : Text). t ++ onward is_hash c) (until-onward not_blank (until is_hash c))
     ∙ until-onward is_hash c
 
 all_and : (p q : ℕ → Bool) (t : Text) → list_all p t ≡ true → list_all q t ≡ true → list_all (λ b. p b && q b) t ≡ true
@@ -119,26 +123,26 @@ all_and p q (b ∷ t) h g =
 -- the provider is a part of what stands before `#`
 provider_all : (p : ℕ → Bool) (c : Text) → list_all p (until is_hash c) ≡ true → list_all p (provider c) ≡ true
 provider_all p c h =
-    (all_parts p (provider c) (back_blanks (onward is_inked (until is_hash c)))
-    (ap (list_all p) (stripped-back (onward is_inked (until is_hash c)))
-    ∙ (all_parts p (front_blanks (until is_hash c)) (onward is_inked (until is_hash c)) (ap (list_all p) (until-onward is_inked (until is_hash c)) ∙ h)).1)).0
+    (all_parts p (provider c) (trailing_blanks (onward not_blank (until is_hash c)))
+    (ap (list_all p) (trimmed-trailing (onward not_blank (until is_hash c)))
+    ∙ (all_parts p (leading_blanks (until is_hash c)) (onward not_blank (until is_hash c)) (ap (list_all p) (until-onward not_blank (until is_hash c)) ∙ h)).1)).0
 
 code_all : (p : ℕ → Bool) (c : Text) → list_all p c ≡ true → list_all p (until is_hash c) ≡ true
 code_all p c h = (all_parts p (until is_hash c) (onward is_hash c) (ap (list_all p) (until-onward is_hash c) ∙ h)).0
 
-provider_named : (c : Text) → is_flat c ≡ true → is_bad c ≡ false → is_empty (provider c) ≡ false → is_provider_name (provider c) ≡ true
+provider_named : (c : Text) → is_one_line c ≡ true → is_bad c ≡ false → is_empty (provider c) ≡ false → is_provider_name (provider c) ≡ true
 provider_named c h g e =
     and_from _ _ (ap not e)
-    (all_and is_inked (λ b. not (is_hash b) && (not (b == 10) && not (b == 13))) (provider c) (not-false _ g)
+    (all_and not_blank (λ b. not (is_hash b) && (not (b == 10) && not (b == 13))) (provider c) (not-false _ g)
     (all_and (λ b. not (is_hash b)) (λ b. not (b == 10) && not (b == 13)) (provider c)
     (provider_all (λ b. not (is_hash b)) c (fails-until is_hash c))
     (provider_all (λ b. not (b == 10) && not (b == 13)) c (code_all (λ b. not (b == 10) && not (b == 13)) c h))))
 
-content_parts : (c : Text) (name : Text) → is_provider_name name ≡ true → Parts (front_blanks (until is_hash c)) name (back_blanks (onward is_inked (until is_hash c))) (onward is_hash c)
+content_parts : (c : Text) (name : Text) → is_provider_name name ≡ true → Parts (leading_blanks (until is_hash c)) name (trailing_blanks (onward not_blank (until is_hash c))) (onward is_hash c)
 content_parts c name h = record {
-  front_blank = all_weaker (λ b. not (is_inked b)) is_blank not_not (front_blanks (until is_hash c)) (fails-until is_inked (until is_hash c));
+  front_blank = all_weaker (λ b. not (not_blank b)) is_blank not_not (leading_blanks (until is_hash c)) (fails-until not_blank (until is_hash c));
   named = h;
-  back_blank = all_blank (onward is_inked (until is_hash c));
+  back_blank = all_blank (onward not_blank (until is_hash c));
   behind = stops-onward is_hash c;
 }
 
@@ -149,30 +153,30 @@ built_filled (a ∷ front) name more h = refl
 
 -- what is to be shown of a content and its image
 record Kept (image : Text → Text) (old new : Text) : Type 0 where
-  flat : is_flat new ≡ true
+  flat : is_one_line new ≡ true
   filled : is_empty new ≡ is_empty old
   good : is_bad new ≡ false
   stays : line_image image new ≡ new
   uncounted : is_changed image new ≡ false
 
-kept_named : (image : Text → Text) (c : Text) → IsImage image → is_flat c ≡ true → is_bad c ≡ false → is_empty (provider c) ≡ false → Kept image c (with_provider (image (provider c)) c)
+kept_named : (image : Text → Text) (c : Text) → IsImage image → is_one_line c ≡ true → is_bad c ≡ false → is_empty (provider c) ≡ false → Kept image c (with_provider (image (provider c)) c)
 kept_named image c i h g e =
     let named : is_provider_name (provider c) ≡ true = provider_named c h g e in
     let new : is_provider_name (image (provider c)) ≡ true = i.named (provider c) named in
-    let parts : Parts (front_blanks (until is_hash c)) (image (provider c)) (back_blanks (onward is_inked (until is_hash c))) (onward is_hash c) = content_parts c (image (provider c)) new in
+    let parts : Parts (leading_blanks (until is_hash c)) (image (provider c)) (trailing_blanks (onward not_blank (until is_hash c))) (onward is_hash c) = content_parts c (image (provider c)) new in
     let is : provider (with_provider (image (provider c)) c) ≡ image (provider c) = provider_of _ _ _ _ parts in
     let filled : is_empty (image (provider c)) ≡ false = not-true _ (and_parts _ _ new).0 in
-    let old_flat : is_flat (built (front_blanks (until is_hash c)) (provider c) (back_blanks (onward is_inked (until is_hash c))) (onward is_hash c)) ≡ true = ap is_flat (parts_joined c) ∙ h in
-    let front_flat : _ = all_parts (λ b. not (b == 10) && not (b == 13)) (front_blanks (until is_hash c)) (provider c ++ (back_blanks (onward is_inked (until is_hash c)) ++ onward is_hash c)) old_flat in
-    let more_flat : _ = all_parts (λ b. not (b == 10) && not (b == 13)) (provider c) (back_blanks (onward is_inked (until is_hash c)) ++ onward is_hash c) front_flat.1 in
+    let old_flat : is_one_line (built (leading_blanks (until is_hash c)) (provider c) (trailing_blanks (onward not_blank (until is_hash c))) (onward is_hash c)) ≡ true = ap is_one_line (parts_joined c) ∙ h in
+    let front_flat : _ = all_parts (λ b. not (b == 10) && not (b == 13)) (leading_blanks (until is_hash c)) (provider c ++ (trailing_blanks (onward not_blank (until is_hash c)) ++ onward is_hash c)) old_flat in
+    let more_flat : _ = all_parts (λ b. not (b == 10) && not (b == 13)) (provider c) (trailing_blanks (onward not_blank (until is_hash c)) ++ onward is_hash c) front_flat.1 in
     record {
-      flat = all_both (λ b. not (b == 10) && not (b == 13)) (front_blanks (until is_hash c)) (image (provider c) ++ (back_blanks (onward is_inked (until is_hash c)) ++ onward is_hash c)) front_flat.0
-          (all_both (λ b. not (b == 10) && not (b == 13)) (image (provider c)) (back_blanks (onward is_inked (until is_hash c)) ++ onward is_hash c)
+      flat = all_both (λ b. not (b == 10) && not (b == 13)) (leading_blanks (until is_hash c)) (image (provider c) ++ (trailing_blanks (onward not_blank (until is_hash c)) ++ onward is_hash c)) front_flat.0
+          (all_both (λ b. not (b == 10) && not (b == 13)) (image (provider c)) (trailing_blanks (onward not_blank (until is_hash c)) ++ onward is_hash c)
           (all_weaker is_name_byte (λ b. not (b == 10) && not (b == 13)) name_flat (image (provider c)) (and_parts _ _ new).1) more_flat.1);
-      filled = built_filled (front_blanks (until is_hash c)) (image (provider c)) (back_blanks (onward is_inked (until is_hash c)) ++ onward is_hash c) new
-          ∙ sym (built_filled (front_blanks (until is_hash c)) (provider c) (back_blanks (onward is_inked (until is_hash c)) ++ onward is_hash c) named)
+      filled = built_filled (leading_blanks (until is_hash c)) (image (provider c)) (trailing_blanks (onward not_blank (until is_hash c)) ++ onward is_hash c) new
+          ∙ sym (built_filled (leading_blanks (until is_hash c)) (provider c) (trailing_blanks (onward not_blank (until is_hash c)) ++ onward is_hash c) named)
           ∙ ap is_empty (parts_joined c);
-      good = ap (λ (t : Text). not (list_all is_inked t)) is ∙ ap not (all_inked (image (provider c)) new);
+      good = ap (λ (t : Text). not (list_all not_blank t)) is ∙ ap not (all_inked (image (provider c)) new);
       stays = ap (λ (t : Text). cond (is_empty t) (with_provider (image (provider c)) c) (with_provider (image t) (with_provider (image (provider c)) c))) is
           ∙ ap (λ (t : Bool). cond t (with_provider (image (provider c)) c) (with_provider (image (image (provider c))) (with_provider (image (provider c)) c))) filled
           ∙ ap (λ (t : Text). with_provider t (with_provider (image (provider c)) c)) (i.again (provider c) named)
@@ -182,7 +186,7 @@ kept_named image c i h g e =
           ∙ ap not ((bytes_eq-Decides (image (image (provider c))) (image (provider c))).1 (i.again (provider c) named));
     }
 
-kept : (image : Text → Text) (c : Text) → IsImage image → is_flat c ≡ true → is_bad c ≡ false → Kept image c (line_image image c)
+kept : (image : Text → Text) (c : Text) → IsImage image → is_one_line c ≡ true → is_bad c ≡ false → Kept image c (line_image image c)
 kept image c i h g = elim (is_empty (provider c)) as (λ (t : Bool). is_empty (provider c) ≡ t → Kept image c (cond t c (with_provider (image (provider c)) c))) [
   | true ↦ λ e. record {
     flat = h;
@@ -196,24 +200,24 @@ kept image c i h g = elim (is_empty (provider c)) as (λ (t : Bool). is_empty (p
 
 -- what `image` keeps of each line, whose lines are formed and none bad
 record AllKept (image : Text → Text) (at : ℕ) (ls new : List Line) : Type 0 where
-  formed : is_formed new ≡ true
+  formed : are_well_ended new ≡ true
   starts : begins_lf new ≡ begins_lf ls
   ends : is_empty new ≡ is_empty ls
   good : first_bad at new ≡ None
   stays : on_contents (line_image image) new ≡ new
   uncounted : count_changed image new ≡ 0
 
-ends_kept : (old new : Text) (end : End) (before after : List Line) → is_empty new ≡ is_empty old → begins_lf after ≡ begins_lf before → is_empty after ≡ is_empty before → ends_well old end before ≡ true → ends_well new end after ≡ true
-ends_kept old new unended before after e b n h = ap₂ (λ (x y : Bool). not x && y) e n ∙ h
-ends_kept old new lf before after e b n h = refl
-ends_kept old new cr before after e b n h = ap not b ∙ h
-ends_kept old new crlf before after e b n h = refl
+ends_kept : (old new : Text) (end : LineEnd) (before after : List Line) → is_empty new ≡ is_empty old → begins_lf after ≡ begins_lf before → is_empty after ≡ is_empty before → ends_well old end before ≡ true → ends_well new end after ≡ true
+ends_kept old new ends.EndOfText before after e b n h = ap₂ (λ (x y : Bool). not x && y) e n ∙ h
+ends_kept old new ends.Lf before after e b n h = refl
+ends_kept old new ends.Cr before after e b n h = ap not b ∙ h
+ends_kept old new ends.CrLf before after e b n h = refl
 
 good_parts : (bad : Bool) (at : ℕ) (more : Option ℕ) → cond bad (Some at) more ≡ None → (bad ≡ false) × (more ≡ None)
 good_parts true at more h = absurd cc
 good_parts false at more h = (refl, h)
 
-all_kept : (image : Text → Text) (ls : List Line) (at other : ℕ) → IsImage image → is_formed ls ≡ true → first_bad at ls ≡ None → AllKept image other ls (on_contents (line_image image) ls)
+all_kept : (image : Text → Text) (ls : List Line) (at other : ℕ) → IsImage image → are_well_ended ls ≡ true → first_bad at ls ≡ None → AllKept image other ls (on_contents (line_image image) ls)
 all_kept image [] at other i h g = record { formed = refl; starts = refl; ends = refl; good = refl; stays = refl; uncounted = refl }
 all_kept image (l ∷ ls) at other i h g =
     let here : (is_bad l.content ≡ false) × (first_bad (at + length (l.content ++ end_bytes l.end)) ls ≡ None) = good_parts (is_bad l.content) at (first_bad (at + length (l.content ++ end_bytes l.end)) ls) g in

@@ -1,5 +1,3 @@
-pub mod Lines
-pub mod Cuts
 pub mod Services
 pub mod Reading
 pub mod Faults

@@ -6,8 +6,9 @@ use Rattle.desk_base.specs.Names.{Text, is_empty}
 use Rattle.desk_base.specs.declared.Changed.{Changed}
 use Rattle.desk_rules.specs.Rules.{Rules}
 use Rattle.desk_rules.specs.Images.{dotted}
-use Rattle.desk_metainf.specs.Lines.{Line, line, end_bytes, joined, lines}
-use Rattle.desk_metainf.specs.Cuts.{until, onward, is_inked, back_blanks, front_blanks, trimmed}
+use Rattle.desk_lines.specs.Lines.{Line, line, end_bytes, joined, lines}
+use Rattle.desk_lines.specs.Cuts.{until, onward}
+use Rattle.desk_lines.specs.Blanks.{not_blank, trailing_blanks, leading_blanks, trimmed}
 
 -- `#`, which begins a comment
 abbrev pub is_hash : ℕ → Bool
@@ -20,7 +21,7 @@ provider content = trimmed (until is_hash content)
 -- a line with another provider, and all its other bytes
 abbrev pub with_provider : Text → Text → Text
 with_provider name content =
-    front_blanks (until is_hash content) ++ (name ++ (back_blanks (onward is_inked (until is_hash content)) ++ onward is_hash content))
+    leading_blanks (until is_hash content) ++ (name ++ (trailing_blanks (onward not_blank (until is_hash content)) ++ onward is_hash content))
 
 -- the image of a line, where `image` is that of a provider name
 abbrev pub line_image : (Text → Text) → Text → Text
@@ -28,7 +29,7 @@ line_image image content = cond (is_empty (provider content)) content (with_prov
 
 -- whether the provider name holds a blank
 abbrev pub is_bad : Text → Bool
-is_bad content = not (list_all is_inked (provider content))
+is_bad content = not (list_all not_blank (provider content))
 
 -- where the first line with a bad provider name begins; the lines begin at `at`
 abbrev pub first_bad : ℕ → List Line → Option ℕ
@@ -71,7 +72,7 @@ ServiceStays rules text = service rules text ≡ Ok (record { bytes = text; chan
 
 -- a name that a line can hold: one or more bytes, no blank, `#`, CR or LF
 abbrev pub is_name_byte : ℕ → Bool
-is_name_byte b = is_inked b && (not (is_hash b) && (not (b == 10) && not (b == 13)))
+is_name_byte b = not_blank b && (not (is_hash b) && (not (b == 10) && not (b == 13)))
 
 abbrev pub is_provider_name : Text → Bool
 is_provider_name t = not (is_empty t) && list_all is_name_byte t

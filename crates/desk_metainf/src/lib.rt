@@ -1,11 +1,13 @@
 //! Service files: provider names, one a line, exchanged as dotted names.
+//!
+//! ```text
+//! let image = migrate_service(alloc, &rules, b"javax.servlet.F # first\n")?;
+//! // image.bytes is "jakarta.servlet.F # first\n", and image.changed is 1
+//! ```
 #![tactic(auto)]
 
-mod lines;
 mod providers;
 mod services;
-#[cfg(test)]
-mod tests;
 
 use desk_base::Memory;
 pub use services::migrate_service;

@@ -1,4 +1,12 @@
 //! Names in class files: class names, descriptors and signatures.
+//!
+//! ```text
+//! let mut parts = read_descriptor(b"(Ljavax/sql/D;I)V", Want::Method)?;
+//! parts.next()                             // Part::Other(b"(L")
+//! parts.next()                             // Part::Class(ClassName { package: b"javax/sql", simple: b"D" })
+//! parts.next()                             // Part::Other(b";I)V")
+//! read_descriptor(b"[V", Want::Field)      // None
+//! ```
 #![tactic(auto)]
 
 mod descriptors;
@@ -17,6 +25,3 @@ pub use names::{ClassName, is_dotted, is_identifier, split_class};
 pub use parts::{DescParts, Part, read_descriptor};
 pub use signature_parts::{SigParts, read_signature};
 pub use signatures::Which;
-
-#[cfg(test)]
-mod tests;

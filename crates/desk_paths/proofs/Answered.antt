@@ -4,7 +4,7 @@ use Rattle.std.specs.Prelude.{OnOk}
 use Rattle.desk_base.specs.Names.{Text}
 use Rattle.desk_base.specs.Paths.{is_relative_path}
 use Rattle.desk_base.specs.declared.Memory.{Memory}
-use Rattle.desk_rules.specs.Renames.{Renaming}
+use Rattle.desk_packages.specs.Renames.{Renaming}
 use Rattle.desk_paths.specs.Paths.{renamed_path}
 use Rattle.desk_paths.specs.Kinds.{RenamedStays}
 use Rattle.desk_paths.specs.Walks.{Stay}

@@ -8,11 +8,11 @@ use Rattle.std.proofs.lemmas.List.{append_assoc, take-append-drop, drop-drop, ta
 use Rattle.std.proofs.Math.Seq.{take-add}
 use Rattle.std.proofs.lemmas.List.Splits.{slice_split_at}
 use Rattle.desk_base.specs.Names.{Text, Package, written, front, is_whole, is_empty, is_identifier, same, slash}
-use Rattle.desk_rules.specs.Renames.{Renaming, pkg, is_rename}
+use Rattle.desk_packages.specs.Renames.{Renaming, pkg, is_rename}
 use Rattle.desk_rules.specs.RuleSets.{changing_pick}
 use Rattle.desk_rules.specs.Images.{dotted}
-use Rattle.desk_rules.proofs.Same.{same_is, same_from}
-use Rattle.desk_rules.proofs.Cuts.{none_is, front-push, split_written}
+use Rattle.desk_packages.proofs.Same.{same_is, same_from}
+use Rattle.desk_packages.proofs.Cuts.{none_is, front-push, split_written}
 use Rattle.desk_rename.specs.Images.{package_image}
 use Rattle.desk_rename.proofs.Exchanges.{unchanged, picked_by}
 use Rattle.desk_paths.specs.Paths.{parts, root_count, Cut, cut, path_of, folder_text, is_service, is_class, renamed_path, root_of, rest_of, below}

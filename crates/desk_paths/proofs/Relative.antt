@@ -8,9 +8,9 @@ use Rattle.std.proofs.lemmas.List.{append_assoc, take-append-drop}
 use Rattle.std.proofs.lemmas.List.Folds.{list_all-append}
 use Rattle.desk_base.specs.Names.{Text, written, slash, is_dotted, is_identifier}
 use Rattle.desk_base.specs.Paths.{is_segment, is_relative_path, here}
-use Rattle.desk_rules.specs.Renames.{Renaming}
+use Rattle.desk_packages.specs.Renames.{Renaming}
 use Rattle.desk_rules.specs.Images.{dotted}
-use Rattle.desk_rules.proofs.Cuts.{front_simple}
+use Rattle.desk_packages.proofs.Cuts.{front_simple}
 use Rattle.desk_rules.proofs.DottedBytes.{dotted_filled}
 use Rattle.desk_rules.proofs.Forms.{pkg_all}
 use Rattle.desk_paths.specs.Paths.{parts, folders, root_length, Cut, cut, path_of, is_service, moved, renamed_path}

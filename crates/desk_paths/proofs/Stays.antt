@@ -6,16 +6,17 @@ use Rattle.std.proofs.lemmas.Bool.{cases_Bool, and_parts, and_from, both_ways, f
 use Rattle.std.proofs.lemmas.List.{append_assoc, take_at, drop_at, take-append-drop}
 use Rattle.std.proofs.lemmas.List.Folds.{list_all-append}
 use Rattle.desk_base.specs.Names.{is_whole, Text, Package, same, written, slash, front, simple, is_empty, is_identifier, is_dotted}
-use Rattle.desk_rules.specs.Renames.{Renaming, pkg, pick, renamed_by, in_scope, is_rename}
+use Rattle.desk_packages.specs.Renames.{Renaming, pkg, pick, renamed_by, in_scope, is_rename}
 use Rattle.desk_rules.specs.RuleSets.{DottedKeepForm}
 use Rattle.desk_rules.specs.Images.{dotted}
-use Rattle.desk_rules.proofs.Same.{same_is, same_from, covers_is}
-use Rattle.desk_rules.proofs.Picks.{Found, pick_Some}
-use Rattle.desk_rules.proofs.Cuts.{split_written, front-push, simple-push, front_simple}
-use Rattle.desk_rules.proofs.Bytes.{identifier_part, part_whole, unslashed, unreserved}
+use Rattle.desk_packages.proofs.Same.{same_is, same_from, covers_is}
+use Rattle.desk_packages.proofs.Picks.{Found, pick_Some}
+use Rattle.desk_packages.proofs.Cuts.{split_written, front-push, simple-push, front_simple}
+use Rattle.desk_packages.proofs.Bytes.{identifier_part, part_whole, unslashed, unreserved}
 use Rattle.desk_rules.proofs.DottedBytes.{dotted_bytes}
-use Rattle.desk_rules.proofs.Forms.{all_In, pkg_all}
-use Rattle.desk_rename.proofs.Segments.{split_whole}
+use Rattle.desk_rules.proofs.Forms.{pkg_all}
+use Rattle.desk_packages.proofs.Picks.{all_In}
+use Rattle.desk_packages.proofs.Segments.{split_whole}
 use Rattle.desk_paths.specs.Paths.{parts, folders, file_name, root_count, root_length, Cut, cut, path_of, is_service, is_manifest, moved, renamed_path}
 use Rattle.desk_paths.specs.Walks.{Stay}
 use Rattle.desk_paths.specs.Kinds.{kind_of_cut, kind_of, RenamedStays}

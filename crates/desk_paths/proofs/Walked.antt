@@ -5,7 +5,7 @@ use Rattle.std.proofs.lemmas.List.{append_assoc, take-append-drop, drop-drop, dr
 use Rattle.std.proofs.lemmas.List.Folds.{list_all-append}
 use Rattle.std.proofs.lemmas.List.Splits.{slice_split_at, slice_split_none, join_with_byte-slice_split}
 use Rattle.desk_base.specs.Names.{Text, written, front, is_whole, slash}
-use Rattle.desk_rules.proofs.Cuts.{none_is, front-push, front_simple}
+use Rattle.desk_packages.proofs.Cuts.{none_is, front-push, front_simple}
 use Rattle.desk_paths.specs.Paths.{parts, folders, file_name, ends_root, root_count, root_length, cut, folder_text}
 use Rattle.desk_paths.specs.Walks.{IsStep, IsCutAt}
 use Rattle.desk_paths.specs.declared.places.Walk.{Walk}

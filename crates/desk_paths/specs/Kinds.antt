@@ -1,7 +1,7 @@
 -- Kinds of files by their paths.
 use Rattle.std.specs.Prelude.{◌≡◌, List, if◌then◌else◌}
 use Rattle.desk_base.specs.Names.{Text}
-use Rattle.desk_rules.specs.Renames.{Renaming}
+use Rattle.desk_packages.specs.Renames.{Renaming}
 use Rattle.desk_rules.specs.Rules.{Rules}
 use Rattle.desk_paths.specs.Paths.{Cut, cut, root_of, is_service, is_manifest, is_class, renamed_path, target}
 use Rattle.desk_paths.specs.declared.Kind.{Kind}

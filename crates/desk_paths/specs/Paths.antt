@@ -4,7 +4,7 @@ use Rattle.std.specs.List.{slice_split, list_all, ends_with}
 use Rattle.std.specs.Str.{bytes_eq}
 use Rattle.desk_base.specs.Names.{Text, written, same, slash, front, simple, is_digit, is_empty}
 use Rattle.desk_patterns.specs.Selections.{selects}
-use Rattle.desk_rules.specs.Renames.{Renaming, pkg}
+use Rattle.desk_packages.specs.Renames.{Renaming, pkg}
 use Rattle.desk_rules.specs.Rules.{Rules}
 use Rattle.desk_rules.specs.Images.{dotted}
 

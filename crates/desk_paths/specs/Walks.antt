@@ -3,7 +3,7 @@ use Rattle.std.specs.Prelude.{◌≡◌, ℕ, ◌-◌, ◌≤◌, Bool, not, ◌
 use Rattle.std.specs.List.{ends_with, list_all}
 use Rattle.std.specs.Str.{bytes_eq}
 use Rattle.desk_base.specs.Names.{Text, written, slash, is_empty}
-use Rattle.desk_rules.specs.Renames.{Renaming, is_rename}
+use Rattle.desk_packages.specs.Renames.{Renaming, is_rename}
 use Rattle.desk_rules.specs.RuleSets.{PackagesStay, DottedStay, DottedKeepForm}
 use Rattle.desk_paths.specs.Paths.{cut, folder_text, ends_root}
 use Rattle.desk_paths.specs.declared.Kind.{Kind}

@@ -1,10 +1,15 @@
 //! Paths of files: their class root, their kind, and where they go.
+//!
+//! ```text
+//! let placed = place(b"shop.war/WEB-INF/classes/javax/servlet/F.class");
+//! // placed.root is "shop.war/WEB-INF/classes", placed.rest is "javax/servlet/F.class", placed.kind is Kind::Class
+//! let found = target(alloc, &rules, b"a.jar/META-INF/services/javax.servlet.F")?;
+//! // "a.jar/META-INF/services/jakarta.servlet.F" where javax.servlet becomes jakarta.servlet
+//! ```
 #![tactic(auto)]
 
 mod places;
 mod targets;
-#[cfg(test)]
-mod tests;
 
 pub use places::{Placed, place};
 pub use targets::{renamed_path, target};

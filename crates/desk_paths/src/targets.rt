@@ -18,10 +18,10 @@ use std::alloc::Global;
 /// image, and what stands behind it.
 fn with_package(
     alloc: Global,
+    rules: &RuleSet,
     root: &[u8],
     folder: &[u8],
     behind: &[u8],
-    rules: &RuleSet,
 ) -> Result<Text, Memory>
     ensures found { IfOk result (λ found. found ≡ (root.now ++ package_image rules.now.renames folder.now) ++ behind.now) }
     ensures stay { OnOk result (Stay rules.now.renames) }
@@ -33,7 +33,7 @@ fn with_package(
 }
 
 /// The path of a file in these folders whose name is exchanged as a dotted name.
-fn with_name(alloc: Global, folders: &[u8], file: &[u8], rules: &RuleSet) -> Result<Text, Memory>
+fn with_name(alloc: Global, rules: &RuleSet, folders: &[u8], file: &[u8]) -> Result<Text, Memory>
     ensures found { IfOk result (λ found. found ≡ folders.now ++ dotted rules.now.renames file.now) }
     ensures stay { OnOk result (Stay rules.now.renames) }
 {
@@ -58,7 +58,7 @@ fn package_end(path: &[u8], rest_at: usize, file_at: usize) -> usize
 /// and any other path with the folder behind its class root exchanged as a package. The target of a
 /// target is itself, with its path's class root and kind; and the target of a relative path is a
 /// relative path. The only error is want of memory.
-pub fn renamed_path(alloc: Global, path: &[u8], rules: &RuleSet) -> Result<Text, Memory>
+pub fn renamed_path(alloc: Global, rules: &RuleSet, path: &[u8]) -> Result<Text, Memory>
     ensures target { IfOk result (λ found. found ≡ renamed_path rules.now.renames path.now) }
     ensures stays { IfOk result (λ _. RenamedStays rules.now.renames path.now) }
     ensures relative { IfOk result (λ found.
@@ -66,15 +66,15 @@ pub fn renamed_path(alloc: Global, path: &[u8], rules: &RuleSet) -> Result<Text,
 {
     let walk = walk_over(path);
     if is_service_file(&path[walk.rest_at..walk.file_at], &path[walk.file_at..]) {
-        with_name(alloc, &path[..walk.file_at], &path[walk.file_at..], rules)
+        with_name(alloc, rules, &path[..walk.file_at], &path[walk.file_at..])
     } else {
         let end = package_end(path, walk.rest_at, walk.file_at);
         with_package(
             alloc,
+            rules,
             &path[..walk.rest_at],
             &path[walk.rest_at..end],
             &path[end..],
-            rules,
         )
     }
 }
@@ -82,14 +82,14 @@ pub fn renamed_path(alloc: Global, path: &[u8], rules: &RuleSet) -> Result<Text,
 /// Where a file goes: a selected file as `renamed_path` says, and an unselected one keeps its path. The
 /// target of a target is itself, with its path's class root and kind; and the target of a relative
 /// path is a relative path. The only error is want of memory.
-pub fn target(alloc: Global, path: &[u8], rules: &RuleSet) -> Result<Text, Memory>
+pub fn target(alloc: Global, rules: &RuleSet, path: &[u8]) -> Result<Text, Memory>
     ensures target { IfOk result (λ found. found ≡ target rules.now path.now) }
     ensures stays { IfOk result (λ _. TargetStays rules.now path.now) }
     ensures relative { IfOk result (λ found.
         IsTrue (is_relative_path path.now) → IsTrue (is_relative_path found)) }
 {
     if rules.selected(path) {
-        renamed_path(alloc, path, rules)
+        renamed_path(alloc, rules, path)
     } else {
         Text::from_bytes(alloc, path)
     }

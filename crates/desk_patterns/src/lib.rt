@@ -1,4 +1,9 @@
 //! Patterns of paths, selections of paths by patterns, and rules that exchange texts in the files at such paths.
+//!
+//! ```text
+//! fits(b"*.xml", b"WEB-INF/web.xml"); // true: `*` stands for any bytes, `/` included
+//! fits(b"*.xml", b"WEB-INF/web.xml.bak"); // false: a pattern fits the whole path
+//! ```
 #![tactic(auto)]
 
 mod pattern_texts;
@@ -10,6 +15,3 @@ pub use pattern_texts::PatternTexts;
 pub use patterns::fits;
 pub use selections::Selection;
 pub use text_rules::{TextHit, TextRules};
-
-#[cfg(test)]
-mod tests;

@@ -1,3 +1,4 @@
 mod Indices
 mod Steps
 mod Advance
+pub mod Begins

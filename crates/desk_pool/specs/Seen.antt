@@ -6,7 +6,7 @@ use Rattle.desk_base.specs.declared.faults.ReadFault.{ReadFault}
 use Rattle.desk_base.specs.declared.faults.ReadFault.TheVariants as read_faults
 use Rattle.desk_base.specs.declared.kinds.Used.{Used}
 use Rattle.desk_base.specs.Entries.{Pool, Entry, utf8, integer, float, long, double, class, string, fieldref, methodref, interface_methodref, name_and_type, method_handle, method_type, dynamic, invoke_dynamic, module_named, package_named}
-use Rattle.desk_base.specs.Targets.{Link, link}
+use Rattle.desk_base.specs.Referents.{Link, link}
 use Rattle.desk_format.specs.PoolReading.{Got, got, Check, names_wrong, leads_wrong}
 use Rattle.desk_pool.specs.declared.constant.Constant.{Constant}
 use Rattle.desk_pool.specs.declared.constant.Constant.TheVariants as constants
@@ -39,7 +39,7 @@ pub record ReadPool : Type 0 where
 -- ---- what is kept
 
 abbrev pub entry_of : Constant → Entry
-entry_of (constants.Utf8 t) = utf8 t.now
+entry_of (constants.Utf8 t) = utf8 t.bytes.now
 entry_of (constants.Integer b) = integer b.now
 entry_of (constants.Float b) = float b.now
 entry_of (constants.Long b) = long b.now
@@ -72,7 +72,7 @@ before slots (Err f) = Err f
 -- ---- indices of an entry
 
 abbrev pub link_of : CodeLink → Link
-link_of l = link l.behind l.target l.index
+link_of l = link l.behind l.referent l.index
 
 abbrev pub listed : Option CodeLink → List Link
 listed None = []

@@ -5,13 +5,14 @@ ghost use Rattle.desk_base.specs.Entries.{tag_of, is_wide};
 ghost use Rattle.desk_format.specs.PoolReading.{item, number_read, text_read, kind_read, body, tag_numbered, entry_read};
 ghost use Rattle.desk_pool.specs.Seen.{entry_of, Reads};
 
+use crate::texts::PoolText;
 use desk_base::{Cursor, FaultKind, Malformed, Tag, check_utf8};
 
 /// An entry, whose texts and numbers lie in the class: the bytes of a text or a number, indices of other entries, the kind
 /// of a method handle, the number of a bootstrap method.
-#[derive(Clone, Copy, Debug, PartialEq, Eq)]
+#[derive(Clone, Copy)]
 pub enum Constant<'a> {
-    Utf8(&'a [u8]),
+    Utf8(PoolText<'a>),
     Integer(&'a [u8]),
     Float(&'a [u8]),
     Long(&'a [u8]),
@@ -42,11 +43,7 @@ fn read_bytes<'a>(n: u32, cursor: &mut Cursor<'a>) -> Result<&'a [u8], Malformed
     ensures ahead { cursor.old.at ≤ cursor.new.at }
     ensures end { cursor.new.at + length cursor.new.left ≡ cursor.old.at + length cursor.old.left }
 {
-    let at = cursor.at();
-    match cursor.take(n) {
-        Ok(bytes) => Ok(bytes),
-        Err(_) => fault(FaultKind::Truncated, at),
-    }
+    Ok(cursor.take(n)?)
 }
 
 /// A two-byte number.
@@ -55,11 +52,7 @@ pub fn read_number(cursor: &mut Cursor<'_>) -> Result<u16, Malformed>
     ensures ahead { cursor.old.at ≤ cursor.new.at }
     ensures end { cursor.new.at + length cursor.new.left ≡ cursor.old.at + length cursor.old.left }
 {
-    let at = cursor.at();
-    match cursor.u2() {
-        Ok(number) => Ok(number),
-        Err(_) => fault(FaultKind::Truncated, at),
-    }
+    Ok(cursor.u2()?)
 }
 
 /// A text behind its length.
@@ -84,15 +77,11 @@ fn read_kind(cursor: &mut Cursor<'_>) -> Result<u8, Malformed>
     ensures end { cursor.new.at + length cursor.new.left ≡ cursor.old.at + length cursor.old.left }
 {
     let at = cursor.at();
-    match cursor.u1() {
-        Ok(kind) => {
-            if kind == 0 || kind > 9 {
-                fault(FaultKind::RefKind, at)
-            } else {
-                Ok(kind)
-            }
-        }
-        Err(_) => fault(FaultKind::Truncated, at),
+    let kind = cursor.u1()?;
+    if kind == 0 || kind > 9 {
+        fault(FaultKind::RefKind, at)
+    } else {
+        Ok(kind)
     }
 }
 
@@ -104,7 +93,7 @@ fn read_body<'a>(tag: Tag, cursor: &mut Cursor<'a>) -> Result<Constant<'a>, Malf
     ensures end { cursor.new.at + length cursor.new.left ≡ cursor.old.at + length cursor.old.left }
 {
     match tag {
-        Tag::Utf8 => Ok(Constant::Utf8(read_text(cursor)?)),
+        Tag::Utf8 => Ok(Constant::Utf8(PoolText::new(read_text(cursor)?))),
         Tag::Integer => Ok(Constant::Integer(read_bytes(4, cursor)?)),
         Tag::Float => Ok(Constant::Float(read_bytes(4, cursor)?)),
         Tag::Long => Ok(Constant::Long(read_bytes(8, cursor)?)),
@@ -199,17 +188,15 @@ pub fn read_entry<'a>(later: u16, cursor: &mut Cursor<'a>) -> Result<Constant<'a
     ensures end { cursor.new.at + length cursor.new.left ≡ cursor.old.at + length cursor.old.left }
 {
     let at = cursor.at();
-    match cursor.u1() {
-        Err(_) => fault(FaultKind::Truncated, at),
-        Ok(number) => match tag_numbered(number) {
-            None => fault(FaultKind::Tag, at),
-            Some(tag) => {
-                if later == 0 && is_wide(tag) {
-                    fault(FaultKind::PoolCount, at)
-                } else {
-                    read_body(tag, cursor)
-                }
+    let number = cursor.u1()?;
+    match tag_numbered(number) {
+        None => fault(FaultKind::Tag, at),
+        Some(tag) => {
+            if later == 0 && is_wide(tag) {
+                fault(FaultKind::PoolCount, at)
+            } else {
+                read_body(tag, cursor)
             }
-        },
+        }
     }
 }

@@ -1,22 +1,22 @@
 //! The indices that stand in an entry (JVMS 4.4.1 to 4.4.12).
 
 ghost use Rattle.std.specs.Prelude.{◌≡◌, [], ◌∷◌};
-ghost use Rattle.desk_base.specs.Targets.{link, links, handled};
+ghost use Rattle.desk_base.specs.Referents.{link, links, handled};
 ghost use Rattle.desk_pool.specs.Seen.{entry_of, links_in};
 
 use crate::constant::Constant;
-use desk_base::{Choice, Form, Role, Tag, Target};
+use desk_base::{Choice, Form, Referent, Role, Tag};
 
 /// An index of an entry: how many bytes behind the tag it stands, what it must name, and its value.
-#[derive(Clone, Copy, Debug, PartialEq, Eq)]
+#[derive(Clone, Copy)]
 pub struct Link {
     pub behind: u8,
-    pub target: Target,
+    pub referent: Referent,
     pub index: u16,
 }
 
 /// The indices of an entry, of which there are at most two, by place.
-#[derive(Clone, Copy, Debug, PartialEq, Eq)]
+#[derive(Clone, Copy)]
 pub struct Links {
     pub first: Option<Link>,
     pub second: Option<Link>,
@@ -34,13 +34,13 @@ impl Links {
     }
 
     /// One index, so many bytes behind the tag.
-    fn one(behind: u8, target: Target, index: u16) -> Links
-        ensures { links_in result ≡ link behind target index ∷ [] }
+    fn one(behind: u8, referent: Referent, index: u16) -> Links
+        ensures { links_in result ≡ link behind referent index ∷ [] }
     {
         Links {
             first: Some(Link {
                 behind,
-                target,
+                referent,
                 index,
             }),
             second: None,
@@ -48,18 +48,18 @@ impl Links {
     }
 
     /// Two indices, of which the first stands behind the tag, and the second behind the first.
-    fn two(first: (Target, u16), second: (Target, u16)) -> Links
+    fn two(first: (Referent, u16), second: (Referent, u16)) -> Links
         ensures { links_in result ≡ link 1 first.0 first.1 ∷ link 3 second.0 second.1 ∷ [] }
     {
         Links {
             first: Some(Link {
                 behind: 1,
-                target: first.0,
+                referent: first.0,
                 index: first.1,
             }),
             second: Some(Link {
                 behind: 3,
-                target: second.0,
+                referent: second.0,
                 index: second.1,
             }),
         }
@@ -67,17 +67,17 @@ impl Links {
 }
 
 /// Which member a method handle of a kind must name (JVMS 4.4.8).
-fn handled(kind: u8) -> Target
+fn handled(kind: u8) -> Referent
     ensures { result ≡ handled kind }
 {
     if kind < 5 {
-        Target::Entry(Choice::Only(Tag::Fieldref))
+        Referent::Entry(Choice::Only(Tag::Fieldref))
     } else if kind == 5 || kind == 8 {
-        Target::Entry(Choice::Only(Tag::Methodref))
+        Referent::Entry(Choice::Only(Tag::Methodref))
     } else if kind == 9 {
-        Target::Entry(Choice::Only(Tag::InterfaceMethodref))
+        Referent::Entry(Choice::Only(Tag::InterfaceMethodref))
     } else {
-        Target::Entry(Choice::AnyMethod)
+        Referent::Entry(Choice::AnyMethod)
     }
 }
 
@@ -87,37 +87,41 @@ pub fn links_of(constant: &Constant<'_>) -> Links
 {
     match *constant {
         Constant::Class(name) => {
-            Links::one(1, Target::Text(Role::Class, Form::ClassOrArray), name)
+            Links::one(1, Referent::Text(Role::Class, Form::ClassOrArray), name)
         }
-        Constant::String(text) => Links::one(1, Target::Text(Role::Str, Form::Any), text),
+        Constant::String(text) => Links::one(1, Referent::Text(Role::Str, Form::Any), text),
         Constant::Fieldref(class, named) => Links::two(
-            (Target::Class(Form::Any), class),
-            (Target::NameAndType(Form::Field), named),
+            (Referent::Class(Form::Any), class),
+            (Referent::NameAndType(Form::Field), named),
         ),
         Constant::Methodref(class, named) | Constant::InterfaceMethodref(class, named) => {
             Links::two(
-                (Target::Class(Form::Any), class),
-                (Target::NameAndType(Form::Method), named),
+                (Referent::Class(Form::Any), class),
+                (Referent::NameAndType(Form::Method), named),
             )
         }
         Constant::NameAndType(name, descriptor) => Links::two(
-            (Target::Text(Role::Plain, Form::Any), name),
+            (Referent::Text(Role::Plain, Form::Any), name),
             (
-                Target::Text(Role::Descriptor, Form::FieldOrMethod),
+                Referent::Text(Role::Descriptor, Form::FieldOrMethod),
                 descriptor,
             ),
         ),
         Constant::MethodHandle(kind, member) => Links::one(2, handled(kind), member),
         Constant::MethodType(descriptor) => {
-            Links::one(1, Target::Text(Role::Descriptor, Form::Method), descriptor)
+            Links::one(
+                1,
+                Referent::Text(Role::Descriptor, Form::Method),
+                descriptor,
+            )
         }
-        Constant::Dynamic(_, named) => Links::one(3, Target::NameAndType(Form::Field), named),
+        Constant::Dynamic(_, named) => Links::one(3, Referent::NameAndType(Form::Field), named),
         Constant::InvokeDynamic(_, named) => {
-            Links::one(3, Target::NameAndType(Form::Method), named)
+            Links::one(3, Referent::NameAndType(Form::Method), named)
         }
-        Constant::Module(name) => Links::one(1, Target::Text(Role::Module, Form::Any), name),
+        Constant::Module(name) => Links::one(1, Referent::Text(Role::Module, Form::Any), name),
         Constant::Package(name) => {
-            Links::one(1, Target::Text(Role::Package, Form::ClassName), name)
+            Links::one(1, Referent::Text(Role::Package, Form::ClassName), name)
         }
         Constant::Utf8(_)
         | Constant::Integer(_)

@@ -1,15 +1,14 @@
 //! What an index names, and what it must name.
 
 ghost use Rattle.std.specs.Prelude.{◌≡◌, ◌&&◌, option_map, option_copied};
-ghost use Rattle.desk_base.specs.Descriptors.{DescriptorKind, is_descriptor};
 ghost use Rattle.desk_base.specs.Entries.{number_of, entry_at, tag_at, utf8_at, text_at, class_name_at, descriptor_at};
-ghost use Rattle.desk_base.specs.Targets.{begins_array, has_form, is_tag, is_chosen, allows, form_of, text_led_to, target_of, may_be_none};
+ghost use Rattle.desk_base.specs.Referents.{begins_array, has_form, is_tag, is_chosen, allows, form_of, text_led_to, referent_of, may_be_none};
 ghost use Rattle.desk_base.specs.Misfits.{form_fault, wrong_entry, wrong_text, misfit_of, misfit};
 ghost use Rattle.desk_pool.specs.Seen.{entry_of, seen};
 
 use crate::constant::Constant;
-use desk_base::{Choice, FaultKind, Form, Role, Tag, Target, UseKind};
-use desk_names::{Want, read_descriptor, split_class};
+use crate::texts::PoolText;
+use desk_base::{Choice, FaultKind, Form, Referent, Role, Tag, UseKind};
 
 /// The entry that an index names.
 pub fn constant_at<'a>(slots: &[Option<Constant<'a>>], index: u16) -> Option<Constant<'a>>
@@ -39,38 +38,38 @@ pub fn utf8_at<'a>(slots: &[Option<Constant<'a>>], index: u16) -> Option<&'a [u8
     ensures { option_copied result ≡ utf8_at (seen slots.now) index }
 {
     match constant_at(slots, index) {
-        Some(Constant::Utf8(text)) => Some(text),
+        Some(Constant::Utf8(text)) => Some(text.bytes),
         _ => None,
     }
 }
 
 /// The same, or the empty text.
-fn text_at<'a>(slots: &[Option<Constant<'a>>], index: u16) -> &'a [u8]
-    ensures { result.now ≡ text_at (seen slots.now) index }
+fn text_at<'a>(slots: &[Option<Constant<'a>>], index: u16) -> PoolText<'a>
+    ensures { result.bytes.now ≡ text_at (seen slots.now) index }
 {
     match constant_at(slots, index) {
         Some(Constant::Utf8(text)) => text,
-        _ => &[],
+        _ => PoolText::new(&[]),
     }
 }
 
 /// The text that the Class at an index leads to, or the empty text.
-pub fn class_name_at<'a>(slots: &[Option<Constant<'a>>], index: u16) -> &'a [u8]
-    ensures { result.now ≡ class_name_at (seen slots.now) index }
+pub fn class_name_at<'a>(slots: &[Option<Constant<'a>>], index: u16) -> PoolText<'a>
+    ensures { result.bytes.now ≡ class_name_at (seen slots.now) index }
 {
     match constant_at(slots, index) {
         Some(Constant::Class(name)) => text_at(slots, name),
-        _ => &[],
+        _ => PoolText::new(&[]),
     }
 }
 
 /// The descriptor that the NameAndType at an index leads to, or the empty text.
-fn descriptor_at<'a>(slots: &[Option<Constant<'a>>], index: u16) -> &'a [u8]
-    ensures { result.now ≡ descriptor_at (seen slots.now) index }
+fn descriptor_at<'a>(slots: &[Option<Constant<'a>>], index: u16) -> PoolText<'a>
+    ensures { result.bytes.now ≡ descriptor_at (seen slots.now) index }
 {
     match constant_at(slots, index) {
         Some(Constant::NameAndType(_, descriptor)) => text_at(slots, descriptor),
-        _ => &[],
+        _ => PoolText::new(&[]),
     }
 }
 
@@ -132,63 +131,37 @@ fn is_chosen(choice: Choice, tag: Tag) -> bool
     }
 }
 
-/// Whether an entry of a tag is what a target asks for.
-fn allows(target: Target, tag: Tag) -> bool
-    ensures { result ≡ allows target tag }
+/// Whether an entry of a tag is what a referent asks for.
+fn allows(referent: Referent, tag: Tag) -> bool
+    ensures { result ≡ allows referent tag }
 {
-    match target {
-        Target::Text(_, _) => is_tag(Tag::Utf8, tag),
-        Target::Class(_) => is_tag(Tag::Class, tag),
-        Target::NameAndType(_) => is_tag(Tag::NameAndType, tag),
-        Target::Entry(choice) => is_chosen(choice, tag),
+    match referent {
+        Referent::Text(_, _) => is_tag(Tag::Utf8, tag),
+        Referent::Class(_) => is_tag(Tag::Class, tag),
+        Referent::NameAndType(_) => is_tag(Tag::NameAndType, tag),
+        Referent::Entry(choice) => is_chosen(choice, tag),
     }
 }
 
-/// Whether a text has a form.
-#[tactic(auto, unfolding(desk_base::specs::Targets::has_form))]
-fn has_form(form: Form, text: &[u8]) -> bool
-    ensures { result ≡ has_form form text.now }
+/// The form that a referent asks of the text that it leads to.
+fn form_of(referent: Referent) -> Form
+    ensures { result ≡ form_of referent }
 {
-    match form {
-        Form::Any => true,
-        Form::ClassName => split_class(text).is_some(),
-        Form::ClassOrArray => split_class(text).is_some() || is_array(text),
-        Form::Field => read_descriptor(text, Want::Field).is_some(),
-        Form::Method => read_descriptor(text, Want::Method).is_some(),
-        Form::FieldOrMethod => {
-            read_descriptor(text, Want::Field).is_some()
-                || read_descriptor(text, Want::Method).is_some()
-        }
-        Form::Return => read_descriptor(text, Want::Return).is_some(),
-    }
-}
-
-/// Whether a text is a field descriptor that begins with `[`.
-fn is_array(text: &[u8]) -> bool
-    ensures { result ≡ (begins_array text.now && is_descriptor DescriptorKind.field text.now) }
-{
-    text.first() == Some(&b'[') && read_descriptor(text, Want::Field).is_some()
-}
-
-/// The form that a target asks of the text that it leads to.
-fn form_of(target: Target) -> Form
-    ensures { result ≡ form_of target }
-{
-    match target {
-        Target::Text(_, form) | Target::Class(form) | Target::NameAndType(form) => form,
-        Target::Entry(_) => Form::Any,
+    match referent {
+        Referent::Text(_, form) | Referent::Class(form) | Referent::NameAndType(form) => form,
+        Referent::Entry(_) => Form::Any,
     }
 }
 
 /// The text that has this form.
-fn text_led_to<'a>(slots: &[Option<Constant<'a>>], target: Target, index: u16) -> &'a [u8]
-    ensures { result.now ≡ text_led_to target (seen slots.now) index }
+fn text_led_to<'a>(slots: &[Option<Constant<'a>>], referent: Referent, index: u16) -> PoolText<'a>
+    ensures { result.bytes.now ≡ text_led_to referent (seen slots.now) index }
 {
-    match target {
-        Target::Text(_, _) => text_at(slots, index),
-        Target::Class(_) => class_name_at(slots, index),
-        Target::NameAndType(_) => descriptor_at(slots, index),
-        Target::Entry(_) => &[],
+    match referent {
+        Referent::Text(_, _) => text_at(slots, index),
+        Referent::Class(_) => class_name_at(slots, index),
+        Referent::NameAndType(_) => descriptor_at(slots, index),
+        Referent::Entry(_) => PoolText::new(&[]),
     }
 }
 
@@ -202,13 +175,17 @@ fn form_fault(form: Form) -> FaultKind
     }
 }
 
-/// Index where an index names no entry that the target asks for.
-pub fn wrong_entry(slots: &[Option<Constant<'_>>], target: Target, index: u16) -> Option<FaultKind>
-    ensures { result ≡ wrong_entry (seen slots.now) target index }
+/// Index where an index names no entry that the referent asks for.
+pub fn wrong_entry(
+    slots: &[Option<Constant<'_>>],
+    referent: Referent,
+    index: u16,
+) -> Option<FaultKind>
+    ensures { result ≡ wrong_entry (seen slots.now) referent index }
 {
     match tag_at(slots, index) {
         Some(tag) => {
-            if allows(target, tag) {
+            if allows(referent, tag) {
                 None
             } else {
                 Some(FaultKind::Index)
@@ -219,11 +196,15 @@ pub fn wrong_entry(slots: &[Option<Constant<'_>>], target: Target, index: u16) -
 }
 
 /// ClassName or Descriptor where an index leads to a text without its form.
-pub fn wrong_text(slots: &[Option<Constant<'_>>], target: Target, index: u16) -> Option<FaultKind>
-    ensures { result ≡ wrong_text (seen slots.now) target index }
+pub fn wrong_text(
+    slots: &[Option<Constant<'_>>],
+    referent: Referent,
+    index: u16,
+) -> Option<FaultKind>
+    ensures { result ≡ wrong_text (seen slots.now) referent index }
 {
-    let form = form_of(target);
-    if has_form(form, text_led_to(slots, target, index)) {
+    let form = form_of(referent);
+    if text_led_to(slots, referent, index).has_form(form) {
         None
     } else {
         Some(form_fault(form))
@@ -231,31 +212,31 @@ pub fn wrong_text(slots: &[Option<Constant<'_>>], target: Target, index: u16) ->
 }
 
 /// What an index of a use kind must name.
-fn target_of(kind: UseKind) -> Target
-    ensures { result ≡ target_of kind }
+fn referent_of(kind: UseKind) -> Referent
+    ensures { result ≡ referent_of kind }
 {
     match kind {
-        UseKind::Plain | UseKind::PlainOrNone => Target::Text(Role::Plain, Form::Any),
-        UseKind::AttrName => Target::Text(Role::AttrName, Form::Any),
-        UseKind::FieldDescriptor => Target::Text(Role::Descriptor, Form::Field),
-        UseKind::MethodDescriptor => Target::Text(Role::Descriptor, Form::Method),
-        UseKind::ReturnDescriptor => Target::Text(Role::Descriptor, Form::Return),
-        UseKind::ClassSig => Target::Text(Role::ClassSig, Form::Any),
-        UseKind::MethodSig => Target::Text(Role::MethodSig, Form::Any),
-        UseKind::FieldSig => Target::Text(Role::FieldSig, Form::Any),
-        UseKind::Str => Target::Text(Role::Str, Form::Any),
-        UseKind::ClassName | UseKind::ClassNameOrNone => Target::Class(Form::ClassName),
-        UseKind::Class | UseKind::ClassOrNone => Target::Class(Form::Any),
-        UseKind::NameAndTypeOrNone => Target::NameAndType(Form::Any),
-        UseKind::Module => Target::Entry(Choice::Only(Tag::Module)),
-        UseKind::Package => Target::Entry(Choice::Only(Tag::Package)),
-        UseKind::Constant => Target::Entry(Choice::Constant),
-        UseKind::Integer => Target::Entry(Choice::Only(Tag::Integer)),
-        UseKind::Float => Target::Entry(Choice::Only(Tag::Float)),
-        UseKind::Long => Target::Entry(Choice::Only(Tag::Long)),
-        UseKind::Double => Target::Entry(Choice::Only(Tag::Double)),
-        UseKind::Loadable => Target::Entry(Choice::Loadable),
-        UseKind::MethodHandle => Target::Entry(Choice::Only(Tag::MethodHandle)),
+        UseKind::Plain | UseKind::PlainOrNone => Referent::Text(Role::Plain, Form::Any),
+        UseKind::AttrName => Referent::Text(Role::AttrName, Form::Any),
+        UseKind::FieldDescriptor => Referent::Text(Role::Descriptor, Form::Field),
+        UseKind::MethodDescriptor => Referent::Text(Role::Descriptor, Form::Method),
+        UseKind::ReturnDescriptor => Referent::Text(Role::Descriptor, Form::Return),
+        UseKind::ClassSig => Referent::Text(Role::ClassSig, Form::Any),
+        UseKind::MethodSig => Referent::Text(Role::MethodSig, Form::Any),
+        UseKind::FieldSig => Referent::Text(Role::FieldSig, Form::Any),
+        UseKind::Str => Referent::Text(Role::Str, Form::Any),
+        UseKind::ClassName | UseKind::ClassNameOrNone => Referent::Class(Form::ClassName),
+        UseKind::Class | UseKind::ClassOrNone => Referent::Class(Form::Any),
+        UseKind::NameAndTypeOrNone => Referent::NameAndType(Form::Any),
+        UseKind::Module => Referent::Entry(Choice::Only(Tag::Module)),
+        UseKind::Package => Referent::Entry(Choice::Only(Tag::Package)),
+        UseKind::Constant => Referent::Entry(Choice::Constant),
+        UseKind::Integer => Referent::Entry(Choice::Only(Tag::Integer)),
+        UseKind::Float => Referent::Entry(Choice::Only(Tag::Float)),
+        UseKind::Long => Referent::Entry(Choice::Only(Tag::Long)),
+        UseKind::Double => Referent::Entry(Choice::Only(Tag::Double)),
+        UseKind::Loadable => Referent::Entry(Choice::Loadable),
+        UseKind::MethodHandle => Referent::Entry(Choice::Only(Tag::MethodHandle)),
     }
 }
 
@@ -280,9 +261,9 @@ pub fn misfit(slots: &[Option<Constant<'_>>], kind: UseKind, index: u16) -> Opti
     if may_be_none(kind) && index == 0 {
         return None;
     }
-    let target = target_of(kind);
-    match wrong_entry(slots, target, index) {
+    let referent = referent_of(kind);
+    match wrong_entry(slots, referent, index) {
         Some(fault) => Some(fault),
-        None => wrong_text(slots, target, index),
+        None => wrong_text(slots, referent, index),
     }
 }

@@ -1,7 +1,8 @@
 //! The second and third pass over a pool: each index names an entry of a fitting tag, and leads to a text of its form.
 
 ghost use Rattle.std.specs.Prelude.{◌≡◌, ◌+◌, ◌≤◌, length};
-ghost use Rattle.desk_base.specs.Targets.{links};
+ghost use Rattle.desk_base.specs.Limits.{file_size};
+ghost use Rattle.desk_base.specs.Referents.{links};
 ghost use Rattle.desk_format.specs.PoolBytes.{size, print_slots};
 ghost use Rattle.desk_format.specs.PoolReading.{first_among, first_fault};
 ghost use Rattle.desk_pool.specs.Seen.{entry_of, seen, link_of, listed, check_of};
@@ -12,7 +13,7 @@ use crate::lookup::{wrong_entry, wrong_text};
 use desk_base::{FaultKind, Malformed};
 
 /// What a pass looks at: the tags of what indices name, or the texts that they lead to.
-#[derive(Clone, Copy, Debug, PartialEq, Eq)]
+#[derive(Clone, Copy)]
 pub enum Pass {
     Names,
     Texts,
@@ -23,8 +24,8 @@ fn fault_of(slots: &[Option<Constant<'_>>], pass: Pass, link: Link) -> Option<Fa
     ensures { result ≡ check_of pass (seen slots.now) (link_of link) }
 {
     match pass {
-        Pass::Names => wrong_entry(slots, link.target, link.index),
-        Pass::Texts => wrong_text(slots, link.target, link.index),
+        Pass::Names => wrong_entry(slots, link.referent, link.index),
+        Pass::Texts => wrong_text(slots, link.referent, link.index),
     }
 }
 
@@ -35,7 +36,7 @@ fn fault_at(
     link: Option<Link>,
     at: u32,
 ) -> Option<Malformed>
-    requires { at ≤ 67108864 }
+    requires { at ≤ file_size }
     ensures { result ≡ first_among (check_of pass (seen slots.now)) at (listed link) }
 {
     let link = link?;
@@ -53,7 +54,7 @@ fn first_among(
     constant: &Constant<'_>,
     at: u32,
 ) -> Option<Malformed>
-    requires { at ≤ 67108864 }
+    requires { at ≤ file_size }
     ensures { result ≡ first_among (check_of pass (seen slots.now)) at (links (entry_of constant.now)) }
 {
     let links = links_of(constant);
@@ -65,11 +66,11 @@ fn first_among(
 
 /// How many bytes an entry takes.
 pub fn size_of(constant: &Constant<'_>) -> u32
-    requires { size (entry_of constant.now) ≤ 67108864 }
+    requires { size (entry_of constant.now) ≤ file_size }
     ensures { result ≡ size (entry_of constant.now) }
 {
     match *constant {
-        Constant::Utf8(text) => text.len() as u32 + 3,
+        Constant::Utf8(text) => text.bytes.len() as u32 + 3,
         Constant::Integer(bytes)
         | Constant::Float(bytes)
         | Constant::Long(bytes)
@@ -91,7 +92,7 @@ pub fn size_of(constant: &Constant<'_>) -> u32
 
 /// The first fault that a pass finds in the entries, the first of which stands at a place.
 pub fn first_fault(slots: &[Option<Constant<'_>>], pass: Pass, start: u32) -> Option<Malformed>
-    requires { start + length (print_slots (seen slots.now)) ≤ 67108864 }
+    requires { start + length (print_slots (seen slots.now)) ≤ file_size }
     ensures { result ≡ first_fault (check_of pass (seen slots.now)) start (seen slots.now) }
 {
     let mut at = start;

@@ -9,6 +9,7 @@ ghost use Rattle.desk_pool.specs.Seen.{ReadPool, ReadsAll, seen};
 
 use crate::constant::{Constant, read_number};
 use crate::lookup::{class_name_at, constant_at, misfit, tag_at, utf8_at};
+use crate::named::find_class_names;
 use crate::passes::{Pass, first_fault};
 use crate::slots::read_slots;
 use crate::uses::uses_of;
@@ -18,7 +19,7 @@ use std::marker::Model;
 
 /// A constant pool (JVMS 4.4) without a fault, whose texts lie in the class. Contracts see its entries, a map from index to
 /// entry, and its uses of texts. Each look-up by an index takes constant time and no memory.
-#[derive(Debug, Drop)]
+#[derive(Drop)]
 pub struct Pool<'a> {
     slots: Vec<Option<Constant<'a>>>,
     uses: Vec<Used>,
@@ -52,10 +53,11 @@ impl<'a> Pool<'a> {
             }));
         }
         let start = cursor.at();
-        let slots = read_slots(alloc, count - 1, cursor)?;
+        let mut slots = read_slots(alloc, count - 1, cursor)?;
         if let Some(fault) = first_fault(&slots, Pass::Names, start) {
             return Err(ReadFault::Malformed(fault));
         }
+        find_class_names(&mut slots);
         if let Some(fault) = first_fault(&slots, Pass::Texts, start) {
             return Err(ReadFault::Malformed(fault));
         }
@@ -91,7 +93,7 @@ impl<'a> Pool<'a> {
         ensures text { IfSome result (λ text. text.now ≡ class_name_at self.now.entries index) }
     {
         match constant_at(&self.slots, index) {
-            Some(Constant::Class(_)) => Some(class_name_at(&self.slots, index)),
+            Some(Constant::Class(_)) => Some(class_name_at(&self.slots, index).bytes),
             _ => None,
         }
     }

@@ -1,6 +1,6 @@
 -- The key and the value of a logical line.
 use Rattle.std.specs.Prelude.{ℕ, Bool, true, false, ◌+◌, ◌-◌, ◌*◌, ◌==◌, ◌&&◌, ◌||◌, nat_le, zero, suc, [], ◌∷◌, ◌++◌, Option, Some, None, Result, Ok, Err, encode_utf8, if◌then◌else◌}
-use Rattle.desk_base.specs.Names.{Text}
+use Rattle.desk_base.specs.Names.{Text, is_digit}
 use Rattle.desk_properties.specs.Lines.{Placed, Line, is_backslash, is_white, unindented}
 
 -- `=` or `:`
@@ -34,9 +34,6 @@ unsigned (p ∷ l) = if is_sign p then l else p ∷ l
 -- the value as it is written: white space, at most one sign and white space again stand between it and the key
 abbrev pub written_value : Line → Line
 written_value l = unindented (unsigned (unindented (behind_key false l)))
-
-abbrev pub is_digit : ℕ → Bool
-is_digit b = nat_le 48 b && nat_le b 57
 
 abbrev pub is_upper : ℕ → Bool
 is_upper b = nat_le 65 b && nat_le b 70

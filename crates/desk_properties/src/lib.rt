@@ -1,4 +1,10 @@
 //! Property files: their keys and values, or their first fault.
+//!
+//! ```text
+//! let entries = read_properties(alloc, b"# packages\njavax.servlet.* = jakarta.servlet\n")?;
+//! entries.len(); // 1: `javax.servlet.*` with `jakarta.servlet`
+//! read_properties(alloc, b"a=\\u12"); // Err: Escape { at: 2 }
+//! ```
 #![tactic(auto)]
 
 ghost use Rattle.std.specs.Prelude.{◌≡◌, ◌≤◌, true, false, Ok, length, OnOk, IfOk, IfErr};
@@ -107,6 +113,3 @@ pub fn read_properties(alloc: Global, bytes: &[u8]) -> Result<IndexMap<Text, Tex
     }
     Ok(entries)
 }
-
-#[cfg(test)]
-mod tests;

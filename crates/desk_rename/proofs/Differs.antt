@@ -16,7 +16,7 @@ use Rattle.desk_names.proofs.SigPieces.{sig_names}
 use Rattle.desk_names.proofs.SigMapped.{sig_kept}
 use Rattle.desk_names.proofs.SigSound.{signature_of}
 use Rattle.desk_names.proofs.OneSignature.{one_signature_tree}
-use Rattle.desk_rules.specs.Renames.{Renaming}
+use Rattle.desk_packages.specs.Renames.{Renaming}
 use Rattle.desk_rename.specs.Images.{repackaged, is_any_descriptor}
 use Rattle.desk_rename.specs.Drafts.{Fixed, SomeChange}
 use Rattle.desk_rename.proofs.Kept.{keeps_class_names, keeps_signature_names}

@@ -5,16 +5,16 @@ use Rattle.std.proofs.lemmas.Bool.{and_parts, and_from, both_ways, not-true, not
 use Rattle.std.proofs.lemmas.List.{append_cancel_right, append_assoc, append-nil, drop_at}
 use Rattle.std.proofs.lemmas.List.Folds.{list_all-append}
 use Rattle.desk_base.specs.Names.{Text, Package, segments, written, is_identifier, is_empty, is_whole, same}
-use Rattle.desk_rules.specs.Keys.{is_separator}
-use Rattle.desk_rules.specs.Renames.{Renaming, pick, pkg, renamed_by, changes, in_scope, is_rename}
+use Rattle.desk_packages.specs.Keys.{is_separator}
+use Rattle.desk_packages.specs.Renames.{Renaming, pick, pkg, renamed_by, changes, in_scope, is_rename}
 use Rattle.desk_rules.specs.RuleSets.{IsFrontOf, changing_pick, only_changing}
-use Rattle.desk_rules.proofs.Same.{same_is, same_from, covers_is}
-use Rattle.desk_rules.proofs.Picks.{Found, pick_Some}
-use Rattle.desk_rules.proofs.Cuts.{written-segments, split_written}
-use Rattle.desk_rules.proofs.Forms.{all_In}
-use Rattle.desk_rules.proofs.KeyLaws.{identifier_cuts}
-use Rattle.desk_rename.proofs.Appended.{written_push}
-use Rattle.desk_rename.proofs.Segments.{segments_whole}
+use Rattle.desk_packages.proofs.Same.{same_is, same_from, covers_is}
+use Rattle.desk_packages.proofs.Picks.{Found, pick_Some}
+use Rattle.desk_packages.proofs.Cuts.{written-segments, split_written}
+use Rattle.desk_packages.proofs.Picks.{all_In}
+use Rattle.desk_packages.proofs.KeyLaws.{identifier_cuts}
+use Rattle.desk_packages.proofs.Joined.{written_push}
+use Rattle.desk_packages.proofs.Segments.{segments_whole}
 
 -- packages joined behind one another
 written_more : (s : ℕ) (x : Text) (xs : Package) (y : Text) (ys : Package) → written s ((x ∷ xs) ++ y ∷ ys) ≡ written s (x ∷ xs) ++ s ∷ written s (y ∷ ys)

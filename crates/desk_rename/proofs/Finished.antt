@@ -2,14 +2,14 @@
 use Rattle.std.proofs.Common.{◌≡◌, ◌≢◌, ◌<◌, Bool, true, false, cond, List, [], ◌∷◌, Option, Some, None, MatchOption, Result, Ok, Err, IfOk, refl, sym, ap, subst, ◌∙◌, ◌&&◌, ◌==◌, ◌⊎◌, inl, inr}
 use Rattle.std.proofs.lemmas.Bool.{cases_Bool, eq-eqb, ne_eqb, eqb-true, eqb-false}
 use Rattle.std.specs.List.{starts_with}
-use Rattle.desk_base.specs.Targets.{begins_array}
+use Rattle.desk_base.specs.Referents.{begins_array}
 use Rattle.desk_base.specs.Names.{Text}
 use Rattle.desk_base.specs.Signatures.{SignatureKind}
 use Rattle.desk_base.specs.declared.Memory.{Memory}
 use Rattle.desk_names.specs.Pieces.{Piece, pieces, joined}
 use Rattle.desk_names.specs.SignatureScan.{is_sound_signature}
 use Rattle.desk_names.specs.SignaturePieces.{sig_pieces}
-use Rattle.desk_rules.specs.Renames.{Renaming}
+use Rattle.desk_packages.specs.Renames.{Renaming}
 use Rattle.desk_rules.specs.Images.{IsImage}
 use Rattle.desk_rename.specs.Images.{repackaged, is_any_descriptor, desc, sig, cls, class_image}
 use Rattle.desk_rename.specs.Drafts.{IsLooked, SomeChange, stands}

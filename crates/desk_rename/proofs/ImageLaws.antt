@@ -6,7 +6,7 @@ use Rattle.std.proofs.lemmas.Bool.{and_parts, and_from, cases_Bool, or_left, or_
 use Rattle.desk_base.specs.Names.{Text, Package, segments, written, front, simple, is_part, is_name, is_class_name, is_empty, slash}
 use Rattle.desk_base.specs.Descriptors.{Descriptor, DescriptorKind, IsDescriptor, is_descriptor, print, renamed}
 use Rattle.desk_base.specs.Signatures.{Signature, SignatureKind, IsSignature, is_signature_identifier, print_signature, map_signature, most_nesting}
-use Rattle.desk_base.specs.Targets.{begins_array}
+use Rattle.desk_base.specs.Referents.{begins_array}
 use Rattle.desk_names.specs.Pieces.{Piece, pieces, joined, cut}
 use Rattle.desk_names.specs.Laws.{HasNoDescriptor}
 use Rattle.desk_names.specs.SignatureScan.{is_sound_signature}
@@ -16,11 +16,11 @@ use Rattle.desk_names.proofs.Pieces.{prints_exchanged, kept_exchanged}
 use Rattle.desk_names.proofs.SigPieces.{sig_taken}
 use Rattle.desk_names.proofs.SigMapped.{sig_prints, sig_kept}
 use Rattle.desk_names.proofs.SigSound.{signature_of}
-use Rattle.desk_rules.specs.Renames.{Renaming, pkg, is_rename}
+use Rattle.desk_packages.specs.Renames.{Renaming, pkg, is_rename}
 use Rattle.desk_rules.specs.RuleSets.{changing_pick}
 use Rattle.desk_rules.specs.Images.{refronted}
-use Rattle.desk_rules.proofs.Bytes.{identifier_part}
-use Rattle.desk_rules.proofs.Cuts.{front-push, simple-push}
+use Rattle.desk_packages.proofs.Bytes.{identifier_part}
+use Rattle.desk_packages.proofs.Cuts.{front-push, simple-push}
 use Rattle.desk_rules.proofs.Forms.{Parts, pkg_all, segments_image}
 use Rattle.desk_rename.specs.Images.{repackaged, class_image, is_any_descriptor, desc, cls, sig}
 use Rattle.desk_rename.specs.Laws.{IsSettledRenames, PackageImages, IsClassImage, ClassImages, DescriptorImages, SignatureImages}

@@ -4,8 +4,8 @@ use Rattle.std.specs.List.{list_all}
 use Rattle.std.proofs.lemmas.Bool.{and_parts, or_from, both_ways, not-true, not_from_false, or_parts, cases_Bool, eqb-true}
 use Rattle.desk_base.specs.Names.{Text, is_part, is_identifier, is_identifier_byte, is_whole, slash}
 use Rattle.desk_base.specs.Signatures.{is_mark, is_signature_identifier}
-use Rattle.desk_rules.specs.Renames.{Renaming, is_rename}
-use Rattle.desk_rules.proofs.Bytes.{identifier_part, part_whole, each_byte, unreserved, unslashed}
+use Rattle.desk_packages.specs.Renames.{Renaming, is_rename}
+use Rattle.desk_packages.proofs.Bytes.{identifier_part, part_whole, each_byte, unreserved, unslashed}
 use Rattle.desk_rules.proofs.Forms.{Parts, name_image_named}
 use Rattle.desk_names.specs.Laws.{KeepsClassNames, KeepsSignatureNames}
 use Rattle.desk_rename.specs.Images.{repackaged}

@@ -1,5 +1,3 @@
-pub mod Appended
-pub mod Segments
 pub mod Exchanges
 pub mod NameImages
 pub mod Pieces

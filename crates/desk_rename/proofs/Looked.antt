@@ -4,7 +4,7 @@ use Rattle.std.proofs.lemmas.List.{append_assoc, append-nil, drop-drop, take_at,
 use Rattle.desk_base.specs.Names.{Text}
 use Rattle.desk_base.specs.Descriptors.{as_is}
 use Rattle.desk_names.specs.Pieces.{Piece, AreCut, piece_text, joined}
-use Rattle.desk_rules.specs.Renames.{Renaming}
+use Rattle.desk_packages.specs.Renames.{Renaming}
 use Rattle.desk_rename.specs.Images.{repackaged}
 use Rattle.desk_rename.specs.Drafts.{IsNew, IsNext, IsTaken, IsWhole, IsLooked, Changes, SomeChange, Fixed, IsCutPiece, stands}
 use Rattle.desk_rename.specs.declared.drafts.Draft.{Draft}

@@ -5,13 +5,14 @@ use Rattle.std.proofs.lemmas.Grind.{common_steps}
 use Rattle.std.proofs.lemmas.Bool.{and_parts}
 use Rattle.std.proofs.lemmas.List.{length-take-le}
 use Rattle.desk_base.specs.Names.{Text, Package, segments, written, front, simple, is_name}
-use Rattle.desk_rules.specs.Keys.{is_separator}
-use Rattle.desk_rules.specs.Renames.{Renaming, pkg, is_rename}
+use Rattle.desk_packages.specs.Keys.{is_separator}
+use Rattle.desk_packages.specs.Renames.{Renaming, pkg, is_rename}
 use Rattle.desk_rules.specs.RuleSets.{IsFrontOf, changing_pick}
 use Rattle.desk_rules.specs.Images.{refronted, name_image}
-use Rattle.desk_rules.proofs.Cuts.{written-segments, front-push, simple-push, front_simple}
-use Rattle.desk_rename.specs.Fronts.{IsLastAt, IsFrontEnd, IsExchange}
-use Rattle.desk_rename.proofs.Segments.{front_parts, parts_last, cut_last}
+use Rattle.desk_packages.proofs.Cuts.{written-segments, front-push, simple-push, front_simple}
+use Rattle.desk_packages.specs.Fronts.{IsLastAt, IsFrontEnd}
+use Rattle.desk_rename.specs.Fronts.{IsExchange}
+use Rattle.desk_packages.proofs.Segments.{front_parts, parts_last, cut_last}
 use Rattle.desk_rename.proofs.Exchanges.{unchanged, PackageFront, package_front, name_front}
 
 -- the image of a name whose package no changing rename is picked for

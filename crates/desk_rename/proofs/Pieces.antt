@@ -7,12 +7,12 @@ use Rattle.std.proofs.lemmas.List.Splits.{length-slice_split}
 use Rattle.desk_base.specs.Names.{Text, Package, segments, written, front, simple, is_whole, slash}
 use Rattle.desk_names.specs.ClassNames.{simple_of, class_name}
 use Rattle.desk_names.specs.Pieces.{IsCut}
-use Rattle.desk_rules.specs.Renames.{Renaming, pkg, is_rename}
+use Rattle.desk_packages.specs.Renames.{Renaming, pkg, is_rename}
 use Rattle.desk_rules.specs.RuleSets.{IsFrontOf, changing_pick}
-use Rattle.desk_rules.proofs.Cuts.{written-segments, front-push}
+use Rattle.desk_packages.proofs.Cuts.{written-segments, front-push}
 use Rattle.desk_rename.specs.Images.{repackaged}
-use Rattle.desk_rename.proofs.Appended.{written_push}
-use Rattle.desk_rename.proofs.Segments.{behind_last, whole_alone, segments_whole}
+use Rattle.desk_packages.proofs.Joined.{written_push}
+use Rattle.desk_packages.proofs.Segments.{behind_last, whole_alone, segments_whole}
 use Rattle.desk_rename.proofs.Exchanges.{unchanged, package_front, name_front}
 use Rattle.desk_rename.proofs.NameImages.{drop_within}
 

@@ -6,7 +6,7 @@ use Rattle.desk_base.specs.Names.{Text, Package, written, slash}
 use Rattle.desk_base.specs.Descriptors.{as_is}
 use Rattle.desk_names.specs.ClassNames.{class_name}
 use Rattle.desk_names.specs.Pieces.{Piece, piece_text}
-use Rattle.desk_rules.specs.Renames.{Renaming, is_rename}
+use Rattle.desk_packages.specs.Renames.{Renaming, is_rename}
 use Rattle.desk_rename.specs.Images.{repackaged}
 use Rattle.desk_rename.specs.Drafts.{IsNext, IsTaken, stands}
 use Rattle.desk_rename.specs.declared.drafts.Draft.{Draft}

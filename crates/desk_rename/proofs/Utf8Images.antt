@@ -8,7 +8,7 @@ use Rattle.desk_base.specs.Names.{Text, Package, segments, written, front, simpl
 use Rattle.desk_base.specs.Descriptors.{is_base}
 use Rattle.desk_base.specs.Signatures.{SignatureKind, is_mark}
 use Rattle.desk_base.specs.Utf8.{bad_form}
-use Rattle.desk_base.specs.Targets.{begins_array}
+use Rattle.desk_base.specs.Referents.{begins_array}
 use Rattle.desk_names.specs.declared.signatures.Owner.{Owner}
 use Rattle.desk_names.specs.declared.signatures.Owner.TheVariants as owners
 use Rattle.desk_names.specs.declared.signatures.RefPlace.{RefPlace}
@@ -22,11 +22,11 @@ use Rattle.desk_names.specs.ClassNames.{package_of, simple_of, class_name}
 use Rattle.desk_names.specs.Pieces.{Piece, class_piece, last_piece, cut, joined}
 use Rattle.desk_names.specs.SignatureScan.{ref_behind, in_class, ref_step, after, at_place, has_bound, first_bound, body_step, sig_step, sig_start, is_sound_signature}
 use Rattle.desk_names.specs.SignaturePieces.{is_naming, ends_name, named, sig_cut}
-use Rattle.desk_rules.specs.Renames.{Renaming, pkg, pick, renamed_by, in_scope}
+use Rattle.desk_packages.specs.Renames.{Renaming, pkg, pick, renamed_by, in_scope}
 use Rattle.desk_rules.specs.Images.{refronted, name_image}
-use Rattle.desk_rules.proofs.Picks.{In, Found, pick_Some}
-use Rattle.desk_rules.proofs.Same.{covers_is}
-use Rattle.desk_rules.proofs.Cuts.{written-segments}
+use Rattle.desk_packages.proofs.Picks.{In, Found, pick_Some}
+use Rattle.desk_packages.proofs.Same.{covers_is}
+use Rattle.desk_packages.proofs.Cuts.{written-segments}
 use Rattle.desk_rename.specs.Images.{package_image, repackaged, is_any_descriptor, desc, cls, sig}
 use Rattle.desk_rules.specs.RuleSets.{HaveUtf8Targets}
 use Rattle.desk_rename.specs.Laws.{Utf8Images}

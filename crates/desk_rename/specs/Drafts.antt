@@ -5,7 +5,7 @@ use Rattle.desk_base.specs.Names.{Text}
 use Rattle.desk_base.specs.Descriptors.{as_is}
 use Rattle.desk_names.specs.ClassNames.{class_name}
 use Rattle.desk_names.specs.Pieces.{Piece, IsCut, AreCut, piece_text, joined, pieces}
-use Rattle.desk_rules.specs.Renames.{Renaming, is_rename}
+use Rattle.desk_packages.specs.Renames.{Renaming, is_rename}
 use Rattle.desk_names.specs.SignatureScan.{is_sound_signature}
 use Rattle.desk_names.specs.SignaturePieces.{sig_pieces}
 use Rattle.desk_base.specs.Signatures.{SignatureKind}

@@ -3,11 +3,11 @@ use Rattle.std.specs.Prelude.{Bool, ◌||◌, List, if◌then◌else◌}
 use Rattle.desk_base.specs.Names.{Text, segments, written, is_part, slash}
 use Rattle.desk_base.specs.Descriptors.{DescriptorKind, is_descriptor}
 use Rattle.desk_base.specs.Signatures.{SignatureKind}
-use Rattle.desk_base.specs.Targets.{begins_array}
+use Rattle.desk_base.specs.Referents.{begins_array}
 use Rattle.desk_names.specs.Pieces.{joined, pieces}
 use Rattle.desk_names.specs.SignatureScan.{is_sound_signature}
 use Rattle.desk_names.specs.SignaturePieces.{sig_pieces}
-use Rattle.desk_rules.specs.Renames.{Renaming, pkg}
+use Rattle.desk_packages.specs.Renames.{Renaming, pkg}
 use Rattle.desk_rules.specs.Images.{refronted, name_image}
 
 -- a package that is written with `/`

@@ -6,10 +6,10 @@ use Rattle.desk_rules.specs.Images.{dotted}
 use Rattle.desk_base.specs.Names.{Text, segments, front, simple, is_class_name, slash}
 use Rattle.desk_base.specs.Descriptors.{Descriptor, DescriptorKind, IsDescriptor, is_descriptor, print, renamed}
 use Rattle.desk_base.specs.Signatures.{Signature, SignatureKind, IsSignature, print_signature, map_signature}
-use Rattle.desk_base.specs.Targets.{begins_array}
+use Rattle.desk_base.specs.Referents.{begins_array}
 use Rattle.desk_names.specs.Laws.{HasNoDescriptor, HasNoSignature}
 use Rattle.desk_names.specs.SignatureScan.{is_sound_signature}
-use Rattle.desk_rules.specs.Renames.{Renaming, pkg, is_rename}
+use Rattle.desk_packages.specs.Renames.{Renaming, pkg, is_rename}
 use Rattle.desk_rules.specs.RuleSets.{PackagesStay}
 pub use Rattle.desk_rules.specs.RuleSets.{HaveUtf8Targets}
 use Rattle.desk_rename.specs.Images.{package_image, repackaged, desc, cls, sig}

@@ -9,7 +9,7 @@ ghost use Rattle.desk_rename.specs.Drafts.{IsNew, IsNext, IsTaken, IsWhole, stan
 use crate::fronts::append_segments;
 use desk_base::{Memory, Text};
 use desk_names::{ClassName, Part};
-use desk_rules::RuleSet;
+use desk_rules::{RuleSet, Separator};
 use std::alloc::Global;
 
 /// The image of a text, as far as its parts were looked at. No memory is taken before the first part
@@ -59,7 +59,7 @@ impl Draft {
         ensures { OnOk result (IsTaken rules.now.renames text.now self.old (Piece.class name.now.package.now name.now.simple.now) self.new) }
     {
         let length = name_length(name);
-        match rules.package(name.package, b'/') {
+        match rules.package(name.package, Separator::Slash) {
             None => {
                 self.at += length;
                 Ok(())

@@ -1,26 +1,11 @@
 //! Packages in front of texts, and what takes their place.
 
-ghost use Rattle.std.specs.Prelude.{◌≡◌, ◌++◌, ◌≤◌, OnOk, IfOk, IsTrue, length, drop};
+ghost use Rattle.std.specs.Prelude.{◌≡◌, ◌++◌, ◌≤◌, OnOk, IfOk, length, drop};
 ghost use Rattle.desk_base.specs.Names.{written};
-ghost use Rattle.desk_rename.specs.Fronts.{IsFrontEnd};
 
 use desk_base::{Memory, Text};
 use desk_rules::Front;
 use std::alloc::Global;
-
-/// How many bytes of a text stand before its last separator; 0 where it has none.
-pub fn front_end(text: &[u8], separator: u8) -> usize
-    ensures { IsFrontEnd separator text.now result }
-{
-    let mut end = text.len();
-    while end > 0 {
-        end -= 1;
-        if text[end] == separator {
-            return end;
-        }
-    }
-    0
-}
 
 /// Appends a package, with a separator between its segments. The only error is want of memory; a
 /// part may have been appended then.

@@ -1,7 +1,7 @@
 //! Images of class names that are known.
 
 ghost use Rattle.std.specs.Prelude.{◌≡◌, IfSome, IsNone, List};
-ghost use Rattle.desk_rules.specs.Renames.{Renaming};
+ghost use Rattle.desk_packages.specs.Renames.{Renaming};
 ghost use Rattle.desk_rename.specs.Images.{cls};
 
 use desk_rules::RuleSet;
@@ -25,7 +25,7 @@ pub struct NoImages<'r> {
 
 impl<'r> Model for NoImages<'r> {
     ghost use Rattle.std.specs.Prelude.{List};
-    ghost use Rattle.desk_rules.specs.Renames.{Renaming};
+    ghost use Rattle.desk_packages.specs.Renames.{Renaming};
 
     ghost Value = { List Renaming };
 

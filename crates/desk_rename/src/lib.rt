@@ -1,4 +1,11 @@
 //! Images of texts under a rule set.
+//!
+//! ```text
+//! // under the rule `javax.servlet.*=jakarta.servlet`
+//! rename_class(alloc, &rules, b"javax/servlet/Filter")?; // Some(`jakarta/servlet/Filter`)
+//! rename_descriptor(alloc, &rules, b"()Ljavax/servlet/Filter;")?; // Some(`()Ljakarta/servlet/Filter;`)
+//! rename_class(alloc, &rules, b"javax/sql/DataSource")?; // None: it is its own image
+//! ```
 #![tactic(auto)]
 
 mod descriptors;
@@ -9,8 +16,6 @@ mod laws;
 mod names;
 mod signatures;
 mod strings;
-#[cfg(test)]
-mod tests;
 
 pub use descriptors::{rename_class, rename_descriptor};
 pub use images::{Images, NoImages};

@@ -7,10 +7,11 @@ ghost use Rattle.desk_rules.specs.RuleSets.{IsRuleSet, PackagesStay, DottedStay,
 ghost use Rattle.desk_rename.specs.Fronts.{IsExchange};
 ghost use Rattle.desk_rename.specs.Images.{package_image, class_image};
 
-use crate::fronts::{append_exchanged, exchanged, front_end};
+use crate::fronts::{append_exchanged, exchanged};
 use desk_base::{Memory, Text};
 use desk_names::{is_dotted, split_class};
-use desk_rules::{Front, RuleSet};
+use desk_packages::front_end;
+use desk_rules::{Front, RuleSet, Separator};
 use std::alloc::Global;
 
 /// What is exchanged of a package that is written with `/`; none where its image is the package
@@ -24,7 +25,7 @@ fn package_front<'r>(rules: &'r RuleSet, text: &[u8]) -> Option<Front<'r>>
     ensures dotted_stay { DottedStay rules.now.renames }
     ensures dotted_keep_form { DottedKeepForm rules.now.renames }
 {
-    rules.package(text, b'/')
+    rules.package(text, Separator::Slash)
 }
 
 /// What is exchanged of a dotted name; none where its image is the text itself.
@@ -37,7 +38,7 @@ fn dotted_front<'r>(rules: &'r RuleSet, text: &[u8]) -> Option<Front<'r>>
     ensures again { DottedStay rules.now.renames }
     ensures form { DottedKeepForm rules.now.renames }
 {
-    match rules.package(&text[..front_end(text, b'.')], b'.') {
+    match rules.package(&text[..front_end(text, b'.')], Separator::Dot) {
         None => None,
         Some(front) => { if is_dotted(text) { Some(front) } else { None } }
     }
@@ -51,7 +52,7 @@ pub fn class_front<'r>(rules: &'r RuleSet, text: &[u8]) -> Option<Front<'r>>
     ensures settled { IsRuleSet rules.now }
     ensures packages_stay { PackagesStay rules.now.renames }
 {
-    match rules.package(&text[..front_end(text, b'/')], b'/') {
+    match rules.package(&text[..front_end(text, b'/')], Separator::Slash) {
         None => None,
         Some(front) => {
             if split_class(text).is_some() {

@@ -6,6 +6,7 @@ use Rattle.hex.specs.Hex.{encode_with}
 use Rattle.desk_base.specs.Names.{Text}
 use Rattle.desk_base.specs.Shown.{shown}
 use Rattle.desk_properties.specs.declared.PropFault.TheVariants.{NotUtf8, Escape}
+use Rattle.desk_rules.specs.declared.ChainKind.TheVariants.{RenameThenRename}
 use Rattle.desk_rules.specs.declared.RuleFault.TheVariants.{NoRenames, Properties, BadKey, BadValue, MissingText, Chain}
 use Rattle.desk_ledger.specs.declared.keeper.Header.{Header}
 use Rattle.desk_report.specs.declared.lines.Detail.TheVariants.{Class, Service, Copy}
@@ -118,7 +119,7 @@ fault_22_value = refl
 fault_22_text : fault_text (BadRules (MissingText (codes "*.xml") (codes "x y"))) ≡ codes "migrate: 22 missing text *.xml x\\20y\n"
 fault_22_text = refl
 
-fault_22_chain : fault_text (BadRules (Chain 1 (codes "a.*") (codes "a.*"))) ≡ codes "migrate: 22 chain 1 a.* a.*\n"
+fault_22_chain : fault_text (BadRules (Chain RenameThenRename (codes "a.*") (codes "a.*"))) ≡ codes "migrate: 22 chain 1 a.* a.*\n"
 unfolding digits
 fault_22_chain = refl
 

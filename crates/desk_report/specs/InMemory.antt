@@ -1,5 +1,5 @@
 -- What a sink in memory holds.
-use Rattle.std.specs.Prelude.{ℕ, ◌+◌, ◌-◌, ◌^◌, min}
+use Rattle.std.specs.Prelude.{ℕ}
 use Rattle.desk_base.specs.Names.{Text}
 
 -- the bytes that were written, how many it has room for, and how many faults there were
@@ -7,7 +7,3 @@ pub record InMemory : Type 0 where
   pub written : Text
   pub room : ℕ
   pub faults : ℕ
-
--- the next count, which stays at its last value
-abbrev pub counted : ℕ → ℕ
-counted n = min (n + 1) (2 ^ 64 - 1)

@@ -12,6 +12,6 @@ joined (piece ∷ pieces) = piece ++ joined pieces
 abbrev pub pair_pieces : Text → Text → Text → List Text
 pair_pieces front first second = front ∷ shown first ∷ codes " " ∷ shown second ∷ codes "\n" ∷ []
 
--- the line of a refused file with two numbers, each behind what stands before it
-abbrev pub numbered_pieces : Text → Text → ℕ → Text → ℕ → List Text
-numbered_pieces path front first middle second = codes "refused " ∷ shown path ∷ front ∷ decimal first ∷ middle ∷ decimal second ∷ codes "\n" ∷ []
+-- two numbers, each behind what stands before it, at the end of a line
+abbrev pub numbered_pieces : Text → ℕ → Text → ℕ → List Text
+numbered_pieces front first middle second = front ∷ decimal first ∷ middle ∷ decimal second ∷ codes "\n" ∷ []

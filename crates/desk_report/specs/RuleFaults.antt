@@ -4,6 +4,7 @@ use Rattle.desk_base.specs.Names.{Text}
 use Rattle.desk_base.specs.Shown.{shown}
 use Rattle.desk_properties.specs.declared.PropFault.{PropFault}
 use Rattle.desk_properties.specs.declared.PropFault.TheVariants.{NotUtf8, Escape}
+use Rattle.desk_rules.specs.Settled.{chain_number}
 use Rattle.desk_rules.specs.declared.RuleFault.{RuleFault}
 use Rattle.desk_rules.specs.declared.RuleFault.TheVariants.{NoRenames, Properties, BadKey, BadValue, MissingText, Chain}
 use Rattle.desk_report.specs.Joined.{joined, pair_pieces}
@@ -19,7 +20,7 @@ rule_fault_pieces (Properties file fault) = codes "migrate: 22 properties " ∷ 
 rule_fault_pieces (BadKey file key) = pair_pieces (codes "migrate: 22 bad key ") file key
 rule_fault_pieces (BadValue file key) = pair_pieces (codes "migrate: 22 bad value ") file key
 rule_fault_pieces (MissingText key name) = pair_pieces (codes "migrate: 22 missing text ") key name
-rule_fault_pieces (Chain kind first second) = codes "migrate: 22 chain " ∷ decimal kind ∷ codes " " ∷ shown first ∷ codes " " ∷ shown second ∷ codes "\n" ∷ []
+rule_fault_pieces (Chain kind first second) = codes "migrate: 22 chain " ∷ decimal (chain_number kind) ∷ codes " " ∷ shown first ∷ codes " " ∷ shown second ∷ codes "\n" ∷ []
 
 -- the line of a fault
 abbrev pub rule_fault_text : RuleFault → Text

@@ -1,4 +1,12 @@
 //! The report of a run: the sink that it is written to, its lines, and the statuses with their texts.
+//!
+//! ```text
+//! let mut out = StdSink::new(&rt);
+//! write_line(&Line::Kept { path, target }, &mut out)?;   // kept a.txt a.txt
+//! let status = Status::FolderFault { done: 2 };
+//! write_fault(&status, &mut out)?;                       // migrate: 11 folder fault done=2
+//! status.code()                                          // 11
+//! ```
 #![tactic(auto)]
 
 mod lines;
@@ -9,8 +17,7 @@ mod rule_faults;
 mod sink;
 mod standard;
 mod status;
-#[cfg(test)]
-mod tests;
+mod writer;
 
 pub use lines::{Detail, Line, Reason, Summary, write_line, write_summary};
 pub use memory::MemorySink;

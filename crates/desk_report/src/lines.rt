@@ -1,14 +1,14 @@
 //! The lines of the report.
 
-ghost use Rattle.std.specs.Prelude.{◌≡◌, ◌≤◌, OnOk, OnErr};
-ghost use Rattle.desk_ledger.specs.Ledger.{Rose};
+ghost use Rattle.std.specs.Prelude.{◌≡◌, ◌≤◌, length, OnOk, OnErr};
+ghost use Rattle.desk_base.specs.Counts.{Rose};
 ghost use Rattle.desk_report.specs.Written.{writing, WritesFront};
-ghost use Rattle.desk_report.specs.Texts.{line_text, summary_text};
-ghost use Rattle.desk_report.specs.declared.lines.Line.TheVariants as line;
-ghost use Rattle.desk_report.specs.declared.lines.Detail.TheVariants as detail;
+ghost use Rattle.desk_report.specs.Joined.{joined};
+ghost use Rattle.desk_report.specs.Pieces.{pieces_text};
+ghost use Rattle.desk_report.specs.Texts.{detail_pieces, line_text, summary_text};
 
-use crate::pieces::{Piece, write_pieces};
-use crate::reasons::write_refused;
+use crate::pieces::{Piece, Pieces};
+use crate::writer::write_pieces;
 use crate::{Sink, SinkFault};
 use desk_base::{Malformed, Text};
 
@@ -29,6 +29,39 @@ pub enum Detail {
     },
     /// The source's bytes as they are.
     Copy,
+}
+
+impl Detail {
+    /// The pieces behind a written target.
+    fn pieces<'a>(self) -> Pieces<'a>
+        ensures text { pieces_text result ≡ joined (detail_pieces self) }
+        ensures few { length result ≤ 9 }
+    {
+        match self {
+            Detail::Class {
+                renamed,
+                added,
+                odd,
+                links,
+            } => Pieces::of(&[
+                Piece::Plain(b" class renamed="),
+                Piece::Number(renamed as u64),
+                Piece::Plain(b" added="),
+                Piece::Number(added as u64),
+                Piece::Plain(b" odd="),
+                Piece::Number(odd as u64),
+                Piece::Plain(b" links="),
+                Piece::Number(links as u64),
+                Piece::Plain(b"\n"),
+            ]),
+            Detail::Service { changed } => Pieces::of(&[
+                Piece::Plain(b" service changed="),
+                Piece::Number(changed as u64),
+                Piece::Plain(b"\n"),
+            ]),
+            Detail::Copy => Pieces::plain(b" copy\n"),
+        }
+    }
 }
 
 /// Why a file has no image.
@@ -70,6 +103,39 @@ pub enum Line {
     },
 }
 
+impl Line {
+    /// The pieces of the line.
+    fn pieces(&self) -> Pieces<'_>
+        ensures { pieces_text result ≡ line_text self.now }
+    {
+        match self {
+            Line::Written {
+                path,
+                target,
+                detail,
+            } => Pieces::of(&[
+                Piece::Plain(b"written "),
+                Piece::Shown(path.as_bytes()),
+                Piece::Plain(b" "),
+                Piece::Shown(target.as_bytes()),
+            ])
+            .and(detail.pieces().as_slice()),
+            Line::Kept { path, target } => Pieces::of(&[
+                Piece::Plain(b"kept "),
+                Piece::Shown(path.as_bytes()),
+                Piece::Plain(b" "),
+                Piece::Shown(target.as_bytes()),
+                Piece::Plain(b"\n"),
+            ]),
+            Line::Refused { path, reason } => {
+                Pieces::of(&[Piece::Plain(b"refused "), Piece::Shown(path.as_bytes())]).and(
+                    reason.pieces().as_slice(),
+                )
+            }
+        }
+    }
+}
+
 /// The totals of a run: files of the source, of which so many were written, kept and refused, and names
 /// renamed and texts added in the classes that were written.
 #[derive(Clone, Copy, Debug, PartialEq, Eq)]
@@ -82,6 +148,29 @@ pub struct Summary {
     pub added: u64,
 }
 
+impl Summary {
+    /// The pieces of the line of the totals.
+    fn pieces<'a>(&self) -> Pieces<'a>
+        ensures { pieces_text result ≡ summary_text self.now }
+    {
+        Pieces::of(&[
+            Piece::Plain(b"total files="),
+            Piece::Number(self.files as u64),
+            Piece::Plain(b" written="),
+            Piece::Number(self.written as u64),
+            Piece::Plain(b" kept="),
+            Piece::Number(self.kept as u64),
+            Piece::Plain(b" refused="),
+            Piece::Number(self.refused as u64),
+            Piece::Plain(b" renamed="),
+            Piece::Number(self.renamed),
+            Piece::Plain(b" added="),
+            Piece::Number(self.added),
+            Piece::Plain(b"\n"),
+        ])
+    }
+}
+
 /// Writes the line of a file, in few writes. After an error a front of it was written. It takes no memory.
 pub fn write_line<O: Sink>(line: &Line, out: &mut O) -> Result<(), SinkFault>
     ensures ok { OnOk result (O.told out.new ≡ writing (line_text line.now) (O.told out.old)) }
@@ -89,102 +178,7 @@ pub fn write_line<O: Sink>(line: &Line, out: &mut O) -> Result<(), SinkFault>
     ensures counts { O.faults out.old ≤ O.faults out.new }
     ensures failed { OnErr result (Rose (O.faults out.old) (O.faults out.new)) }
 {
-    match line {
-        Line::Written {
-            path,
-            target,
-            detail,
-        } => write_written(path, target, *detail, out),
-        Line::Kept { path, target } => write_pieces(
-            out,
-            &[
-                Piece::Plain(b"kept "),
-                Piece::Shown(path.as_bytes()),
-                Piece::Plain(b" "),
-                Piece::Shown(target.as_bytes()),
-                Piece::Plain(b"\n"),
-            ],
-        ),
-        Line::Refused { path, reason } => write_refused(path, *reason, out),
-    }
-}
-
-/// Writes the line of a service file that was written.
-fn write_service<'x, O: Sink>(
-    path: &'x [u8],
-    target: &'x [u8],
-    changed: u32,
-    out: &mut O,
-) -> Result<(), SinkFault>
-    ensures ok { OnOk result (O.told out.new ≡ writing (line_text (line.Written path.now target.now (detail.Service changed))) (O.told out.old)) }
-    ensures err { OnErr result (WritesFront (line_text (line.Written path.now target.now (detail.Service changed))) (O.told out.old) (O.told out.new)) }
-    ensures counts { O.faults out.old ≤ O.faults out.new }
-    ensures failed { OnErr result (Rose (O.faults out.old) (O.faults out.new)) }
-{
-    write_pieces(
-        out,
-        &[
-            Piece::Plain(b"written "),
-            Piece::Shown(path),
-            Piece::Plain(b" "),
-            Piece::Shown(target),
-            Piece::Plain(b" service changed="),
-            Piece::Number(changed as u64),
-            Piece::Plain(b"\n"),
-        ],
-    )
-}
-
-/// Writes the line of a file that was written.
-fn write_written<'x, O: Sink>(
-    path: &'x Text,
-    target: &'x Text,
-    detail: Detail,
-    out: &mut O,
-) -> Result<(), SinkFault>
-    ensures ok { OnOk result (O.told out.new ≡ writing (line_text (line.Written path.now target.now detail)) (O.told out.old)) }
-    ensures err { OnErr result (WritesFront (line_text (line.Written path.now target.now detail)) (O.told out.old) (O.told out.new)) }
-    ensures counts { O.faults out.old ≤ O.faults out.new }
-    ensures failed { OnErr result (Rose (O.faults out.old) (O.faults out.new)) }
-{
-    let path = path.as_bytes();
-    let target = target.as_bytes();
-    match detail {
-        Detail::Class {
-            renamed,
-            added,
-            odd,
-            links,
-        } => write_pieces(
-            out,
-            &[
-                Piece::Plain(b"written "),
-                Piece::Shown(path),
-                Piece::Plain(b" "),
-                Piece::Shown(target),
-                Piece::Plain(b" class renamed="),
-                Piece::Number(renamed as u64),
-                Piece::Plain(b" added="),
-                Piece::Number(added as u64),
-                Piece::Plain(b" odd="),
-                Piece::Number(odd as u64),
-                Piece::Plain(b" links="),
-                Piece::Number(links as u64),
-                Piece::Plain(b"\n"),
-            ],
-        ),
-        Detail::Service { changed } => write_service(path, target, changed, out),
-        Detail::Copy => write_pieces(
-            out,
-            &[
-                Piece::Plain(b"written "),
-                Piece::Shown(path),
-                Piece::Plain(b" "),
-                Piece::Shown(target),
-                Piece::Plain(b" copy\n"),
-            ],
-        ),
-    }
+    write_pieces(out, line.pieces().as_slice())
 }
 
 /// Writes the line of the totals, in few writes. After an error a front of it was written. It takes no memory.
@@ -194,22 +188,5 @@ pub fn write_summary<O: Sink>(summary: &Summary, out: &mut O) -> Result<(), Sink
     ensures counts { O.faults out.old ≤ O.faults out.new }
     ensures failed { OnErr result (Rose (O.faults out.old) (O.faults out.new)) }
 {
-    write_pieces(
-        out,
-        &[
-            Piece::Plain(b"total files="),
-            Piece::Number(summary.files as u64),
-            Piece::Plain(b" written="),
-            Piece::Number(summary.written as u64),
-            Piece::Plain(b" kept="),
-            Piece::Number(summary.kept as u64),
-            Piece::Plain(b" refused="),
-            Piece::Number(summary.refused as u64),
-            Piece::Plain(b" renamed="),
-            Piece::Number(summary.renamed),
-            Piece::Plain(b" added="),
-            Piece::Number(summary.added),
-            Piece::Plain(b"\n"),
-        ],
-    )
+    write_pieces(out, summary.pieces().as_slice())
 }

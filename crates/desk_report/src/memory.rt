@@ -1,9 +1,8 @@
 //! A sink in memory.
 
 ghost use Rattle.std.specs.Prelude.{◌≡◌, ◌≤◌, ◌+◌, ◌++◌, [], ◌↔◌, IsOk, length, take, Some, IfOk, OnOk, OnErr};
-ghost use Rattle.desk_ledger.specs.Ledger.{Rose};
+ghost use Rattle.desk_base.specs.Counts.{Rose, counted};
 ghost use Rattle.desk_report.specs.Written.{writing, WritesFront};
-ghost use Rattle.desk_report.specs.InMemory.{counted};
 
 use crate::{Sink, SinkFault};
 use desk_base::Memory;

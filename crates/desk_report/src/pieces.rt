@@ -1,24 +1,18 @@
-//! Lines put together from pieces, and written at once where they fit.
+//! The pieces of a line: what its bytes are put together from.
 
-ghost use Rattle.std.specs.Prelude.{◌≡◌, ◌≢◌, ◌≤◌, ◌<◌, ◌++◌, ◌∷◌, [], ◌↔◌, IsTrue, length, OnOk, OnErr};
-ghost use Rattle.std.specs.List.{flat_map};
-ghost use Rattle.hex.specs.Hex.{encode_lower};
-ghost use Rattle.desk_base.specs.Shown.{shown_byte, shown};
-ghost use Rattle.desk_ledger.specs.Ledger.{Rose};
-ghost use Rattle.desk_report.specs.Written.{writing, WritesFront};
-ghost use Rattle.desk_report.specs.Pieces.{piece_text, pieces_text, Gathers};
+ghost use Rattle.std.specs.Prelude.{◌≡◌, ◌≢◌, ◌≤◌, ◌+◌, ◌++◌, ◌∷◌, [], length};
+ghost use Rattle.desk_report.specs.Joined.{joined, pair_pieces};
+ghost use Rattle.desk_report.specs.Pieces.{pieces_text};
 
-use crate::{Sink, SinkFault};
-use desk_base::show_byte;
-use itoa::Buffer;
+use desk_base::Text;
 use std::marker::Model;
 
-/// How many bytes are written together.
-const ROOM: usize = 1024;
+/// The most pieces of a line.
+const MOST: usize = 16;
 
 /// A piece of a line.
 #[derive(Clone, Copy)]
-pub enum Piece<'a> {
+pub(crate) enum Piece<'a> {
     /// These bytes.
     Plain(&'a [u8]),
     /// A text as it is shown.
@@ -29,184 +23,88 @@ pub enum Piece<'a> {
     Hex(&'a [u8; 32]),
 }
 
-/// Bytes that wait to be written together.
+/// The pieces of a line, one behind the other, at most sixteen. They take no memory.
 #[derive(Drop)]
-struct Waiting {
-    bytes: [u8; ROOM],
-    len: usize,
+pub(crate) struct Pieces<'a> {
+    list: [Piece<'a>; MOST],
+    count: usize,
 }
 
-impl Model for Waiting {
-    ghost use Rattle.std.specs.Prelude.{ℕ, List, take, ◌≤◌};
+impl<'a> Model for Pieces<'a> {
+    ghost use Rattle.std.specs.Prelude.{List, take, length, ◌≡◌, ◌≤◌};
+    ghost use Rattle.desk_report.specs.declared.pieces.Piece.{Piece};
 
-    ghost Value = { List ℕ };
+    ghost Value = { List Piece };
 
-    ghost view = { λ w. take w.len w.bytes };
+    ghost view = { λ p. take p.count p.list };
 
-    ghost invariant = { λ w. w.len ≤ 1024 };
+    ghost invariant = { λ p. (p.count ≤ 16) × (length p.list ≡ 16) };
 }
 
-impl Waiting {
-    fn new() -> Waiting
+impl<'a> Pieces<'a> {
+    /// No pieces.
+    pub(crate) fn none() -> Pieces<'a>
         ensures { result ≡ [] }
     {
-        Waiting {
-            bytes: [0; ROOM],
-            len: 0,
+        Pieces {
+            list: [Piece::Plain(b""); MOST],
+            count: 0,
         }
     }
 
-    fn is_full(&self) -> bool
-        ensures { IsTrue result ↔ (length self.now ≡ 1024) }
+    /// These pieces.
+    pub(crate) fn of(pieces: &[Piece<'a>]) -> Pieces<'a>
+        requires { length pieces.now ≤ 16 }
+        ensures { result ≡ pieces.now }
     {
-        self.len == ROOM
+        Pieces::none().and(pieces)
     }
 
-    fn is_empty(&self) -> bool
-        ensures { IsTrue result ↔ (self.now ≡ []) }
+    /// These pieces, and more behind them.
+    pub(crate) fn and(self, more: &[Piece<'a>]) -> Pieces<'a>
+        requires { length self + length more.now ≤ 16 }
+        ensures { result ≡ self.entry ++ more.now }
     {
-        self.len == 0
+        let mut pieces = self;
+        for piece in more {
+            pieces.push(*piece);
+        }
+        pieces
     }
 
-    fn as_slice(&self) -> &[u8]
+    /// A text as it is.
+    pub(crate) fn plain(text: &'a [u8]) -> Pieces<'a>
+        ensures text { pieces_text result ≡ text.now }
+        ensures one { length result ≡ 1 }
+    {
+        Pieces::of(&[Piece::Plain(text)])
+    }
+
+    /// A text as it is, and behind it two texts as they are shown, on a line.
+    pub(crate) fn pair(text: &'a [u8], first: &'a Text, second: &'a Text) -> Pieces<'a>
+        ensures { pieces_text result ≡ joined (pair_pieces text.now first.now second.now) }
+    {
+        Pieces::of(&[
+            Piece::Plain(text),
+            Piece::Shown(first.as_bytes()),
+            Piece::Plain(b" "),
+            Piece::Shown(second.as_bytes()),
+            Piece::Plain(b"\n"),
+        ])
+    }
+
+    fn push(&mut self, piece: Piece<'a>)
+        requires { length self.old ≢ 16 }
+        ensures { self.new ≡ self.old ++ piece.entry ∷ [] }
+    {
+        self.list[self.count] = piece;
+        self.count += 1;
+    }
+
+    /// The pieces in their order.
+    pub(crate) fn as_slice(&self) -> &[Piece<'a>]
         ensures { result.now ≡ self.now }
     {
-        &self.bytes[..self.len]
+        &self.list[..self.count]
     }
-
-    fn clear(&mut self)
-        ensures { self.new ≡ [] }
-    {
-        self.len = 0;
-    }
-
-    fn push(&mut self, byte: u8)
-        requires { length self.old ≢ 1024 }
-        ensures { self.new ≡ self.old ++ byte ∷ [] }
-    {
-        self.bytes[self.len] = byte;
-        self.len += 1;
-    }
-}
-
-/// Writes what waits.
-fn flush<O: Sink>(out: &mut O, waiting: &mut Waiting) -> Result<(), SinkFault>
-    ensures ok { OnOk result (O.told out.new ≡ writing waiting.old (O.told out.old)) }
-    ensures err { OnErr result (WritesFront waiting.old (O.told out.old) (O.told out.new)) }
-    ensures empty { waiting.new ≡ [] }
-    ensures counts { O.faults out.old ≤ O.faults out.new }
-    ensures failed { OnErr result (Rose (O.faults out.old) (O.faults out.new)) }
-{
-    let result = if waiting.is_empty() {
-        Ok(())
-    } else {
-        out.write(waiting.as_slice())
-    };
-    waiting.clear();
-    result
-}
-
-/// Puts a byte behind what waits.
-fn put<O: Sink>(out: &mut O, waiting: &mut Waiting, byte: u8) -> Result<(), SinkFault>
-    ensures ok { OnOk result (Gathers (byte ∷ []) waiting.old waiting.new (O.told out.old) (O.told out.new)) }
-    ensures err { OnErr result (WritesFront (waiting.old ++ byte ∷ []) (O.told out.old) (O.told out.new)) }
-    ensures counts { O.faults out.old ≤ O.faults out.new }
-    ensures failed { OnErr result (Rose (O.faults out.old) (O.faults out.new)) }
-{
-    if waiting.is_full() {
-        flush(out, waiting)?;
-    }
-    waiting.push(byte);
-    Ok(())
-}
-
-/// Puts bytes behind what waits.
-fn put_all<O: Sink>(out: &mut O, waiting: &mut Waiting, bytes: &[u8]) -> Result<(), SinkFault>
-    ensures ok { OnOk result (Gathers bytes.now waiting.old waiting.new (O.told out.old) (O.told out.new)) }
-    ensures err { OnErr result (WritesFront (waiting.old ++ bytes.now) (O.told out.old) (O.told out.new)) }
-    ensures counts { O.faults out.old ≤ O.faults out.new }
-    ensures failed { OnErr result (Rose (O.faults out.old) (O.faults out.new)) }
-{
-    for byte in bytes {
-        put(out, waiting, *byte)?;
-    }
-    Ok(())
-}
-
-/// Puts a byte as it is shown.
-fn put_byte<O: Sink>(out: &mut O, waiting: &mut Waiting, byte: u8) -> Result<(), SinkFault>
-    ensures ok { OnOk result (Gathers (shown_byte byte) waiting.old waiting.new (O.told out.old) (O.told out.new)) }
-    ensures err { OnErr result (WritesFront (waiting.old ++ shown_byte byte) (O.told out.old) (O.told out.new)) }
-    ensures counts { O.faults out.old ≤ O.faults out.new }
-    ensures failed { OnErr result (Rose (O.faults out.old) (O.faults out.new)) }
-{
-    put_all(out, waiting, show_byte(byte).as_bytes())
-}
-
-/// Puts the bytes of a text, each as it is shown.
-fn put_bytes<O: Sink>(out: &mut O, waiting: &mut Waiting, text: &[u8]) -> Result<(), SinkFault>
-    ensures ok { OnOk result (Gathers (flat_map shown_byte text.now) waiting.old waiting.new (O.told out.old) (O.told out.new)) }
-    ensures err { OnErr result (WritesFront (waiting.old ++ flat_map shown_byte text.now) (O.told out.old) (O.told out.new)) }
-    ensures counts { O.faults out.old ≤ O.faults out.new }
-    ensures failed { OnErr result (Rose (O.faults out.old) (O.faults out.new)) }
-{
-    for byte in text {
-        put_byte(out, waiting, *byte)?;
-    }
-    Ok(())
-}
-
-/// Puts a text as it is shown.
-fn put_shown<O: Sink>(out: &mut O, waiting: &mut Waiting, text: &[u8]) -> Result<(), SinkFault>
-    ensures ok { OnOk result (Gathers (shown text.now) waiting.old waiting.new (O.told out.old) (O.told out.new)) }
-    ensures err { OnErr result (WritesFront (waiting.old ++ shown text.now) (O.told out.old) (O.told out.new)) }
-    ensures counts { O.faults out.old ≤ O.faults out.new }
-    ensures failed { OnErr result (Rose (O.faults out.old) (O.faults out.new)) }
-{
-    if text.is_empty() {
-        put_all(out, waiting, b"\\-")
-    } else {
-        put_bytes(out, waiting, text)
-    }
-}
-
-/// Puts a digest in hexadecimal digits.
-fn put_hex<O: Sink>(out: &mut O, waiting: &mut Waiting, digest: &[u8; 32]) -> Result<(), SinkFault>
-    ensures ok { OnOk result (Gathers (encode_lower digest.now) waiting.old waiting.new (O.told out.old) (O.told out.new)) }
-    ensures err { OnErr result (WritesFront (waiting.old ++ encode_lower digest.now) (O.told out.old) (O.told out.new)) }
-    ensures counts { O.faults out.old ≤ O.faults out.new }
-    ensures failed { OnErr result (Rose (O.faults out.old) (O.faults out.new)) }
-{
-    let mut digits = [0; 64];
-    let _ = hex::encode_to_slice(digest.as_slice(), &mut digits);
-    put_all(out, waiting, &digits)
-}
-
-/// Puts a piece behind what waits.
-fn put_piece<O: Sink>(out: &mut O, waiting: &mut Waiting, piece: Piece<'_>) -> Result<(), SinkFault>
-    ensures ok { OnOk result (Gathers (piece_text piece.entry) waiting.old waiting.new (O.told out.old) (O.told out.new)) }
-    ensures err { OnErr result (WritesFront (waiting.old ++ piece_text piece.entry) (O.told out.old) (O.told out.new)) }
-    ensures counts { O.faults out.old ≤ O.faults out.new }
-    ensures failed { OnErr result (Rose (O.faults out.old) (O.faults out.new)) }
-{
-    match piece {
-        Piece::Plain(bytes) => put_all(out, waiting, bytes),
-        Piece::Shown(text) => put_shown(out, waiting, text),
-        Piece::Number(n) => put_all(out, waiting, Buffer::new().format(n).as_bytes()),
-        Piece::Hex(digest) => put_hex(out, waiting, digest),
-    }
-}
-
-/// Writes the pieces, one behind the other.
-pub fn write_pieces<O: Sink>(out: &mut O, pieces: &[Piece<'_>]) -> Result<(), SinkFault>
-    ensures ok { OnOk result (O.told out.new ≡ writing (pieces_text pieces.now) (O.told out.old)) }
-    ensures err { OnErr result (WritesFront (pieces_text pieces.now) (O.told out.old) (O.told out.new)) }
-    ensures counts { O.faults out.old ≤ O.faults out.new }
-    ensures failed { OnErr result (Rose (O.faults out.old) (O.faults out.new)) }
-{
-    let mut waiting = Waiting::new();
-    for piece in pieces {
-        put_piece(out, &mut waiting, *piece)?;
-    }
-    flush(out, &mut waiting)
 }

@@ -1,7 +1,7 @@
 //! The trait of sinks.
 
 ghost use Rattle.std.specs.Prelude.{◌≡◌, ◌≤◌, ℕ, List, Option, OnOk, OnErr};
-ghost use Rattle.desk_ledger.specs.Ledger.{Rose};
+ghost use Rattle.desk_base.specs.Counts.{Rose};
 ghost use Rattle.desk_report.specs.Written.{writing, WritesFront};
 
 use thiserror::Error;

@@ -1,14 +1,16 @@
 //! How a run ended.
 
 ghost use Rattle.std.specs.Prelude.{◌≡◌, ◌≤◌, [], ◌∷◌, OnOk, OnErr, codes, decimal};
-ghost use Rattle.desk_ledger.specs.Ledger.{Rose};
+ghost use Rattle.desk_base.specs.Counts.{Rose};
 ghost use Rattle.desk_report.specs.Written.{writing, WritesFront};
-ghost use Rattle.desk_report.specs.Joined.{joined, pair_pieces};
+ghost use Rattle.desk_report.specs.Joined.{joined};
+ghost use Rattle.desk_report.specs.Pieces.{pieces_text};
 ghost use Rattle.desk_report.specs.Texts.{code_of, fault_text, limit_name};
 ghost use Rattle.desk_report.specs.declared.status.Status.TheVariants as case;
 
-use crate::pieces::{Piece, write_pieces};
-use crate::rule_faults::write_rule_fault;
+use crate::pieces::{Piece, Pieces};
+use crate::rule_faults::rule_fault_pieces;
+use crate::writer::write_pieces;
 use crate::{Sink, SinkFault};
 use desk_base::Text;
 use desk_ledger::Header;
@@ -101,6 +103,68 @@ impl Status {
             Status::OtherRun { .. } => 27,
         }
     }
+    /// The pieces of its line; `Done` and `Refusals` have none.
+    fn pieces(&self) -> Pieces<'_>
+        ensures text { pieces_text result ≡ fault_text self.now }
+        ensures done { self.now ≡ Status.Done → result ≡ [] }
+        ensures refusals { self.now ≡ Status.Refusals → result ≡ [] }
+    {
+        match self {
+            Status::Done | Status::Refusals => Pieces::none(),
+            Status::Memory => Pieces::plain(b"migrate: 10 out of memory\n"),
+            Status::FolderFault { done } => counted(b"migrate: 11 folder fault done=", *done),
+            Status::LedgerFault { done } => counted(b"migrate: 12 ledger fault done=", *done),
+            Status::OutputFault => Pieces::plain(b"migrate: 13 output fault\n"),
+            Status::Usage => Pieces::plain(USAGE),
+            Status::NestedRoots { first, second } => {
+                Pieces::pair(b"migrate: 21 nested roots ", first, second)
+            }
+            Status::BadRules(fault) => rule_fault_pieces(fault),
+            Status::Limit { kind, path } => Pieces::of(&[
+                Piece::Plain(b"migrate: 23 limit "),
+                Piece::Plain(kind.name()),
+                Piece::Plain(b" "),
+                Piece::Shown(path.as_bytes()),
+                Piece::Plain(b"\n"),
+            ]),
+            Status::PathClash { first, second } => {
+                Pieces::pair(b"migrate: 24 path clash ", first, second)
+            }
+            Status::OtherRun { kept, wanted } => other_run(kept, wanted),
+        }
+    }
+}
+
+/// The pieces of a line of this text and a number.
+fn counted(text: &[u8], count: u32) -> Pieces<'_>
+    ensures { pieces_text result ≡ joined (text.now ∷ decimal count ∷ codes "\n" ∷ []) }
+{
+    Pieces::of(&[
+        Piece::Plain(text),
+        Piece::Number(count as u64),
+        Piece::Plain(b"\n"),
+    ])
+}
+
+/// The pieces of the line of a ledger that belongs to another run.
+fn other_run<'a>(kept: &'a Header, wanted: &'a Header) -> Pieces<'a>
+    ensures { pieces_text result ≡ fault_text (case.OtherRun kept.now wanted.now) }
+{
+    Pieces::of(&[
+        Piece::Plain(b"migrate: 27 other run kept "),
+        Piece::Shown(kept.from.as_bytes()),
+        Piece::Plain(b" "),
+        Piece::Shown(kept.to.as_bytes()),
+        Piece::Plain(b" "),
+        Piece::Hex(&kept.rules.0),
+        Piece::Plain(b" wanted "),
+        Piece::Shown(wanted.from.as_bytes()),
+        Piece::Plain(b" "),
+        Piece::Shown(wanted.to.as_bytes()),
+        Piece::Plain(b" "),
+        Piece::Hex(&wanted.rules.0),
+        Piece::Plain(b"\n"),
+    ])
 }
 
 /// Writes the line of a status, in few writes; for `Done` and `Refusals` it does nothing. After an error a front of the
@@ -113,136 +177,5 @@ pub fn write_fault<O: Sink>(status: &Status, out: &mut O) -> Result<(), SinkFaul
     ensures counts { O.faults out.old ≤ O.faults out.new }
     ensures failed { OnErr result (Rose (O.faults out.old) (O.faults out.new)) }
 {
-    match status {
-        Status::Done | Status::Refusals => Ok(()),
-        Status::Memory => write_plain(b"migrate: 10 out of memory\n", out),
-        Status::FolderFault { done } => write_counted(
-            b"migrate: 11 folder fault done=",
-            *done,
-            out,
-        ),
-        Status::LedgerFault { done } => write_counted(
-            b"migrate: 12 ledger fault done=",
-            *done,
-            out,
-        ),
-        Status::OutputFault => write_plain(b"migrate: 13 output fault\n", out),
-        Status::Usage => write_plain(USAGE, out),
-        Status::NestedRoots { first, second } => write_pair(
-            b"migrate: 21 nested roots ",
-            first,
-            second,
-            out,
-        ),
-        Status::BadRules(fault) => write_rule_fault(fault, out),
-        Status::Limit { kind, path } => write_limit(*kind, path, out),
-        Status::PathClash { first, second } => write_pair(
-            b"migrate: 24 path clash ",
-            first,
-            second,
-            out,
-        ),
-        Status::OtherRun { kept, wanted } => write_other_run(kept, wanted, out),
-    }
-}
-
-/// Writes this text.
-pub(crate) fn write_plain<O: Sink>(text: &[u8], out: &mut O) -> Result<(), SinkFault>
-    ensures ok { OnOk result (O.told out.new ≡ writing text.now (O.told out.old)) }
-    ensures err { OnErr result (WritesFront text.now (O.told out.old) (O.told out.new)) }
-    ensures counts { O.faults out.old ≤ O.faults out.new }
-    ensures failed { OnErr result (Rose (O.faults out.old) (O.faults out.new)) }
-{
-    out.write(text)
-}
-
-/// Writes a line of this text and a number.
-fn write_counted<O: Sink>(text: &[u8], count: u32, out: &mut O) -> Result<(), SinkFault>
-    ensures ok { OnOk result (O.told out.new ≡ writing (joined (text.now ∷ decimal count ∷ codes "\n" ∷ [])) (O.told out.old)) }
-    ensures err { OnErr result (WritesFront (joined (text.now ∷ decimal count ∷ codes "\n" ∷ [])) (O.told out.old) (O.told out.new)) }
-    ensures counts { O.faults out.old ≤ O.faults out.new }
-    ensures failed { OnErr result (Rose (O.faults out.old) (O.faults out.new)) }
-{
-    write_pieces(
-        out,
-        &[
-            Piece::Plain(text),
-            Piece::Number(count as u64),
-            Piece::Plain(b"\n"),
-        ],
-    )
-}
-
-/// Writes the line of a limit that is passed.
-fn write_limit<'x, O: Sink>(kind: LimitKind, path: &'x Text, out: &mut O) -> Result<(), SinkFault>
-    ensures ok { OnOk result (O.told out.new ≡ writing (fault_text (case.Limit kind path.now)) (O.told out.old)) }
-    ensures err { OnErr result (WritesFront (fault_text (case.Limit kind path.now)) (O.told out.old) (O.told out.new)) }
-    ensures counts { O.faults out.old ≤ O.faults out.new }
-    ensures failed { OnErr result (Rose (O.faults out.old) (O.faults out.new)) }
-{
-    write_pieces(
-        out,
-        &[
-            Piece::Plain(b"migrate: 23 limit "),
-            Piece::Plain(kind.name()),
-            Piece::Plain(b" "),
-            Piece::Shown(path.as_bytes()),
-            Piece::Plain(b"\n"),
-        ],
-    )
-}
-
-/// Writes a line of this text and two shown texts.
-pub(crate) fn write_pair<'x, O: Sink>(
-    text: &'x [u8],
-    first: &'x Text,
-    second: &'x Text,
-    out: &mut O,
-) -> Result<(), SinkFault>
-    ensures ok { OnOk result (O.told out.new ≡ writing (joined (pair_pieces text.now first.now second.now)) (O.told out.old)) }
-    ensures err { OnErr result (WritesFront (joined (pair_pieces text.now first.now second.now)) (O.told out.old) (O.told out.new)) }
-    ensures counts { O.faults out.old ≤ O.faults out.new }
-    ensures failed { OnErr result (Rose (O.faults out.old) (O.faults out.new)) }
-{
-    write_pieces(
-        out,
-        &[
-            Piece::Plain(text),
-            Piece::Shown(first.as_bytes()),
-            Piece::Plain(b" "),
-            Piece::Shown(second.as_bytes()),
-            Piece::Plain(b"\n"),
-        ],
-    )
-}
-
-/// Writes the line of a ledger that belongs to another run.
-fn write_other_run<'x, O: Sink>(
-    kept: &'x Header,
-    wanted: &'x Header,
-    out: &mut O,
-) -> Result<(), SinkFault>
-    ensures ok { OnOk result (O.told out.new ≡ writing (fault_text (case.OtherRun kept.now wanted.now)) (O.told out.old)) }
-    ensures err { OnErr result (WritesFront (fault_text (case.OtherRun kept.now wanted.now)) (O.told out.old) (O.told out.new)) }
-    ensures counts { O.faults out.old ≤ O.faults out.new }
-    ensures failed { OnErr result (Rose (O.faults out.old) (O.faults out.new)) }
-{
-    write_pieces(
-        out,
-        &[
-            Piece::Plain(b"migrate: 27 other run kept "),
-            Piece::Shown(kept.from.as_bytes()),
-            Piece::Plain(b" "),
-            Piece::Shown(kept.to.as_bytes()),
-            Piece::Plain(b" "),
-            Piece::Hex(&kept.rules.0),
-            Piece::Plain(b" wanted "),
-            Piece::Shown(wanted.from.as_bytes()),
-            Piece::Plain(b" "),
-            Piece::Shown(wanted.to.as_bytes()),
-            Piece::Plain(b" "),
-            Piece::Hex(&wanted.rules.0),
-            Piece::Plain(b"\n"),
-        ],
-    )
+    write_pieces(out, status.pieces().as_slice())
 }

@@ -1,3 +1,4 @@
+pub mod Forms
 pub mod Tables
 pub mod Described
 pub mod Wanting
@@ -7,3 +8,4 @@ pub mod Refusing
 pub mod Unchanged
 pub mod Printed
 pub mod Making
+pub mod Numbered

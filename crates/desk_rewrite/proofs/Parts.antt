@@ -2,17 +2,18 @@
 use Rattle.std.proofs.Common.{◌≡◌, ℕ, zero, suc, ◌+◌, ◌*◌, ◌<◌, ◌≤◌, ◌^◌, false, List, [], ◌∷◌, ◌++◌, length, take, drop, Option, Some, None, Result, Ok, Err, refl, ap, ap₂, sym, ◌∙◌, subst, append-nil, lit≤, arith}
 use Rattle.std.specs.List.{AllByRecursion}
 use Rattle.std.proofs.lemmas.List.{length-append, drop_at}
+use Rattle.desk_base.specs.Limits.{file_size}
 use Rattle.desk_base.specs.declared.faults.Malformed.{Malformed}
 use Rattle.desk_base.specs.declared.kinds.Used.{Used}
 use Rattle.desk_base.specs.Entries.{Entry, Pool}
 use Rattle.desk_base.specs.Misfits.{or_else}
-use Rattle.desk_base.specs.Targets.{Link, links}
+use Rattle.desk_base.specs.Referents.{Link, links}
 use Rattle.desk_format.specs.Classes.{Class, magic, read_class, class_fault, fault_in, class_uses, entries_at, twins_in}
 use Rattle.desk_format.specs.Exchange.{patch}
 use Rattle.desk_format.specs.Laws.{IsBytes}
 use Rattle.desk_format.specs.PoolBytes.{two, size, print_slots, print_pool, uses_among, pool_uses}
 use Rattle.desk_format.specs.PoolReading.{Got, number_read, counted, checked, unless, read_slots, read_pool, first_fault, names_wrong, leads_wrong}
-use Rattle.desk_format.specs.Servlet.{list_in, uses_in}
+use Rattle.desk_format.specs.Classes.{list_in, uses_in}
 use Rattle.desk_format.specs.Trees.{print, uses, uses_of, text_in_role}
 use Rattle.desk_format.proofs.Exact.{IsBytes-drop}
 use Rattle.desk_laws.specs.Classes.{IsPrintedClass}
@@ -22,8 +23,8 @@ use Rattle.desk_laws.proofs.Header.{ClassParts, class_ok, AfterThen, then_ok}
 use Rattle.desk_laws.proofs.Inverse.{Gives, Ensures, Slots, Awaits, index_ensures, slots_ensure}
 use Rattle.desk_laws.proofs.Whole.{printed_classes}
 use Rattle.desk_class.specs.Parts.{pool_in, body_at_of, body_at_in}
-use Rattle.desk_split.specs.Printing.{Stands}
-use Rattle.desk_split.proofs.Bodies.{Ahead, ahead, stand_tree}
+use Rattle.desk_new_pool.specs.Printing.{Stands}
+use Rattle.desk_new_pool.proofs.Bodies.{Ahead, ahead, stand_tree}
 
 -- ---- the class of bytes without a fault
 
@@ -132,10 +133,10 @@ one_use (Some u) = lit≤ tt
 among_few : (at : ℕ) (ls : List Link) → length (uses_among at ls) ≤ length ls
 among_few at [] = lit≤ tt
 among_few at (l ∷ ls) =
-    let o : Option Used = text_in_role l.target (at + l.behind) l.index in
-    let whole : length (uses_of (text_in_role l.target (at + l.behind) l.index) ++ uses_among at ls) ≡ length (uses_of (text_in_role l.target (at + l.behind) l.index)) + length (uses_among at ls)
-    = length-append (uses_of (text_in_role l.target (at + l.behind) l.index)) (uses_among at ls) in
-    omega (arith, one_use (text_in_role l.target (at + l.behind) l.index), among_few at ls)
+    let o : Option Used = text_in_role l.referent (at + l.behind) l.index in
+    let whole : length (uses_of (text_in_role l.referent (at + l.behind) l.index) ++ uses_among at ls) ≡ length (uses_of (text_in_role l.referent (at + l.behind) l.index)) + length (uses_among at ls)
+    = length-append (uses_of (text_in_role l.referent (at + l.behind) l.index)) (uses_among at ls) in
+    omega (arith, one_use (text_in_role l.referent (at + l.behind) l.index), among_few at ls)
 
 links_few : (e : Entry) → length (links e) ≤ 2
 links_few (Entry.utf8 t) = lit≤ tt
@@ -148,7 +149,7 @@ uses_few at (Some e ∷ slots) =
     let whole : length (uses_among at (links e) ++ pool_uses (at + size e) slots) ≡ length (uses_among at (links e)) + length (pool_uses (at + size e) slots) = length-append (uses_among at (links e)) (pool_uses (at + size e) slots) in
     omega (arith, among_few at (links e), links_few e, uses_few (at + size e) slots)
 
-pub class_few : (bytes : List ℕ) (c : Class) → IsPrintedClass bytes c → length bytes ≤ 67108864 → length (class_uses c) < 2 ^ 32
+pub class_few : (bytes : List ℕ) (c : Class) → IsPrintedClass bytes c → length bytes ≤ file_size → length (class_uses c) < 2 ^ 32
 class_few bytes c p short =
     let whole : length (pool_uses entries_at c.pool ++ uses c.body) ≡ length (pool_uses entries_at c.pool) + length (uses c.body) = length-append (pool_uses entries_at c.pool) (uses c.body) in
     let pool : length (pool_uses entries_at c.pool) ≤ 2 * length c.pool = uses_few entries_at c.pool in
@@ -172,7 +173,7 @@ pub record IsKnown (bytes : List ℕ) : Type 0 where
   pub entries : (more : List ℕ) × (drop 10 bytes ≡ print_slots (pool_in bytes) ++ more)
   pub stands : Stands (body_at_in bytes) (drop (body_at_in bytes) bytes) (drop (length (pool_uses entries_at (pool_in bytes))) (uses_in bytes))
   pub named : AllByRecursion (NamesText (pool_in bytes)) (uses_in bytes)
-  pub few : length bytes ≤ 67108864 → length (uses_in bytes) < 2 ^ 32
+  pub few : length bytes ≤ file_size → length (uses_in bytes) < 2 ^ 32
 
 known_by : (bytes : List ℕ) (c : Class) → read_class bytes ≡ Ok c → IsPrintedClass bytes c → IsKnown bytes
 known_by bytes c e p =

@@ -11,8 +11,8 @@ use Rattle.desk_format.specs.PoolBytes.{print_pool, pool_uses}
 use Rattle.desk_format.specs.Resolved.{Images}
 use Rattle.desk_format.specs.Split.{Want, split}
 use Rattle.desk_format.specs.Trees.{uses}
-use Rattle.desk_split.specs.Keeps.{TextsAre}
-use Rattle.desk_split.specs.declared.new_texts.NewTexts.{NewTexts}
+use Rattle.desk_new_pool.specs.Keeps.{TextsAre}
+use Rattle.desk_new_pool.specs.declared.new_texts.NewTexts.{NewTexts}
 use Rattle.desk_rewrite.specs.Wanting.{IsNewTexts}
 use Rattle.desk_rewrite.proofs.Parts.{body_uses}
 

@@ -6,11 +6,11 @@ use Rattle.desk_format.specs.Classes.{Class, class_uses}
 use Rattle.desk_format.specs.NewClass.{Refusal, overlong_in, full_in, renamed_in, twins_refusal, twins_of, refusal}
 use Rattle.desk_format.specs.NewPool.{wants}
 use Rattle.desk_format.specs.Resolved.{Images}
-use Rattle.desk_split.specs.Refusals.{Refuses, split_refusal}
-use Rattle.desk_split.specs.Twins.{places_of}
-use Rattle.desk_split.specs.declared.new_texts.SplitFault.{SplitFault}
-use Rattle.desk_split.specs.declared.new_texts.SplitFault.TheVariants as split_faults
-use Rattle.desk_split.specs.declared.twins.TwinPlaces.{TwinPlaces}
+use Rattle.desk_new_pool.specs.Refusals.{Refuses, pool_refusal}
+use Rattle.desk_new_pool.specs.Twins.{places_of}
+use Rattle.desk_new_pool.specs.declared.new_texts.NewPoolFault.{NewPoolFault}
+use Rattle.desk_new_pool.specs.declared.new_texts.NewPoolFault.TheVariants as pool_faults
+use Rattle.desk_new_pool.specs.declared.twins.TwinPlaces.{TwinPlaces}
 use Rattle.desk_rewrite.specs.Refused.{fault_of}
 use Rattle.desk_rewrite.specs.Refused.{Refuses as Stands}
 
@@ -28,12 +28,12 @@ third (Some x) b t h = absurd cc
 
 -- ---- refusals of the texts
 
-fault_stands : (fault : SplitFault) (a b t : Option Refusal) → Refuses fault (or_else a b) → Stands (fault_of fault) (or_else a (or_else b t))
-fault_stands (split_faults.Overlong index length) a b t h = first_two a b t (Refusal.overlong index length) h
-fault_stands (split_faults.PoolFull count needed) a b t h = first_two a b t (Refusal.pool_full count needed) h
-fault_stands split_faults.Memory a b t h = tt
+fault_stands : (fault : NewPoolFault) (a b t : Option Refusal) → Refuses fault (or_else a b) → Stands (fault_of fault) (or_else a (or_else b t))
+fault_stands (pool_faults.Overlong index length) a b t h = first_two a b t (Refusal.overlong index length) h
+fault_stands (pool_faults.PoolFull count needed) a b t h = first_two a b t (Refusal.pool_full count needed) h
+fault_stands pool_faults.Memory a b t h = tt
 
-pub split_stands : (im : Images) (c : Class) (fault : SplitFault) → Refuses fault (split_refusal c.pool (wants im c.pool (class_uses c))) → Stands (fault_of fault) (refusal im c)
+pub split_stands : (im : Images) (c : Class) (fault : NewPoolFault) → Refuses fault (pool_refusal c.pool (wants im c.pool (class_uses c))) → Stands (fault_of fault) (refusal im c)
 split_stands im c fault h = fault_stands fault (overlong_in im c) (full_in im c) (twins_of im c) h
 
 -- ---- twins
@@ -46,10 +46,10 @@ twins_none : (o : Option Twins) → None ≡ option_map places_of o → twins_re
 twins_none None h = refl
 twins_none (Some t) h = absurd cc
 
-pub twins_stand : (im : Images) (c : Class) (p : TwinPlaces) → split_refusal c.pool (wants im c.pool (class_uses c)) ≡ None → Some p ≡ option_map places_of (first_twins (renamed_in im c.pool) (members c.body)) → refusal im c ≡ Some (Refusal.twins p.first p.second)
+pub twins_stand : (im : Images) (c : Class) (p : TwinPlaces) → pool_refusal c.pool (wants im c.pool (class_uses c)) ≡ None → Some p ≡ option_map places_of (first_twins (renamed_in im c.pool) (members c.body)) → refusal im c ≡ Some (Refusal.twins p.first p.second)
 twins_stand im c p none h = third (overlong_in im c) (full_in im c) (twins_of im c) none ∙ twins_some (first_twins (renamed_in im c.pool) (members c.body)) p h
 
-pub none_stands : (im : Images) (c : Class) → split_refusal c.pool (wants im c.pool (class_uses c)) ≡ None → None ≡ option_map places_of (first_twins (renamed_in im c.pool) (members c.body)) → refusal im c ≡ None
+pub none_stands : (im : Images) (c : Class) → pool_refusal c.pool (wants im c.pool (class_uses c)) ≡ None → None ≡ option_map places_of (first_twins (renamed_in im c.pool) (members c.body)) → refusal im c ≡ None
 none_stands im c none h = third (overlong_in im c) (full_in im c) (twins_of im c) none ∙ twins_none (first_twins (renamed_in im c.pool) (members c.body)) h
 
 pub none_or : {A : Type 0} (o : Option A) → ((x : A) → o ≡ Some x → ⊥) → o ≡ None

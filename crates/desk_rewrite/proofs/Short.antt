@@ -12,8 +12,8 @@ use Rattle.desk_format.specs.Split.{Want, wanted, holds, keep, kept_entry, kept,
 use Rattle.desk_laws.specs.Sound.{IsTwoBytes, IsSound, IsShaped}
 use Rattle.desk_laws.proofs.Bodies.{all_append}
 use Rattle.desk_laws.proofs.Slots.{length-kept}
-use Rattle.desk_split.specs.Keeps.{TextsAre}
-use Rattle.desk_split.specs.Printing.{IsShortText}
+use Rattle.desk_new_pool.specs.Keeps.{TextsAre}
+use Rattle.desk_new_pool.specs.Printing.{IsShortText}
 
 abbrev pub IsShort : Text → Type 0
 IsShort t = IsTwoBytes (length t)

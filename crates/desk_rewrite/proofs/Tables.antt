@@ -15,33 +15,33 @@ use Rattle.desk_base.specs.declared.kinds.Role.{Role}
 use Rattle.desk_base.specs.declared.kinds.Role.TheVariants as roles
 use Rattle.desk_base.specs.declared.kinds.Used.{Used}
 use Rattle.desk_format.specs.Resolved.{Images}
-use Rattle.desk_rewrite.specs.declared.table.Kind.{Kind}
-use Rattle.desk_rewrite.specs.declared.table.Kind.TheVariants as kinds
-use Rattle.desk_rewrite.specs.contracts.table.KindOrd.TheImpl.{ghosts as kind_order}
-use Rattle.desk_rewrite.specs.Tables.{rank, kind_of, Key, key_cmp, Table, answer_at, IsAnswer, IsSoundTable, has_kind, has_image, Grows, found, Finds, HasImages}
+use Rattle.desk_rewrite.specs.declared.table.TextRole.{TextRole}
+use Rattle.desk_rewrite.specs.declared.table.TextRole.TheVariants as text_roles
+use Rattle.desk_rewrite.specs.contracts.table.TextRoleOrd.TheImpl.{ghosts as text_role_order}
+use Rattle.desk_rewrite.specs.Tables.{rank, text_role_of, Key, key_cmp, Table, answer_at, IsAnswer, IsSoundTable, has_text_role, has_image, Grows, found, Finds, HasImages}
 
 -- ---- equal keys
 
-abbrev kind_at : ℕ → Kind
-kind_at zero = kinds.Class
-kind_at (suc zero) = kinds.Package
-kind_at (suc (suc zero)) = kinds.Descriptor
-kind_at (suc (suc (suc zero))) = kinds.ClassSig
-kind_at (suc (suc (suc (suc zero)))) = kinds.MethodSig
-kind_at (suc (suc (suc (suc (suc zero))))) = kinds.FieldSig
-kind_at _ = kinds.Str
+abbrev role_at : ℕ → TextRole
+role_at zero = text_roles.Class
+role_at (suc zero) = text_roles.Package
+role_at (suc (suc zero)) = text_roles.Descriptor
+role_at (suc (suc (suc zero))) = text_roles.ClassSig
+role_at (suc (suc (suc (suc zero)))) = text_roles.MethodSig
+role_at (suc (suc (suc (suc (suc zero))))) = text_roles.FieldSig
+role_at _ = text_roles.Str
 
-kind_at-rank : (k : Kind) → kind_at (rank k) ≡ k
-kind_at-rank kinds.Class = refl
-kind_at-rank kinds.Package = refl
-kind_at-rank kinds.Descriptor = refl
-kind_at-rank kinds.ClassSig = refl
-kind_at-rank kinds.MethodSig = refl
-kind_at-rank kinds.FieldSig = refl
-kind_at-rank kinds.Str = refl
+role_at-rank : (k : TextRole) → role_at (rank k) ≡ k
+role_at-rank text_roles.Class = refl
+role_at-rank text_roles.Package = refl
+role_at-rank text_roles.Descriptor = refl
+role_at-rank text_roles.ClassSig = refl
+role_at-rank text_roles.MethodSig = refl
+role_at-rank text_roles.FieldSig = refl
+role_at-rank text_roles.Str = refl
 
-rank_same : (a b : Kind) → nat_cmp (rank a) (rank b) ≡ Equal → a ≡ b
-rank_same a b e = sym (kind_at-rank a) ∙ ap kind_at (exact_unsigned (rank a) (rank b) e) ∙ kind_at-rank b
+rank_same : (a b : TextRole) → nat_cmp (rank a) (rank b) ≡ Equal → a ≡ b
+rank_same a b e = sym (role_at-rank a) ∙ ap role_at (exact_unsigned (rank a) (rank b) e) ∙ role_at-rank b
 
 is_equal : (r : Ordering) → is_eq r ≡ true → r ≡ Equal
 is_equal Less h = absurd cc
@@ -49,32 +49,32 @@ is_equal Equal h = refl
 is_equal Greater h = absurd cc
 
 key_same : (x y : Key) → is_eq (key_cmp x y) ≡ true → x ≡ y
-key_same x y h = exact_pairs nat_cmp (λ (a b : Kind). nat_cmp (rank a) (rank b)) exact_unsigned rank_same x y (is_equal (key_cmp x y) h)
+key_same x y h = exact_pairs nat_cmp (λ (a b : TextRole). nat_cmp (rank a) (rank b)) exact_unsigned rank_same x y (is_equal (key_cmp x y) h)
 
 -- ---- the order of the code
 
-kind_is : (a b : Kind) → kind_order.cmp a b ≡ nat_cmp (rank a) (rank b)
-kind_is kinds.Class kinds.Class = refl
-kind_is kinds.Class _ = refl
-kind_is kinds.Package kinds.Class = refl
-kind_is kinds.Package _ = refl
-kind_is kinds.Descriptor kinds.Class = refl
-kind_is kinds.Descriptor _ = refl
-kind_is kinds.ClassSig kinds.Class = refl
-kind_is kinds.ClassSig _ = refl
-kind_is kinds.MethodSig kinds.Class = refl
-kind_is kinds.MethodSig _ = refl
-kind_is kinds.FieldSig kinds.Class = refl
-kind_is kinds.FieldSig _ = refl
-kind_is kinds.Str kinds.Class = refl
-kind_is kinds.Str _ = refl
+text_role_is : (a b : TextRole) → text_role_order.cmp a b ≡ nat_cmp (rank a) (rank b)
+text_role_is text_roles.Class text_roles.Class = refl
+text_role_is text_roles.Class _ = refl
+text_role_is text_roles.Package text_roles.Class = refl
+text_role_is text_roles.Package _ = refl
+text_role_is text_roles.Descriptor text_roles.Class = refl
+text_role_is text_roles.Descriptor _ = refl
+text_role_is text_roles.ClassSig text_roles.Class = refl
+text_role_is text_roles.ClassSig _ = refl
+text_role_is text_roles.MethodSig text_roles.Class = refl
+text_role_is text_roles.MethodSig _ = refl
+text_role_is text_roles.FieldSig text_roles.Class = refl
+text_role_is text_roles.FieldSig _ = refl
+text_role_is text_roles.Str text_roles.Class = refl
+text_role_is text_roles.Str _ = refl
 
 -- the order of keys, as the code compares them
 abbrev code_cmp : Key → Key → Ordering
-code_cmp x y = ordering_then (nat_cmp x.0 y.0) (kind_order.cmp x.1 y.1)
+code_cmp x y = ordering_then (nat_cmp x.0 y.0) (text_role_order.cmp x.1 y.1)
 
 cmp_is : (x y : Key) → code_cmp x y ≡ key_cmp x y
-cmp_is x y = ap (ordering_then (nat_cmp x.0 y.0)) (kind_is x.1 y.1)
+cmp_is x y = ap (ordering_then (nat_cmp x.0 y.0)) (text_role_is x.1 y.1)
 
 lookup_same : (p q : Key → Bool) (es : List (Key × Option Text)) → ((k : Key) → p k ≡ q k) → lookup p es ≡ lookup q es
 lookup_same p q [] h = refl
@@ -131,15 +131,15 @@ finds_by im pool table key (Some a) s e h = s key a e
 finds_key : (im : Images) (pool : Pool) (table : Table) (key : Key) → IsSoundTable im pool table → is_some (answer_at table key) ≡ true → IsAnswer im pool key (found (answer_at table key))
 finds_key im pool table key s h = finds_by im pool table key (answer_at table key) s refl h
 
-finds : (im : Images) (pool : Pool) (table : Table) (role : Role) (i : ℕ) → IsSoundTable im pool table → has_kind table i (kind_of role) ≡ true → Finds im pool table role i
-finds im pool table roles.Class i s h = finds_key im pool table (i, kinds.Class) s h
-finds im pool table roles.Package i s h = finds_key im pool table (i, kinds.Package) s h
+finds : (im : Images) (pool : Pool) (table : Table) (role : Role) (i : ℕ) → IsSoundTable im pool table → has_text_role table i (text_role_of role) ≡ true → Finds im pool table role i
+finds im pool table roles.Class i s h = finds_key im pool table (i, text_roles.Class) s h
+finds im pool table roles.Package i s h = finds_key im pool table (i, text_roles.Package) s h
 finds im pool table roles.Module i s h = refl
-finds im pool table roles.Descriptor i s h = finds_key im pool table (i, kinds.Descriptor) s h
-finds im pool table roles.ClassSig i s h = finds_key im pool table (i, kinds.ClassSig) s h
-finds im pool table roles.MethodSig i s h = finds_key im pool table (i, kinds.MethodSig) s h
-finds im pool table roles.FieldSig i s h = finds_key im pool table (i, kinds.FieldSig) s h
-finds im pool table roles.Str i s h = finds_key im pool table (i, kinds.Str) s h
+finds im pool table roles.Descriptor i s h = finds_key im pool table (i, text_roles.Descriptor) s h
+finds im pool table roles.ClassSig i s h = finds_key im pool table (i, text_roles.ClassSig) s h
+finds im pool table roles.MethodSig i s h = finds_key im pool table (i, text_roles.MethodSig) s h
+finds im pool table roles.FieldSig i s h = finds_key im pool table (i, text_roles.FieldSig) s h
+finds im pool table roles.Str i s h = finds_key im pool table (i, text_roles.Str) s h
 finds im pool table roles.Plain i s h = refl
 finds im pool table roles.AttrName i s h = refl
 
@@ -152,9 +152,9 @@ or_right : (a b : Bool) → b ≡ true → (a || b) ≡ true
 or_right true b h = refl
 or_right false b h = h
 
-kind_more : (old new : Table) (key : Key) → Grows old key new → (i : ℕ) (o : Option Kind) → has_kind old i o ≡ true → has_kind new i o ≡ true
-kind_more old new key g i None h = refl
-kind_more old new key g i (Some k) h = g (i, k) ∙ or_right (is_eq (key_cmp key (i, k))) (is_some (answer_at old (i, k))) h
+text_role_more : (old new : Table) (key : Key) → Grows old key new → (i : ℕ) (o : Option TextRole) → has_text_role old i o ≡ true → has_text_role new i o ≡ true
+text_role_more old new key g i None h = refl
+text_role_more old new key g i (Some k) h = g (i, k) ∙ or_right (is_eq (key_cmp key (i, k))) (is_some (answer_at old (i, k))) h
 
 -- the key itself
 number_self : (n : ℕ) → nat_cmp n n ≡ Equal
@@ -163,17 +163,17 @@ number_self n = rw (le-ltb n n (omega arith), eq-eqb n n refl) refl
 key_self : (key : Key) → is_eq (key_cmp key key) ≡ true
 key_self key = ap (λ (r : Ordering). is_eq (ordering_then r (nat_cmp (rank key.1) (rank key.1)))) (number_self key.0) ∙ ap is_eq (number_self (rank key.1))
 
-pub next_has : (old new : Table) (us : List Used) (i : ℕ) (d : Used) (k : Kind) → i < length us → kind_of (get_or us i d).role ≡ Some k → Grows old ((get_or us i d).index, k) new → All (λ (u : Used). has_image old u ≡ true) (take i us)
+pub next_has : (old new : Table) (us : List Used) (i : ℕ) (d : Used) (k : TextRole) → i < length us → text_role_of (get_or us i d).role ≡ Some k → Grows old ((get_or us i d).index, k) new → All (λ (u : Used). has_image old u ≡ true) (take i us)
     → All (λ (u : Used). has_image new u ≡ true) (take (i + 1) us)
 next_has old new us i d k lt is g h =
     let u : Used = get_or us i d in
-    let here : has_image new u ≡ true = ap (has_kind new u.index) is ∙ g (u.index, k) ∙ ap (λ (b : Bool). b || is_some (answer_at old (u.index, k))) (key_self (u.index, k)) in
+    let here : has_image new u ≡ true = ap (has_text_role new u.index) is ∙ g (u.index, k) ∙ ap (λ (b : Bool). b || is_some (answer_at old (u.index, k))) (key_self (u.index, k)) in
     All-more (λ (u : Used). has_image new u ≡ true) us i d lt
-    (All-weaker (λ (u : Used). has_image old u ≡ true) (λ (u : Used). has_image new u ≡ true) (λ v e. kind_more old new (u.index, k) g v.index (kind_of v.role) e) (take i us) h) here
+    (All-weaker (λ (u : Used). has_image old u ≡ true) (λ (u : Used). has_image new u ≡ true) (λ v e. text_role_more old new (u.index, k) g v.index (text_role_of v.role) e) (take i us) h) here
 
-pub next_passed : (table : Table) (us : List Used) (i : ℕ) (d : Used) → i < length us → kind_of (get_or us i d).role ≡ None → All (λ (u : Used). has_image table u ≡ true) (take i us) → All (λ (u : Used). has_image table u ≡ true) (take (i + 1) us)
-next_passed table us i d lt is h = All-more (λ (u : Used). has_image table u ≡ true) us i d lt h (ap (has_kind table (get_or us i d).index) is)
+pub next_passed : (table : Table) (us : List Used) (i : ℕ) (d : Used) → i < length us → text_role_of (get_or us i d).role ≡ None → All (λ (u : Used). has_image table u ≡ true) (take i us) → All (λ (u : Used). has_image table u ≡ true) (take (i + 1) us)
+next_passed table us i d lt is h = All-more (λ (u : Used). has_image table u ≡ true) us i d lt h (ap (has_text_role table (get_or us i d).index) is)
 
-pub none_of : (o : Option Kind) → ((k : Kind) → o ≡ Some k → ⊥) → o ≡ None
+pub none_of : (o : Option TextRole) → ((k : TextRole) → o ≡ Some k → ⊥) → o ≡ None
 none_of None h = refl
 none_of (Some k) h = absurd (h k refl)

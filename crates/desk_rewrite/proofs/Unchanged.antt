@@ -12,7 +12,7 @@ use Rattle.desk_format.specs.Classes.{Class, class_uses, entries_at}
 use Rattle.desk_format.specs.Exchange.{patch}
 use Rattle.desk_format.specs.Members.{first_twins, named_in, members}
 use Rattle.desk_format.specs.NewClass.{new_bytes, pool_of, change_of, renamed_in, twins_refusal, refusal, overlong_in, full_in, twins_of}
-use Rattle.desk_format.specs.NewPool.{wish, wants, choice, added}
+use Rattle.desk_format.specs.NewPool.{want_in_role, wants, choice, added}
 use Rattle.desk_format.specs.PoolBytes.{print_pool, pool_uses}
 use Rattle.desk_format.specs.Resolved.{Images}
 use Rattle.desk_format.specs.Split.{Want}
@@ -67,7 +67,7 @@ module _ (im : Images) (bytes : List ℕ) (c : Class) (f : IsFound bytes c) (own
 
   same_descriptor : (i : ℕ) → HasUse (class_uses c) roles.Descriptor i → im.desc (text_at c.pool i) ≡ text_at c.pool i
   same_descriptor i h =
-      let o : Own c.pool (wish im c.pool roles.Descriptor i) = own_at c.pool (wants im c.pool (class_uses c)) (wish im c.pool roles.Descriptor i) own (is_want im c.pool (class_uses c) roles.Descriptor i h) in
+      let o : Own c.pool (want_in_role im c.pool roles.Descriptor i) = own_at c.pool (wants im c.pool (class_uses c)) (want_in_role im c.pool roles.Descriptor i) own (is_want im c.pool (class_uses c) roles.Descriptor i h) in
       sym (ap text_in o.names)
 
   same_members : (ms : List Member) → AllByRecursion (Described (class_uses c)) ms → Alike (named_in c.pool) (renamed_in im c.pool) ms ms

@@ -7,25 +7,25 @@ use Rattle.std.proofs.lemmas.List.Elements.{All-head, All-tail, All-cons, All-ni
 use Rattle.std.proofs.lemmas.List.Sums.{sum_by-cons}
 use Rattle.std.proofs.lemmas.Slice.Eq.{bytes_eq-Decides}
 use Rattle.desk_base.specs.Names.{Text}
-use Rattle.desk_base.specs.Targets.{fits}
+use Rattle.desk_base.specs.Referents.{fits}
 use Rattle.std.proofs.lemmas.List.{length-map}
-use Rattle.desk_split.proofs.Texts.{entry_of_text}
+use Rattle.desk_new_pool.proofs.Texts.{entry_of_text}
 use Rattle.desk_base.specs.Entries.{Entry, utf8, tag_of, Pool, entry_at, utf8_in, text_in, text_at}
 use Rattle.desk_base.specs.declared.kinds.Used.{Used}
 use Rattle.desk_base.specs.Utf8.{bad_form}
 use Rattle.desk_format.specs.Resolved.{Images, image}
 use Rattle.desk_format.specs.Split.{Want}
-use Rattle.desk_format.specs.NewPool.{wish, wants}
+use Rattle.desk_format.specs.NewPool.{want_in_role, wants}
 use Rattle.desk_rules.specs.Images.{IsImage}
 use Rattle.desk_laws.specs.Sound.{IsTwoBytes, IsShaped}
 use Rattle.desk_laws.proofs.Bodies.{NamesText, sound_at}
 use Rattle.desk_laws.proofs.Moved.{any_text, is_utf8}
 use Rattle.desk_laws.proofs.Stable.{Own}
-use Rattle.desk_split.proofs.Wanted.{other}
-use Rattle.desk_split.specs.Wishes.{image_or, want_of, wants_of, Differs, IsWish}
-use Rattle.desk_split.specs.declared.wishes.Wish.{Wish}
+use Rattle.desk_new_pool.proofs.Wanted.{other}
+use Rattle.desk_new_pool.specs.Wants.{image_or, want_of, wants_of, Differs, IsWanted}
+use Rattle.desk_new_pool.specs.declared.wants.WantedText.{WantedText}
 use Rattle.desk_rewrite.specs.Counts.{is_renamed}
-use Rattle.desk_rewrite.specs.Wanting.{used_in, has_other, IsWishOf}
+use Rattle.desk_rewrite.specs.Wanting.{used_in, has_other, IsWantedUnder}
 
 -- ---- wants
 
@@ -36,17 +36,17 @@ image_is own image (Some t) h = h.0
 abbrev wanted_text : ℕ → Text → Want
 wanted_text i t = record { index = i; text = t }
 
-want_same : (im : Images) (pool : Pool) (w : Wish) → IsWishOf im pool w → want_of pool w ≡ wish im pool w.used.role w.used.index
+want_same : (im : Images) (pool : Pool) (w : WantedText) → IsWantedUnder im pool w → want_of pool w ≡ want_in_role im pool w.used.role w.used.index
 want_same im pool w h = ap (wanted_text w.used.index) (image_is (text_at pool w.used.index) (image im w.used.role (text_at pool w.used.index)) w.image h)
 
-wants_same : (im : Images) (pool : Pool) (ws : List Wish) → All (IsWishOf im pool) ws → wants_of pool ws ≡ wants im pool (map used_in ws)
+wants_same : (im : Images) (pool : Pool) (ws : List WantedText) → All (IsWantedUnder im pool) ws → wants_of pool ws ≡ wants im pool (map used_in ws)
 wants_same im pool [] h = refl
-wants_same im pool (w ∷ ws) h = ap₂ (λ (v : Want) (vs : List Want). v ∷ vs) (want_same im pool w (All-head (IsWishOf im pool) w ws h)) (wants_same im pool ws (All-tail (IsWishOf im pool) w ws h))
+wants_same im pool (w ∷ ws) h = ap₂ (λ (v : Want) (vs : List Want). v ∷ vs) (want_same im pool w (All-head (IsWantedUnder im pool) w ws h)) (wants_same im pool ws (All-tail (IsWantedUnder im pool) w ws h))
 
-pub wants_are : (im : Images) (pool : Pool) (us : List Used) (ws : List Wish) → map used_in ws ≡ us → All (IsWishOf im pool) ws → wants_of pool ws ≡ wants im pool us
+pub wants_are : (im : Images) (pool : Pool) (us : List Used) (ws : List WantedText) → map used_in ws ≡ us → All (IsWantedUnder im pool) ws → wants_of pool ws ≡ wants im pool us
 wants_are im pool us ws e h = wants_same im pool ws h ∙ ap (wants im pool) e
 
--- ---- wishes
+-- ---- wants
 
 text_is : (pool : Pool) (i : ℕ) (t : Text) → entry_at pool i ≡ Some (utf8 t) → text_at pool i ≡ t
 text_is pool i t e = ap text_in e
@@ -55,8 +55,8 @@ differs : (own image : Text) (o : Option (Bor Text)) → IsImage own image (opti
 differs own image None h = tt
 differs own image (Some t) h = λ e. h.1 (sym (h.0) ∙ e)
 
-is_wish : (im : Images) (pool : Pool) (w : Wish) → IsShaped false pool → NamesText pool w.used → IsWishOf im pool w → IsWish pool w
-is_wish im pool w shaped named h =
+is_wanted_text : (im : Images) (pool : Pool) (w : WantedText) → IsShaped false pool → NamesText pool w.used → IsWantedUnder im pool w → IsWanted pool w
+is_wanted_text im pool w shaped named h =
     let p = is_utf8 (entry_at pool w.used.index) named in
     let sound : IsTwoBytes (length p.0) × (bad_form p.0 ≡ None) = sound_at false pool w.used.index (utf8 p.0) shaped p.1 in
     let own : text_at pool w.used.index ≡ p.0 = text_is pool w.used.index p.0 p.1 in
@@ -66,10 +66,10 @@ is_wish im pool w shaped named h =
       differs = differs (text_at pool w.used.index) (image im w.used.role (text_at pool w.used.index)) w.image h;
     }
 
-pub are_wishes : (im : Images) (pool : Pool) (ws : List Wish) → IsShaped false pool → AllByRecursion (NamesText pool) (map used_in ws) → All (IsWishOf im pool) ws → All (IsWish pool) ws
-are_wishes im pool [] shaped named h = All-nil (IsWish pool)
-are_wishes im pool (w ∷ ws) shaped named h =
-    All-cons (IsWish pool) w ws (is_wish im pool w shaped (named.0) (All-head (IsWishOf im pool) w ws h)) (are_wishes im pool ws shaped (named.1) (All-tail (IsWishOf im pool) w ws h))
+pub are_wanted : (im : Images) (pool : Pool) (ws : List WantedText) → IsShaped false pool → AllByRecursion (NamesText pool) (map used_in ws) → All (IsWantedUnder im pool) ws → All (IsWanted pool) ws
+are_wanted im pool [] shaped named h = All-nil (IsWanted pool)
+are_wanted im pool (w ∷ ws) shaped named h =
+    All-cons (IsWanted pool) w ws (is_wanted_text im pool w shaped (named.0) (All-head (IsWantedUnder im pool) w ws h)) (are_wanted im pool ws shaped (named.1) (All-tail (IsWantedUnder im pool) w ws h))
 
 -- ---- counts
 
@@ -77,15 +77,15 @@ other_is : (own image : Text) (o : Option (Bor Text)) → IsImage own image (opt
 other_is own image None h = sym (ap not ((bytes_eq-Decides image own).1 h))
 other_is own image (Some t) h = sym (ap not (other image own (h.1)))
 
-renamed_same : (im : Images) (pool : Pool) (ws : List Wish) → All (IsWishOf im pool) ws → count_by has_other ws ≡ count_by (is_renamed im pool) (map used_in ws)
+renamed_same : (im : Images) (pool : Pool) (ws : List WantedText) → All (IsWantedUnder im pool) ws → count_by has_other ws ≡ count_by (is_renamed im pool) (map used_in ws)
 renamed_same im pool [] h = refl
 renamed_same im pool (w ∷ ws) h =
-    sum_by-cons (λ (v : Wish). cond (has_other v) 1 0) w ws
-    ∙ ap₂ (λ (b : Bool) (n : ℕ). cond b 1 0 + n) (other_is (text_at pool w.used.index) (image im w.used.role (text_at pool w.used.index)) w.image (All-head (IsWishOf im pool) w ws h))
-    (renamed_same im pool ws (All-tail (IsWishOf im pool) w ws h))
+    sum_by-cons (λ (v : WantedText). cond (has_other v) 1 0) w ws
+    ∙ ap₂ (λ (b : Bool) (n : ℕ). cond b 1 0 + n) (other_is (text_at pool w.used.index) (image im w.used.role (text_at pool w.used.index)) w.image (All-head (IsWantedUnder im pool) w ws h))
+    (renamed_same im pool ws (All-tail (IsWantedUnder im pool) w ws h))
     ∙ sym (sum_by-cons (λ (u : Used). cond (is_renamed im pool u) 1 0) w.used (map used_in ws))
 
-pub renamed_are : (im : Images) (pool : Pool) (us : List Used) (ws : List Wish) → map used_in ws ≡ us → All (IsWishOf im pool) ws → count_by has_other ws ≡ count_by (is_renamed im pool) us
+pub renamed_are : (im : Images) (pool : Pool) (us : List Used) (ws : List WantedText) → map used_in ws ≡ us → All (IsWantedUnder im pool) ws → count_by has_other ws ≡ count_by (is_renamed im pool) us
 renamed_are im pool us ws e h = renamed_same im pool ws h ∙ ap (count_by (is_renamed im pool)) e
 
 -- ---- where no image is another text
@@ -98,31 +98,31 @@ own_image : (own image : Text) (o : Option (Bor Text)) → is_some o ≡ false �
 own_image own image None e h = h
 own_image own image (Some t) e h = absurd cc
 
-own_want : (im : Images) (pool : Pool) (w : Wish) → has_other w ≡ false → NamesText pool w.used → IsWishOf im pool w → Own pool (wish im pool w.used.role w.used.index)
+own_want : (im : Images) (pool : Pool) (w : WantedText) → has_other w ≡ false → NamesText pool w.used → IsWantedUnder im pool w → Own pool (want_in_role im pool w.used.role w.used.index)
 own_want im pool w e named h =
     let p = is_utf8 (entry_at pool w.used.index) named in
     let own : text_at pool w.used.index ≡ p.0 = text_is pool w.used.index p.0 p.1 in
     let same : image im w.used.role (text_at pool w.used.index) ≡ text_at pool w.used.index = own_image (text_at pool w.used.index) (image im w.used.role (text_at pool w.used.index)) w.image e h in
     record { names = p.1 ∙ ap (λ (t : Text). Some (utf8 t)) (sym own ∙ sym same) }
 
-own_same : (im : Images) (pool : Pool) (ws : List Wish) → count_by has_other ws ≡ 0 → AllByRecursion (NamesText pool) (map used_in ws) → All (IsWishOf im pool) ws → AllByRecursion (Own pool) (wants im pool (map used_in ws))
+own_same : (im : Images) (pool : Pool) (ws : List WantedText) → count_by has_other ws ≡ 0 → AllByRecursion (NamesText pool) (map used_in ws) → All (IsWantedUnder im pool) ws → AllByRecursion (Own pool) (wants im pool (map used_in ws))
 own_same im pool [] e named h = tt
 own_same im pool (w ∷ ws) e named h =
-    let none = none_here (has_other w) (count_by has_other ws) (sym (sum_by-cons (λ (v : Wish). cond (has_other v) 1 0) w ws) ∙ e) in
-    (own_want im pool w (none.0) (named.0) (All-head (IsWishOf im pool) w ws h), own_same im pool ws (none.1) (named.1) (All-tail (IsWishOf im pool) w ws h))
+    let none = none_here (has_other w) (count_by has_other ws) (sym (sum_by-cons (λ (v : WantedText). cond (has_other v) 1 0) w ws) ∙ e) in
+    (own_want im pool w (none.0) (named.0) (All-head (IsWantedUnder im pool) w ws h), own_same im pool ws (none.1) (named.1) (All-tail (IsWantedUnder im pool) w ws h))
 
-pub own_wants : (im : Images) (pool : Pool) (us : List Used) (ws : List Wish) → map used_in ws ≡ us → count_by has_other ws ≡ 0 → AllByRecursion (NamesText pool) us → All (IsWishOf im pool) ws → AllByRecursion (Own pool) (wants im pool us)
+pub own_wants : (im : Images) (pool : Pool) (us : List Used) (ws : List WantedText) → map used_in ws ≡ us → count_by has_other ws ≡ 0 → AllByRecursion (NamesText pool) us → All (IsWantedUnder im pool) ws → AllByRecursion (Own pool) (wants im pool us)
 own_wants im pool us ws e none named h =
     subst (λ (vs : List Used). AllByRecursion (Own pool) (wants im pool vs)) e (own_same im pool ws none (subst (AllByRecursion (NamesText pool)) (sym e) named) h)
 
--- ---- the uses of wishes name texts
+-- ---- the uses of wants name texts
 
-wish_named : (pool : Pool) (w : Wish) → IsWish pool w → NamesText pool w.used
-wish_named pool w h = ap (λ (o : Option Entry). fits any_text (option_map tag_of o)) (entry_of_text pool w.used.index h.names.0 h.names.1)
+want_named : (pool : Pool) (w : WantedText) → IsWanted pool w → NamesText pool w.used
+want_named pool w h = ap (λ (o : Option Entry). fits any_text (option_map tag_of o)) (entry_of_text pool w.used.index h.names.0 h.names.1)
 
-pub wishes_named : (pool : Pool) (ws : List Wish) → All (IsWish pool) ws → AllByRecursion (NamesText pool) (map used_in ws)
-wishes_named pool [] h = tt
-wishes_named pool (w ∷ ws) h = (wish_named pool w (All-head (IsWish pool) w ws h), wishes_named pool ws (All-tail (IsWish pool) w ws h))
+pub wants_named : (pool : Pool) (ws : List WantedText) → All (IsWanted pool) ws → AllByRecursion (NamesText pool) (map used_in ws)
+wants_named pool [] h = tt
+wants_named pool (w ∷ ws) h = (want_named pool w (All-head (IsWanted pool) w ws h), wants_named pool ws (All-tail (IsWanted pool) w ws h))
 
-pub wishes_few : (ws : List Wish) (us : List Used) → map used_in ws ≡ us → length us < 2 ^ 32 → length ws < 2 ^ 32
-wishes_few ws us e h = let same : length (map used_in ws) ≡ length ws = length-map ws used_in in let long : length (map used_in ws) ≡ length us = ap length e in omega arith
+pub wants_few : (ws : List WantedText) (us : List Used) → map used_in ws ≡ us → length us < 2 ^ 32 → length ws < 2 ^ 32
+wants_few ws us e h = let same : length (map used_in ws) ≡ length ws = length-map ws used_in in let long : length (map used_in ws) ≡ length us = ap length e in omega arith

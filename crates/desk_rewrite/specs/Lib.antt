@@ -2,3 +2,5 @@ pub mod Tables
 pub mod Wanting
 pub mod Counts
 pub mod Refused
+pub mod RuleImages
+pub mod Laws

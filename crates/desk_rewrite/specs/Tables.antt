@@ -1,4 +1,4 @@
--- The images of texts by index and kind, as the code keeps them.
+-- The images of texts by index and role, as the code keeps them.
 use Rattle.std.specs.Prelude.{◌≡◌, ℕ, Bool, true, List, Option, Some, None, All, is_some, ◌||◌}
 use Rattle.std.specs.Ordering.{nat_cmp, ordering_then, is_eq}
 use Rattle.std.specs.declared.cmp.Ordering.{Ordering}
@@ -11,48 +11,48 @@ use Rattle.desk_base.specs.declared.kinds.Used.{Used}
 use Rattle.desk_format.specs.declared.members.Member.{Member}
 use Rattle.desk_format.specs.Resolved.{Images, image}
 use Rattle.desk_rules.specs.Images.{IsImage}
-use Rattle.desk_rewrite.specs.declared.table.Kind.{Kind}
-use Rattle.desk_rewrite.specs.declared.table.Kind.TheVariants as kinds
+use Rattle.desk_rewrite.specs.declared.table.TextRole.{TextRole}
+use Rattle.desk_rewrite.specs.declared.table.TextRole.TheVariants as text_roles
 
--- ---- kinds
+-- ---- roles
 
--- the kind of a role; none where each text is its own image
-abbrev pub kind_of : Role → Option Kind
-kind_of roles.Class = Some kinds.Class
-kind_of roles.Package = Some kinds.Package
-kind_of roles.Module = None
-kind_of roles.Descriptor = Some kinds.Descriptor
-kind_of roles.ClassSig = Some kinds.ClassSig
-kind_of roles.MethodSig = Some kinds.MethodSig
-kind_of roles.FieldSig = Some kinds.FieldSig
-kind_of roles.Str = Some kinds.Str
-kind_of roles.Plain = None
-kind_of roles.AttrName = None
+-- a role as one whose texts may have another image; none where each text is its own image
+abbrev pub text_role_of : Role → Option TextRole
+text_role_of roles.Class = Some text_roles.Class
+text_role_of roles.Package = Some text_roles.Package
+text_role_of roles.Module = None
+text_role_of roles.Descriptor = Some text_roles.Descriptor
+text_role_of roles.ClassSig = Some text_roles.ClassSig
+text_role_of roles.MethodSig = Some text_roles.MethodSig
+text_role_of roles.FieldSig = Some text_roles.FieldSig
+text_role_of roles.Str = Some text_roles.Str
+text_role_of roles.Plain = None
+text_role_of roles.AttrName = None
 
-abbrev pub role_of : Kind → Role
-role_of kinds.Class = roles.Class
-role_of kinds.Package = roles.Package
-role_of kinds.Descriptor = roles.Descriptor
-role_of kinds.ClassSig = roles.ClassSig
-role_of kinds.MethodSig = roles.MethodSig
-role_of kinds.FieldSig = roles.FieldSig
-role_of kinds.Str = roles.Str
+abbrev pub role_of : TextRole → Role
+role_of text_roles.Class = roles.Class
+role_of text_roles.Package = roles.Package
+role_of text_roles.Descriptor = roles.Descriptor
+role_of text_roles.ClassSig = roles.ClassSig
+role_of text_roles.MethodSig = roles.MethodSig
+role_of text_roles.FieldSig = roles.FieldSig
+role_of text_roles.Str = roles.Str
 
--- the place of a kind among the kinds
-abbrev pub rank : Kind → ℕ
-rank kinds.Class = 0
-rank kinds.Package = 1
-rank kinds.Descriptor = 2
-rank kinds.ClassSig = 3
-rank kinds.MethodSig = 4
-rank kinds.FieldSig = 5
-rank kinds.Str = 6
+-- the place of a role among those whose texts may have another image
+abbrev pub rank : TextRole → ℕ
+rank text_roles.Class = 0
+rank text_roles.Package = 1
+rank text_roles.Descriptor = 2
+rank text_roles.ClassSig = 3
+rank text_roles.MethodSig = 4
+rank text_roles.FieldSig = 5
+rank text_roles.Str = 6
 
 -- ---- tables
 
--- an index and a kind
+-- an index and a role
 abbrev pub Key : Type 0
-Key = ℕ × Kind
+Key = ℕ × TextRole
 
 abbrev pub key_cmp : Key → Key → Ordering
 key_cmp x y = ordering_then (nat_cmp x.0 y.0) (nat_cmp (rank x.1) (rank y.1))
@@ -73,12 +73,12 @@ abbrev pub IsSoundTable : Images → Pool → Table → Type 0
 IsSoundTable im pool table = (key : Key) (answer : Option Text) → answer_at table key ≡ Some answer → IsAnswer im pool key answer
 
 -- whether a table has an answer for an index in a role that needs one
-abbrev pub has_kind : Table → ℕ → Option Kind → Bool
-has_kind table i None = true
-has_kind table i (Some kind) = is_some (answer_at table (i, kind))
+abbrev pub has_text_role : Table → ℕ → Option TextRole → Bool
+has_text_role table i None = true
+has_text_role table i (Some text_role) = is_some (answer_at table (i, text_role))
 
 abbrev pub has_image : Table → Used → Bool
-has_image table u = has_kind table u.index (kind_of u.role)
+has_image table u = has_text_role table u.index (text_role_of u.role)
 
 -- a table that answers one key more, or the same keys
 abbrev pub Grows : Table → Key → Table → Type 0
@@ -90,13 +90,13 @@ abbrev pub found : Option (Option Text) → Option Text
 found None = None
 found (Some answer) = answer
 
-abbrev pub found_by : Table → ℕ → Option Kind → Option Text
+abbrev pub found_by : Table → ℕ → Option TextRole → Option Text
 found_by table i None = None
-found_by table i (Some kind) = found (answer_at table (i, kind))
+found_by table i (Some text_role) = found (answer_at table (i, text_role))
 
 -- the image of the text at an index in a role, where a table has one that is another text
 abbrev pub image_found : Table → ℕ → Role → Option Text
-image_found table i role = found_by table i (kind_of role)
+image_found table i role = found_by table i (text_role_of role)
 
 -- What is found for an index in a role is the image of its text.
 abbrev pub Finds : Images → Pool → Table → Role → ℕ → Type 0

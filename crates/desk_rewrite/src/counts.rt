@@ -7,8 +7,8 @@ ghost use Rattle.desk_rewrite.specs.Wanting.{has_other};
 use crate::table::text_at;
 use desk_base::{Role, Used};
 use desk_names::{Which, read_signature};
+use desk_new_pool::WantedText;
 use desk_pool::Pool;
-use desk_split::Wish;
 
 /// Whether a text is used as a signature, and is no signature of that kind or nests more than 64 deep.
 fn is_odd(role: Role, text: &[u8]) -> bool
@@ -33,9 +33,9 @@ pub fn odd_uses(pool: &Pool<'_>, uses: &[Used]) -> u32
 }
 
 /// How many uses have an image that is another text.
-pub fn renamed_uses(wishes: &[Wish<'_>]) -> u32
-    requires { length wishes.now < 2 ^ 32 }
-    ensures { result ≡ count_by has_other wishes.now }
+pub fn renamed_uses(wants: &[WantedText<'_>]) -> u32
+    requires { length wants.now < 2 ^ 32 }
+    ensures { result ≡ count_by has_other wants.now }
 {
-    wishes.iter().filter(|wish| wish.image.is_some()).count() as u32
+    wants.iter().filter(|want| want.image.is_some()).count() as u32
 }

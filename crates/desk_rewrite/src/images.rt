@@ -5,10 +5,10 @@ ghost use Rattle.desk_rules.specs.Images.{IsImage};
 ghost use Rattle.desk_rules.specs.RuleSets.{IsRuleSet};
 ghost use Rattle.desk_rename.specs.Images.{cls};
 ghost use Rattle.desk_format.specs.Resolved.{image};
-ghost use Rattle.desk_images.specs.RuleImages.{images_of};
+ghost use Rattle.desk_rewrite.specs.RuleImages.{images_of};
 ghost use Rattle.desk_rewrite.specs.Tables.{role_of};
 
-use crate::table::Kind;
+use crate::table::TextRole;
 use desk_base::{Memory, Text};
 use desk_names::Which;
 use desk_rename::{
@@ -51,24 +51,24 @@ fn image_of_class<I: Images>(
     }
 }
 
-/// The image of a text by its kind; none exactly where it is the text itself. The only error is want of memory.
-pub fn image_by_kind<I: Images>(
+/// The image of a text by its role; none exactly where it is the text itself. The only error is want of memory.
+pub fn image_by_role<I: Images>(
     alloc: Global,
     rules: &RuleSet,
     images: &I,
-    kind: Kind,
+    text_role: TextRole,
     text: &[u8],
 ) -> Result<Option<Text>, Memory>
     requires { I.renames images.now ≡ rules.now.renames }
-    ensures { IfOk result (IsImage text.now (image (images_of rules.now) (role_of kind) text.now)) }
+    ensures { IfOk result (IsImage text.now (image (images_of rules.now) (role_of text_role) text.now)) }
 {
-    match kind {
-        Kind::Class => image_of_class(alloc, rules, images, text),
-        Kind::Package => rename_package(alloc, rules, text),
-        Kind::Descriptor => rename_descriptor(alloc, rules, text),
-        Kind::ClassSig => rename_signature(alloc, rules, Which::Class, text),
-        Kind::MethodSig => rename_signature(alloc, rules, Which::Method, text),
-        Kind::FieldSig => rename_signature(alloc, rules, Which::Field, text),
-        Kind::Str => rename_string(alloc, rules, text),
+    match text_role {
+        TextRole::Class => image_of_class(alloc, rules, images, text),
+        TextRole::Package => rename_package(alloc, rules, text),
+        TextRole::Descriptor => rename_descriptor(alloc, rules, text),
+        TextRole::ClassSig => rename_signature(alloc, rules, Which::Class, text),
+        TextRole::MethodSig => rename_signature(alloc, rules, Which::Method, text),
+        TextRole::FieldSig => rename_signature(alloc, rules, Which::Field, text),
+        TextRole::Str => rename_string(alloc, rules, text),
     }
 }

@@ -1,16 +1,17 @@
-//! The fields and methods of a new class, with the texts that tell them apart.
+//! The fields and methods of a new class, with numbers of the texts that tell them apart.
 
-ghost use Rattle.std.specs.Prelude.{◌≡◌, All, IfOk, map, unwrap_or, option_copied};
+ghost use Rattle.std.specs.Prelude.{◌≡◌, IfOk, map, unwrap_or, option_copied};
 ghost use Rattle.desk_format.specs.Resolved.{Images};
 ghost use Rattle.desk_format.specs.NewClass.{renamed_in};
-ghost use Rattle.desk_split.specs.Twins.{IsNamed, member_in};
+ghost use Rattle.desk_new_pool.specs.Twins.{AreNumbered, member_in};
 ghost use Rattle.desk_rewrite.specs.Tables.{HasDescriptors};
 
 use crate::table::{ImageTable, image_in, text_at};
 use desk_base::{Memory, Role};
+use desk_class::TextNumbers;
 use desk_format::Member;
+use desk_new_pool::NumberedMember;
 use desk_pool::Pool;
-use desk_split::NamedMember;
 use std::alloc::Global;
 
 /// An image, or the text itself where it has none.
@@ -23,24 +24,27 @@ fn image_or<'a>(image: Option<&'a [u8]>, text: &'a [u8]) -> &'a [u8]
     }
 }
 
-/// The members, each with its name and the image of its descriptor. The only error is want of memory.
-pub fn named_members<'a>(
+/// The members, each with a number of its name and one of the image of its descriptor. The only error is want of memory.
+pub fn numbered_members(
     alloc: Global,
-    pool: &'a Pool<'_>,
-    table: &'a ImageTable,
+    pool: &Pool<'_>,
+    table: &ImageTable,
     members: &[Member],
-) -> Result<Vec<NamedMember<'a>>, Memory>
-    ensures members { IfOk result (λ named. map member_in named.items ≡ members.now) }
-    ensures named { IfOk result (λ named. (im : Images) → HasDescriptors im pool.now.entries table.now members.now → All (IsNamed (renamed_in im pool.now.entries)) named.items) }
+) -> Result<Vec<NumberedMember>, Memory>
+    ensures members { IfOk result (λ numbered. map member_in numbered.items ≡ members.now) }
+    ensures numbered { IfOk result (λ numbered. (im : Images) → HasDescriptors im pool.now.entries table.now members.now → AreNumbered (renamed_in im pool.now.entries) numbered.items) }
 {
-    let mut named = Vec::with_capacity(alloc, members.len())?;
+    let mut names = TextNumbers::new(alloc, pool.count())?;
+    let mut descriptors = TextNumbers::new(alloc, pool.count())?;
+    let mut numbered = Vec::with_capacity(alloc, members.len())?;
     for member in members {
         let image = image_in(table, member.descriptor, Role::Descriptor);
-        named.push(NamedMember {
+        let descriptor = image_or(image, text_at(pool, member.descriptor));
+        numbered.push(NumberedMember {
             member: *member,
-            name: text_at(pool, member.name),
-            descriptor: image_or(image, text_at(pool, member.descriptor)),
+            name: names.number(text_at(pool, member.name), member.name)?,
+            descriptor: descriptors.number(descriptor, member.descriptor)?,
         })?;
     }
-    Ok(named)
+    Ok(numbered)
 }

@@ -1,20 +1,20 @@
 //! The bytes of a new class.
 
 ghost use Rattle.std.specs.Prelude.{◌≡◌, ◌≤◌, ℕ, List, None, Ok, All, IfOk, length};
-ghost use Rattle.desk_format.specs.Classes.{Class, class_fault, read_class};
+ghost use Rattle.desk_base.specs.Limits.{file_size};
+ghost use Rattle.desk_format.specs.Classes.{Class, class_fault, read_class, uses_in};
 ghost use Rattle.desk_format.specs.Laws.{IsBytes};
 ghost use Rattle.desk_format.specs.NewClass.{new_bytes};
 ghost use Rattle.desk_format.specs.Resolved.{Images};
-ghost use Rattle.desk_format.specs.Servlet.{uses_in};
 ghost use Rattle.desk_format.specs.Split.{Want, split};
 ghost use Rattle.desk_class.specs.Parts.{pool_in};
-ghost use Rattle.desk_split.specs.Keeps.{TextsAre};
-ghost use Rattle.desk_split.specs.Printing.{IsShortText};
+ghost use Rattle.desk_new_pool.specs.Keeps.{TextsAre};
+ghost use Rattle.desk_new_pool.specs.Printing.{IsShortText};
 ghost use Rattle.desk_rewrite.specs.Wanting.{IsNewTexts};
 
 use desk_base::{Memory, Text};
 use desk_class::ClassView;
-use desk_split::{NewTexts, append_body, append_pool};
+use desk_new_pool::{NewTexts, append_body, append_pool};
 use std::alloc::Global;
 
 /// The bytes of a class.
@@ -22,7 +22,7 @@ pub fn bytes_of<'a>(view: &ClassView<'a>) -> &'a [u8]
     ensures bytes { result.now ≡ view.now }
     ensures each { IsBytes view.now }
     ensures sound { class_fault view.now ≡ None }
-    ensures short { length view.now ≤ 67108864 }
+    ensures short { length view.now ≤ file_size }
 {
     let bytes = view.bytes();
     bytes

@@ -7,27 +7,27 @@ ghost use Rattle.desk_laws.specs.Classes.{IsRenamedClass, IsUnchangedClass};
 ghost use Rattle.desk_format.specs.NewPool.{added};
 ghost use Rattle.desk_format.specs.Resolved.{Images};
 ghost use Rattle.desk_format.specs.Members.{members};
-ghost use Rattle.desk_format.specs.Servlet.{uses_in};
+ghost use Rattle.desk_format.specs.Classes.{uses_in};
 ghost use Rattle.desk_class.specs.Parts.{pool_in};
-ghost use Rattle.desk_split.specs.Wishes.{IsWish};
+ghost use Rattle.desk_new_pool.specs.Wants.{IsWanted};
 ghost use Rattle.desk_rewrite.specs.Counts.{renamed_count, odd_count};
 ghost use Rattle.desk_rewrite.specs.Refused.{Refuses};
-ghost use Rattle.desk_images.specs.RuleImages.{images_of};
+ghost use Rattle.desk_rewrite.specs.RuleImages.{images_of};
 ghost use Rattle.desk_rewrite.specs.Tables.{HasDescriptors};
-ghost use Rattle.desk_rewrite.specs.Wanting.{used_in, IsWishOf, AreWishes};
+ghost use Rattle.desk_rewrite.specs.Wanting.{used_in, IsWantedUnder, AreWanted};
 ghost use Rattle.desk_laws.specs.Sound.{IsShaped};
 
 use crate::counts::{odd_uses, renamed_uses};
 use crate::images::tell_settled;
-use crate::members::named_members;
+use crate::members::numbered_members;
 use crate::printing::{bytes_of, new_bytes};
 use crate::table::{ImageTable, all_images};
-use crate::wishes::wishes_of;
+use crate::wants::wanted_texts;
 use desk_base::{Memory, Text};
 use desk_class::ClassView;
+use desk_new_pool::{NewPoolFault, TwinPlaces, WantedText, first_twins, split};
 use desk_rename::Images;
 use desk_rules::RuleSet;
-use desk_split::{SplitFault, TwinPlaces, Wish, first_twins, split};
 use std::alloc::Global;
 
 /// A class that was rewritten.
@@ -82,16 +82,16 @@ impl From<Memory> for RewriteFault {
     }
 }
 
-impl From<SplitFault> for RewriteFault {
+impl From<NewPoolFault> for RewriteFault {
     ghost use Rattle.desk_rewrite.specs.Refused.{fault_of};
 
     ghost from_gives = { λ split fault. fault ≡ fault_of split };
 
-    fn from(split: SplitFault) -> RewriteFault {
+    fn from(split: NewPoolFault) -> RewriteFault {
         match split {
-            SplitFault::Overlong { index, length } => RewriteFault::Overlong { index, length },
-            SplitFault::PoolFull { count, needed } => RewriteFault::PoolFull { count, needed },
-            SplitFault::Memory => RewriteFault::Memory,
+            NewPoolFault::Overlong { index, length } => RewriteFault::Overlong { index, length },
+            NewPoolFault::PoolFull { count, needed } => RewriteFault::PoolFull { count, needed },
+            NewPoolFault::Memory => RewriteFault::Memory,
         }
     }
 }
@@ -101,22 +101,22 @@ fn new_class(
     alloc: Global,
     view: &ClassView<'_>,
     table: &ImageTable,
-    wishes: &[Wish<'_>],
+    wants: &[WantedText<'_>],
 ) -> Result<(Text, u32), RewriteFault>
     requires shaped { IsShaped false (pool_in view.now) }
     requires few { length (uses_in view.now) < 2 ^ 32 }
-    requires wishes { All (IsWish (pool_in view.now)) wishes.now }
-    requires images { (im : Images) × All (IsWishOf im (pool_in view.now)) wishes.now }
-    requires used { map used_in wishes.now ≡ uses_in view.now }
-    ensures bytes { IfOk result (λ new. (im : Images) (c : Class) → read_class view.now ≡ Ok c → AreWishes im c wishes.now → new.0 ≡ new_bytes im view.now c) }
-    ensures added { IfOk result (λ new. (im : Images) (c : Class) → read_class view.now ≡ Ok c → AreWishes im c wishes.now → new.1 ≡ length (added im c.pool (class_uses c))) }
-    ensures accepted { OnOk result ((im : Images) (c : Class) → read_class view.now ≡ Ok c → AreWishes im c wishes.now → HasDescriptors im c.pool table.now (members c.body) → refusal im c ≡ None) }
-    ensures refused { IfErr result (λ fault. (im : Images) (c : Class) → read_class view.now ≡ Ok c → AreWishes im c wishes.now → HasDescriptors im c.pool table.now (members c.body) → Refuses fault (refusal im c)) }
+    requires wants { All (IsWanted (pool_in view.now)) wants.now }
+    requires images { (im : Images) × All (IsWantedUnder im (pool_in view.now)) wants.now }
+    requires used { map used_in wants.now ≡ uses_in view.now }
+    ensures bytes { IfOk result (λ new. (im : Images) (c : Class) → read_class view.now ≡ Ok c → AreWanted im c wants.now → new.0 ≡ new_bytes im view.now c) }
+    ensures added { IfOk result (λ new. (im : Images) (c : Class) → read_class view.now ≡ Ok c → AreWanted im c wants.now → new.1 ≡ length (added im c.pool (class_uses c))) }
+    ensures accepted { OnOk result ((im : Images) (c : Class) → read_class view.now ≡ Ok c → AreWanted im c wants.now → HasDescriptors im c.pool table.now (members c.body) → refusal im c ≡ None) }
+    ensures refused { IfErr result (λ fault. (im : Images) (c : Class) → read_class view.now ≡ Ok c → AreWanted im c wants.now → HasDescriptors im c.pool table.now (members c.body) → Refuses fault (refusal im c)) }
 {
     let pool = view.pool();
     let count = pool.count();
-    let new = split(alloc, pool, count, wishes)?;
-    let members = named_members(alloc, pool, table, view.members())?;
+    let new = split(alloc, pool, count, wants)?;
+    let members = numbered_members(alloc, pool, table, view.members())?;
     if let Some(TwinPlaces { first, second }) = first_twins(alloc, &members)? {
         return Err(RewriteFault::Twins { first, second });
     }
@@ -136,9 +136,9 @@ fn new_class(
 /// members that become one, and want of memory.
 pub fn rewrite<I: Images>(
     alloc: Global,
-    view: &ClassView<'_>,
     rules: &RuleSet,
     images: &I,
+    view: &ClassView<'_>,
 ) -> Result<Rewritten, RewriteFault>
     requires { I.renames images.now ≡ rules.now.renames }
     ensures bytes { IfOk result (λ new. (c : Class) → read_class view.now ≡ Ok c → new.bytes ≡ new_bytes (images_of rules.now) view.now c) }
@@ -153,13 +153,13 @@ pub fn rewrite<I: Images>(
     tell_settled(rules);
     let bytes = bytes_of(view);
     let table = all_images(alloc, rules, images, view.pool(), view.uses())?;
-    let wishes = wishes_of(alloc, &table, view.uses())?;
+    let wants = wanted_texts(alloc, &table, view.uses())?;
     let odd = odd_uses(view.pool(), view.uses());
-    let renamed = renamed_uses(&wishes);
+    let renamed = renamed_uses(&wants);
     let (bytes, added) = if renamed == 0 {
         (Text::from_bytes(alloc, bytes)?, 0)
     } else {
-        new_class(alloc, view, &table, &wishes)?
+        new_class(alloc, view, &table, &wants)?
     };
     Ok(Rewritten {
         bytes,

@@ -2,10 +2,10 @@
 
 ghost use Rattle.std.specs.Prelude.{◌≡◌, All, IfOk, OnOk, true, is_some, option_copied};
 ghost use Rattle.desk_base.specs.Entries.{text_at};
-ghost use Rattle.desk_images.specs.RuleImages.{images_of};
-ghost use Rattle.desk_rewrite.specs.Tables.{kind_of, answer_at, found, image_found, Grows, IsSoundTable, HasImages};
+ghost use Rattle.desk_rewrite.specs.RuleImages.{images_of};
+ghost use Rattle.desk_rewrite.specs.Tables.{text_role_of, answer_at, found, image_found, Grows, IsSoundTable, HasImages};
 
-use crate::images::image_by_kind;
+use crate::images::image_by_role;
 use desk_base::{Memory, Role, Text, Used};
 use desk_pool::Pool;
 use desk_rename::Images;
@@ -15,7 +15,7 @@ use std::collections::BTreeMap;
 
 /// What a text is used as, where its image may be another text.
 #[derive(Clone, Copy, Debug, PartialEq, Eq, PartialOrd, Ord)]
-pub enum Kind {
+pub enum TextRole {
     /// A class name in internal form, or the descriptor of an array.
     Class,
     /// A package in internal form.
@@ -32,21 +32,21 @@ pub enum Kind {
     Str,
 }
 
-/// The image of the text at each index in each kind, and none where it is the text itself.
-pub type ImageTable = BTreeMap<(u16, Kind), Option<Text>>;
+/// The image of the text at each index in each such role, and none where it is the text itself.
+pub type ImageTable = BTreeMap<(u16, TextRole), Option<Text>>;
 
-/// The kind of a role; none where each text is its own image.
-fn kind_of(role: Role) -> Option<Kind>
-    ensures { result ≡ kind_of role }
+/// The role as one whose texts may have another image; none where each text is its own image.
+fn text_role_of(role: Role) -> Option<TextRole>
+    ensures { result ≡ text_role_of role }
 {
     match role {
-        Role::Class => Some(Kind::Class),
-        Role::Package => Some(Kind::Package),
-        Role::Descriptor => Some(Kind::Descriptor),
-        Role::ClassSig => Some(Kind::ClassSig),
-        Role::MethodSig => Some(Kind::MethodSig),
-        Role::FieldSig => Some(Kind::FieldSig),
-        Role::Str => Some(Kind::Str),
+        Role::Class => Some(TextRole::Class),
+        Role::Package => Some(TextRole::Package),
+        Role::Descriptor => Some(TextRole::Descriptor),
+        Role::ClassSig => Some(TextRole::ClassSig),
+        Role::MethodSig => Some(TextRole::MethodSig),
+        Role::FieldSig => Some(TextRole::FieldSig),
+        Role::Str => Some(TextRole::Str),
         Role::Module | Role::Plain | Role::AttrName => None,
     }
 }
@@ -68,7 +68,7 @@ fn add_image<I: Images>(
     images: &I,
     pool: &Pool<'_>,
     table: &mut ImageTable,
-    key: (u16, Kind),
+    key: (u16, TextRole),
 ) -> Result<(), Memory>
     requires images { I.renames images.now ≡ rules.now.renames }
     requires sound { IsSoundTable (images_of rules.now) pool.now.entries table.old }
@@ -78,7 +78,7 @@ fn add_image<I: Images>(
     if table.contains_key(&key) {
         return Ok(());
     }
-    let image = image_by_kind(alloc, rules, images, key.1, text_at(pool, key.0))?;
+    let image = image_by_role(alloc, rules, images, key.1, text_at(pool, key.0))?;
     table.insert(key, image)?;
     Ok(())
 }
@@ -96,15 +96,22 @@ pub fn all_images<I: Images>(
 {
     let mut table = BTreeMap::new(alloc);
     for used in uses {
-        if let Some(kind) = kind_of(used.role) {
-            add_image(alloc, rules, images, pool, &mut table, (used.index, kind))?;
+        if let Some(text_role) = text_role_of(used.role) {
+            add_image(
+                alloc,
+                rules,
+                images,
+                pool,
+                &mut table,
+                (used.index, text_role),
+            )?;
         }
     }
     Ok(table)
 }
 
 /// The image that a table has at a key, where it is another text.
-fn image_at(table: &ImageTable, key: (u16, Kind)) -> Option<&[u8]>
+fn image_at(table: &ImageTable, key: (u16, TextRole)) -> Option<&[u8]>
     ensures { option_copied result ≡ found (answer_at table.now key) }
 {
     match table.get(&key) {
@@ -118,8 +125,8 @@ fn image_at(table: &ImageTable, key: (u16, Kind)) -> Option<&[u8]>
 pub fn image_in(table: &ImageTable, index: u16, role: Role) -> Option<&[u8]>
     ensures { option_copied result ≡ image_found table.now index role }
 {
-    match kind_of(role) {
+    match text_role_of(role) {
         None => None,
-        Some(kind) => image_at(table, (index, kind)),
+        Some(text_role) => image_at(table, (index, text_role)),
     }
 }

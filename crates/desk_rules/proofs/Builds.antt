@@ -4,7 +4,7 @@ use Rattle.desk_base.specs.Names.{Text}
 use Rattle.desk_patterns.specs.Selections.{Choice}
 use Rattle.desk_patterns.specs.PatternTexts.{PatternText}
 use Rattle.desk_rules.specs.Files.{Files, versions_name, bundles_name, direct_name, selection_name}
-use Rattle.desk_rules.specs.Renames.{Renaming}
+use Rattle.desk_packages.specs.Renames.{Renaming}
 use Rattle.desk_rules.specs.Rules.{Rules, Versions}
 use Rattle.desk_rules.specs.Settled.{Exchange, BundleUpdate}
 use Rattle.desk_rules.specs.RuleSets.{rules_of}

@@ -4,8 +4,8 @@ use Rattle.std.specs.List.{list_all}
 use Rattle.std.proofs.lemmas.Bool.{and_parts, and_from}
 use Rattle.std.proofs.lemmas.List.Folds.{list_all-append}
 use Rattle.desk_base.specs.Names.{Text, Package, segments, written, is_identifier, is_identifier_byte, is_dotted, is_empty, dot}
-use Rattle.desk_rules.proofs.Bytes.{each_byte}
-use Rattle.desk_rules.proofs.Cuts.{written-segments}
+use Rattle.desk_packages.proofs.Bytes.{each_byte}
+use Rattle.desk_packages.proofs.Cuts.{written-segments}
 
 identifier_bytes : (t : Text) → is_identifier t ≡ true → list_all is_identifier_byte t ≡ true
 identifier_bytes [] h = absurd cc

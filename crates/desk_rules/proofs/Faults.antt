@@ -1,7 +1,6 @@
 -- Faults, and values, of one result that follows another.
-use Rattle.std.proofs.Common.{◌≡◌, List, Option, Result, Ok, Err, IfOk, sym, ap, subst, ◌∙◌}
+use Rattle.std.proofs.Common.{◌≡◌, Result, Ok, IfOk, sym, ap, subst, ◌∙◌}
 use Rattle.std.specs.Prelude.{IfErr}
-use Rattle.desk_base.specs.Names.{Text}
 use Rattle.desk_rules.specs.Builds.{IsFaultOf}
 use Rattle.desk_rules.specs.RuleFiles.{◌>>=◌}
 use Rattle.desk_rules.specs.declared.RuleFault.{RuleFault}

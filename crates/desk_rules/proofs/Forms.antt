@@ -1,22 +1,16 @@
 -- Images of names keep their form, and are their own images.
-use Rattle.std.proofs.Common.{◌≡◌, ℕ, Bool, true, false, cond, not, ◌&&◌, List, [], ◌∷◌, ◌++◌, length, drop, Option, Some, None, refl, sym, ap, ◌∙◌, inl, inr}
+use Rattle.std.proofs.Common.{◌≡◌, ℕ, Bool, true, false, cond, not, ◌&&◌, List, [], ◌∷◌, ◌++◌, length, drop, Option, Some, None, refl, sym, ap, ◌∙◌}
 use Rattle.std.specs.List.{list_all}
 use Rattle.std.proofs.lemmas.Bool.{and_parts, and_from}
 use Rattle.std.proofs.lemmas.List.Folds.{list_all-append}
 use Rattle.desk_base.specs.Names.{Text, Package, segments, written, front, simple, is_empty, is_name, is_identifier}
-use Rattle.desk_rules.specs.Renames.{Renaming, in_scope, pick, renamed_by, pkg, is_rename}
+use Rattle.desk_packages.specs.Renames.{Renaming, in_scope, pick, renamed_by, pkg, is_rename}
 use Rattle.desk_rules.specs.Settled.{rename_then_rename, first_pair}
 use Rattle.desk_rules.specs.Images.{refronted, name_image}
-use Rattle.desk_rules.proofs.Same.{covers_is}
-use Rattle.desk_rules.proofs.Picks.{In, Found, pick_Some}
+use Rattle.desk_packages.proofs.Same.{covers_is}
+use Rattle.desk_packages.proofs.Picks.{Found, pick_Some, all_In}
 use Rattle.desk_rules.proofs.Twice.{pkg_twice}
-use Rattle.desk_rules.proofs.Cuts.{Cuts, segments_written, front-push, simple-push, front_simple}
-
--- what passes a test for all of a list passes at each of its elements
-pub all_In : {A : Type 0} (test : A → Bool) (xs : List A) (x : A) → list_all test xs ≡ true → In xs x → test x ≡ true
-all_In test [] x h is = absurd is
-all_In test (y ∷ ys) x h (inl same) = rw (← same) (and_parts _ _ h).0
-all_In test (y ∷ ys) x h (inr later) = all_In test ys x (and_parts _ _ h).1 later
+use Rattle.desk_packages.proofs.Cuts.{Cuts, segments_written, front-push, simple-push, front_simple}
 
 all_weaker : (test other : Text → Bool) → ((t : Text) → test t ≡ true → other t ≡ true) → (ps : Package) → list_all test ps ≡ true → list_all other ps ≡ true
 all_weaker test other weaker [] h = refl

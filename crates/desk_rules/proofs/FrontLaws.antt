@@ -1,14 +1,13 @@
 -- The front of a path that is exchanged.
-use Rattle.std.proofs.Common.{◌≡◌, ℕ, Bool, true, cond, List, length, Option, Some, None, sym, ap, ◌∙◌}
+use Rattle.std.proofs.Common.{◌≡◌, ℕ, Bool, true, cond, List, length, Some, None, ap, ◌∙◌}
 use Rattle.std.proofs.lemmas.Bool.{and_parts}
 use Rattle.desk_base.specs.Names.{Text, Package, segments, written}
-use Rattle.desk_rules.specs.Renames.{Renaming, in_scope, is_rename, pick, changes}
-use Rattle.desk_rules.specs.Keys.{IsTable}
+use Rattle.desk_packages.specs.Renames.{Renaming, in_scope, is_rename, pick, changes}
+use Rattle.desk_packages.specs.Keys.{IsTable}
 use Rattle.desk_rules.specs.RuleSets.{IsFrontOf, only_changing}
-use Rattle.desk_rules.proofs.Same.{covers_is}
-use Rattle.desk_rules.proofs.Picks.{Found, pick_Some}
-use Rattle.desk_rules.proofs.Forms.{all_In}
-use Rattle.desk_rules.proofs.Lookup.{start_prefix}
+use Rattle.desk_packages.proofs.Same.{covers_is}
+use Rattle.desk_packages.proofs.Picks.{Found, pick_Some, all_In}
+use Rattle.desk_packages.proofs.Lookup.{start_prefix}
 
 pub front_found : (rs : List Renaming) (table : IsTable rs) (s : ℕ) (path : Text) (r : Renaming) → pick rs (segments s path) ≡ Some r → changes r ≡ true → (taken : ℕ) (target : Package) → taken ≡ length (written s r.source) → target ≡ r.target → IsFrontOf rs s path taken target
 front_found rs table s path r picked moves taken target width same_target =

@@ -7,15 +7,15 @@ use Rattle.std.proofs.lemmas.List.{append-nil, append_assoc, drop_at, drop-drop,
 use Rattle.std.proofs.lemmas.List.Splits.{slice_split_none}
 use Rattle.std.proofs.lemmas.Slice.Eq.{starts_is}
 use Rattle.desk_base.specs.Names.{Text, Package, segments, written, front, simple, is_empty, is_dotted, is_identifier, is_whole}
-use Rattle.desk_rules.specs.Renames.{Renaming, covers, in_reach, in_scope, is_rename}
+use Rattle.desk_packages.specs.Renames.{Renaming, covers, in_reach, in_scope, is_rename}
 use Rattle.desk_rules.specs.Settled.{front_in_reach, front_in_scope}
-use Rattle.desk_rules.specs.Keys.{goes_on}
-use Rattle.desk_rules.proofs.Same.{same_is, same_from, begins_is, begins_from}
-use Rattle.desk_rules.proofs.Cuts.{none_is, segments_behind, written-segments, front_simple}
-use Rattle.desk_rules.proofs.Bytes.{identifier_whole}
+use Rattle.desk_packages.specs.Keys.{goes_on}
+use Rattle.desk_packages.proofs.Same.{same_is, same_from, begins_is, begins_from}
+use Rattle.desk_packages.proofs.Cuts.{none_is, segments_behind, written-segments, front_simple}
+use Rattle.desk_packages.proofs.Bytes.{identifier_whole}
 use Rattle.desk_rules.proofs.Forms.{front_all}
-use Rattle.desk_rules.proofs.KeyLaws.{identifier_cuts}
-use Rattle.desk_rules.proofs.Lookup.{written_more}
+use Rattle.desk_packages.proofs.KeyLaws.{identifier_cuts}
+use Rattle.desk_packages.proofs.Lookup.{written_more}
 
 -- a text has parts
 split_filled : (s : ℕ) (t : Text) → not (is_empty (slice_split (λ b. b == s) t)) ≡ true
@@ -57,7 +57,7 @@ pub record GoesOn (below : Bool) (w t : Text) : Type 0 where
   pub is : t ≡ w ++ 46 ∷ more
   pub one : (below || is_whole 46 more) ≡ true
 
-goes_is : (below : Bool) (w t : Text) → goes_on below w t ≡ true → GoesOn below w t
+pub goes_is : (below : Bool) (w t : Text) → goes_on below w t ≡ true → GoesOn below w t
 goes_is below w t h =
     let h3 = and_parts (starts_with ◌==◌ t w && nat_lt (length w) (length t) && get_or t (length w) 0 == 46) (below || is_whole 46 (drop (length w + 1) t)) h in
     let h2 = and_parts (starts_with ◌==◌ t w && nat_lt (length w) (length t)) (get_or t (length w) 0 == 46) h3.0 in

@@ -1,13 +1,13 @@
 -- What a rule set keeps makes its rules well-formed and settled.
-use Rattle.std.proofs.Common.{◌≡◌, ℕ, List, Option, None, subst, sym, ap, ◌∙◌}
+use Rattle.std.proofs.Common.{◌≡◌, List, None, subst, ap, ◌∙◌}
 use Rattle.std.specs.FinMap as finite
 use Rattle.desk_base.specs.Names.{Text}
 use Rattle.desk_patterns.specs.Selections.{Choice}
 use Rattle.desk_patterns.specs.PatternTexts.{PatternText}
-use Rattle.desk_rules.specs.Renames.{Renaming}
-use Rattle.desk_rules.specs.Rules.{Rules, Versions, Update}
-use Rattle.desk_rules.specs.Settled.{Exchange, BundleUpdate, Chain, first_chain_in, first_chain}
-use Rattle.desk_rules.specs.Keys.{IsTable, RiseBy}
+use Rattle.desk_packages.specs.Renames.{Renaming}
+use Rattle.desk_rules.specs.Rules.{Rules, Versions}
+use Rattle.desk_rules.specs.Settled.{Exchange, BundleUpdate, first_chain_in, first_chain}
+use Rattle.desk_packages.specs.Keys.{IsTable, RiseBy}
 use Rattle.desk_rules.specs.RuleSets.{IsRuleSet, IsKept, HaveUtf8Targets, HaveUtf8Texts, rules_of}
 use Rattle.desk_rules.proofs.TextMaps.{entries_rising}
 
@@ -25,6 +25,6 @@ settled_by renames versions bundles direct selection texts table b d none target
   direct_utf8 = values;
 }
 
-pub rule_set_by : {renames : List Renaming} {versions : List (Text × Versions)} {bundles : List BundleUpdate} {direct : List Exchange} {dotted slashed : List (List ℕ)} {selection : List Choice} {texts : List PatternText} → IsKept renames versions bundles direct dotted slashed → (rules : Rules) → rules_of renames versions bundles direct selection texts ≡ rules → IsRuleSet rules
-rule_set_by {renames} {versions} {bundles} {direct} {dotted} {slashed} {selection} {texts} kept rules is =
+pub rule_set_by : {renames : List Renaming} {versions : List (Text × Versions)} {bundles : List BundleUpdate} {direct : List Exchange} {selection : List Choice} {texts : List PatternText} → IsKept renames versions bundles direct → (rules : Rules) → rules_of renames versions bundles direct selection texts ≡ rules → IsRuleSet rules
+rule_set_by {renames} {versions} {bundles} {direct} {selection} {texts} kept rules is =
     subst IsRuleSet is (settled_by renames versions bundles direct selection texts kept.table kept.bundles_rise kept.direct_rise kept.settled kept.utf8 kept.direct_utf8)

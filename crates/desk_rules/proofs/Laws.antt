@@ -1,22 +1,24 @@
 -- Under a rule set each image is its own image, and keeps its form.
-use Rattle.std.proofs.Common.{◌≡◌, ℕ, Bool, true, false, cond, not, List, [], ◌∷◌, ◌++◌, Option, Some, None, refl, sym, ap, ◌∙◌, ◌⊎◌, inl, inr}
+use Rattle.std.proofs.Common.{◌≡◌, Bool, true, false, cond, List, [], ◌∷◌, ◌++◌, Option, Some, None, refl, sym, ap, ◌∙◌, ◌⊎◌, inl, inr}
 use Rattle.std.specs.Prelude.{unwrap_or}
 use Rattle.std.specs.List.{list_all}
 use Rattle.std.specs.Str.{bytes_eq}
 use Rattle.std.specs.FinMap as finite
 use Rattle.std.proofs.lemmas.Slice.Eq.{bytes_eq-Decides}
 use Rattle.std.proofs.lemmas.Bool.{cases_Bool, and_parts, and_from, not-false, not_from_false, both_ways, false_from_ne_true}
-use Rattle.desk_base.specs.Names.{Text, Package, segments, written, front, simple, is_name, is_part, is_dotted, is_class_name, is_identifier, slash, dot}
-use Rattle.desk_rules.specs.Renames.{Renaming, in_scope, changes, pick, renamed_by, pkg, is_rename}
+use Rattle.desk_base.specs.Names.{Text, Package, segments, written, front, simple, is_part, is_dotted, is_class_name, is_identifier, slash, dot}
+use Rattle.desk_packages.specs.Renames.{Renaming, in_scope, changes, pick, renamed_by, pkg, is_rename}
 use Rattle.desk_rules.specs.Rules.{Rules, Update, TextMap}
-use Rattle.desk_rules.specs.Settled.{first_pair, rename_then_rename, rename_then_direct, one_then_another, direct_then_rename, update_then_update, alters, renames_bundle, Exchange, BundleUpdate, Chain, chain_of, or_chain, front_in_reach, IsSettled}
-use Rattle.desk_rules.specs.Images.{refronted, dotted, cls, str}
-use Rattle.desk_rules.specs.RuleSets.{IsRuleSet, PackagesStay, ClassesStay, ClassesKeepForm, IsClassImage, DottedStay, DottedKeepForm, IsDottedImage, StringsStay, BundlesStay, changing_update, only_other_name}
-use Rattle.desk_rules.proofs.Same.{covers_is, covers_moved, same_is as bytes_same}
-use Rattle.desk_rules.proofs.Picks.{In, Found, pick_Some}
+use Rattle.desk_rules.specs.declared.ChainKind.{ChainKind}
+use Rattle.desk_rules.specs.declared.ChainKind.TheVariants.{RenameThenRename, RenameThenDirect, DirectThenDirect, DirectThenRename, BundleThenBundle}
+use Rattle.desk_rules.specs.Settled.{first_pair, rename_then_rename, rename_then_direct, one_then_another, direct_then_rename, update_then_update, alters, renames_bundle, Chain, chain_of, or_chain, front_in_reach, IsSettled}
+use Rattle.desk_rules.specs.Images.{refronted, dotted, str}
+use Rattle.desk_rules.specs.RuleSets.{IsRuleSet, PackagesStay, ClassesStay, ClassesKeepForm, IsClassImage, DottedStay, DottedKeepForm, IsDottedImage, StringsStay, BundlesStay, only_other_name}
+use Rattle.desk_packages.proofs.Same.{covers_is, covers_moved, same_is as bytes_same}
+use Rattle.desk_packages.proofs.Picks.{In, Found, pick_Some}
 use Rattle.desk_rules.proofs.Twice.{first_pair_None, pkg_twice, unchanged}
-use Rattle.desk_rules.proofs.Cuts.{written-segments, front-push, simple-push, front_simple}
-use Rattle.desk_rules.proofs.Bytes.{identifier_part, part_whole, identifier_whole}
+use Rattle.desk_packages.proofs.Cuts.{written-segments, front-push, simple-push, front_simple}
+use Rattle.desk_packages.proofs.Bytes.{identifier_part, part_whole, identifier_whole}
 use Rattle.desk_rules.proofs.Forms.{Parts, segments_image, name_image_named, name_image_twice}
 use Rattle.desk_rules.proofs.TextMaps.{map_holds}
 
@@ -42,7 +44,7 @@ no_second : (a b : Option Chain) → or_chain a b ≡ None → b ≡ None
 no_second None b h = h
 no_second (Some c) b h = absurd cc
 
-no_pair : {A B : Type 0} (kind : ℕ) (first : A → Text) (second : B → Text) (o : Option (A × B)) → chain_of kind first second o ≡ None → o ≡ None
+no_pair : {A B : Type 0} (kind : ChainKind) (first : A → Text) (second : B → Text) (o : Option (A × B)) → chain_of kind first second o ≡ None → o ≡ None
 no_pair kind first second None h = refl
 no_pair kind first second (Some pair) h = absurd cc
 
@@ -53,11 +55,11 @@ no_chain rules h =
     let after_three = no_second _ _ after_two in
     let after_four = no_second _ _ after_three in
     record {
-      renames = no_pair 1 _ _ _ (no_first _ _ h);
-      rename_direct = no_pair 2 _ _ _ (no_first _ _ after_one);
-      directs = no_pair 3 _ _ _ (no_first _ _ after_two);
-      direct_rename = no_pair 4 _ _ _ (no_first _ _ after_three);
-      bundles = no_pair 5 _ _ _ after_four;
+      renames = no_pair RenameThenRename _ _ _ (no_first _ _ h);
+      rename_direct = no_pair RenameThenDirect _ _ _ (no_first _ _ after_one);
+      directs = no_pair DirectThenDirect _ _ _ (no_first _ _ after_two);
+      direct_rename = no_pair DirectThenRename _ _ _ (no_first _ _ after_three);
+      bundles = no_pair BundleThenBundle _ _ _ after_four;
     }
 
 -- no changing rename leads to another

@@ -1,13 +1,6 @@
-pub mod Same
-pub mod Picks
 pub mod Twice
-pub mod Cuts
-pub mod Bytes
 pub mod Forms
-pub mod KeyLaws
 pub mod Entries
-pub mod Searched
-pub mod Lookup
 pub mod Fronts
 pub mod TextMaps
 pub mod Laws
@@ -18,10 +11,9 @@ pub mod RenameEntries
 pub mod Builds
 pub mod Kept
 pub mod Updates
-pub mod SourceLaws
-pub mod Joined
 pub mod FrontLaws
 pub mod DottedBytes
 pub mod TextTurns
 pub mod TextBuilds
 pub mod Utf8Rules
+pub mod Chains

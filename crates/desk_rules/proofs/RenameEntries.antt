@@ -1,24 +1,24 @@
 -- What is read of an entry of the renames.
-use Rattle.std.proofs.Common.{◌≡◌, ◌-◌, Bool, true, false, cond, not, ◌||◌, ◌==◌, List, [], ◌∷◌, ◌++◌, length, take, Option, Result, Ok, Err, refl, sym, ap, ◌∙◌, inl, inr}
-use Rattle.std.specs.List.{list_all, ends_with}
+use Rattle.std.proofs.Common.{◌≡◌, ◌-◌, Bool, true, false, cond, not, ◌||◌, List, [], ◌∷◌, ◌++◌, length, take, Result, Ok, Err, refl, sym, ap, ◌∙◌, inl, inr}
+use Rattle.std.specs.List.{list_all}
 use Rattle.std.proofs.lemmas.Bool.{and_from, cases_Bool}
 use Rattle.std.proofs.lemmas.Bool.Decides.{Decides-eqb}
 use Rattle.std.proofs.lemmas.List.{append-nil}
 use Rattle.std.proofs.lemmas.Slice.Eq.{ends_is}
-use Rattle.desk_base.specs.Names.{Text, segments, written, dot, is_dotted}
+use Rattle.desk_base.specs.Names.{Text, segments, dot, is_dotted}
 use Rattle.desk_properties.specs.Properties.{Entry}
-use Rattle.desk_entries.specs.Blanks.{stripped}
+use Rattle.desk_lines.specs.Blanks.{trimmed_end}
 use Rattle.desk_entries.specs.Forms.{is_below, source_text, is_stored}
-use Rattle.desk_entries.specs.Entries.{rename_of, rename_between}
+use Rattle.desk_entries.specs.Entries.{rename_of}
 use Rattle.desk_entries.specs.declared.faults.EntryFault.{EntryFault}
 use Rattle.desk_entries.specs.declared.faults.EntryFault.TheVariants.{Key, Value}
 use Rattle.desk_entries.specs.declared.renames.Rename.{Rename}
-use Rattle.desk_rules.specs.Renames.{Renaming, key_of, is_rename}
-use Rattle.desk_rules.specs.Keys.{renaming, wanted_tail}
+use Rattle.desk_packages.specs.Renames.{Renaming, key_of, is_rename}
+use Rattle.desk_packages.specs.Keys.{renaming, wanted_tail}
 use Rattle.desk_rules.specs.RuleFiles.{each, with_first, rename_entry, renaming_from, renames_of, in_order}
 use Rattle.desk_rules.specs.Files.{renames_name}
 use Rattle.desk_rules.specs.declared.RuleFault.{RuleFault}
-use Rattle.desk_rules.proofs.Cuts.{written-segments}
+use Rattle.desk_packages.proofs.Cuts.{written-segments}
 
 -- what passes two tests, or is at fault
 record Passed {A : Type 0} (a b : Bool) (x y : A) : Type 0 where
@@ -34,17 +34,17 @@ passed false b fault x y h = absurd cc
 -- what a rename that was read says
 pub record Read (key value : Text) (r : Rename) : Type 0 where
   pub source : is_dotted (source_text key) ≡ true
-  pub target : is_dotted (stripped value) ≡ true
-  pub stored : is_stored (stripped value) ≡ true
-  pub is : record { source = segments dot (source_text key); target = segments dot (stripped value); below = is_below key } ≡ r
+  pub target : is_dotted (trimmed_end value) ≡ true
+  pub stored : is_stored (trimmed_end value) ≡ true
+  pub is : record { source = segments dot (source_text key); target = segments dot (trimmed_end value); below = is_below key } ≡ r
 
 pub read_parts : (key value : Text) (r : Rename) → rename_of key value ≡ Ok r → Read key value r
 read_parts key value r h =
-    let R : Rename = record { source = segments dot (source_text key); target = segments dot (stripped value); below = is_below key } in
-    elim (is_dotted (source_text key)) as (λ (a : Bool). is_dotted (source_text key) ≡ a → cond (not a) (Err Key) (cond (not (is_dotted (stripped value)) || not (is_stored (stripped value))) (Err Value) (Ok R)) ≡ Ok r → Read key value r) [
+    let R : Rename = record { source = segments dot (source_text key); target = segments dot (trimmed_end value); below = is_below key } in
+    elim (is_dotted (source_text key)) as (λ (a : Bool). is_dotted (source_text key) ≡ a → cond (not a) (Err Key) (cond (not (is_dotted (trimmed_end value)) || not (is_stored (trimmed_end value))) (Err Value) (Ok R)) ≡ Ok r → Read key value r) [
       | false ↦ λ p k. absurd cc
       | true ↦ λ p k.
-          let fine = passed (is_dotted (stripped value)) (is_stored (stripped value)) Value R r k in
+          let fine = passed (is_dotted (trimmed_end value)) (is_stored (trimmed_end value)) Value R r k in
           record { source = p; target = fine.first; stored = fine.second; is = fine.same }
     ] refl h
 

@@ -1,5 +1,5 @@
 -- What follows each step of reading the text rules.
-use Rattle.std.proofs.Common.{◌≡◌, List, [], Result, Ok, Err, map, refl, sym, ap, ◌∙◌}
+use Rattle.std.proofs.Common.{◌≡◌, List, Result, Ok, map, sym, ap, ◌∙◌}
 use Rattle.desk_base.specs.Names.{Text}
 use Rattle.desk_properties.specs.Properties.{Entry}
 use Rattle.desk_patterns.specs.PatternTexts.{PatternText}

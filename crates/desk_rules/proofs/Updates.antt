@@ -1,15 +1,14 @@
 -- Whether a bundle gets another name, by the update that is found for it.
-use Rattle.std.proofs.Common.{◌≡◌, Bool, true, false, cond, not, List, Option, Some, None, refl, sym, ap, subst, ◌∙◌}
+use Rattle.std.proofs.Common.{◌≡◌, Bool, true, false, cond, List, Some, None, sym, ap, ◌∙◌}
 use Rattle.std.specs.FinMap as finite
 use Rattle.std.specs.List.{find}
 use Rattle.std.specs.Str.{bytes_eq}
 use Rattle.std.proofs.lemmas.Bool.{not-true, not-false}
 use Rattle.std.proofs.lemmas.Slice.Eq.{bytes_eq-Decides}
 use Rattle.desk_base.specs.Names.{Text}
-use Rattle.desk_rules.specs.Rules.{Update}
 use Rattle.desk_rules.specs.Settled.{BundleUpdate, renames_bundle}
 use Rattle.desk_rules.specs.RuleSets.{changing_update, only_other_name}
-use Rattle.desk_rules.proofs.Picks.{Found, find_Some}
+use Rattle.desk_packages.proofs.Picks.{Found, find_Some}
 use Rattle.desk_rules.proofs.TextMaps.{found_value}
 
 module _ (es : List BundleUpdate) (name : Text) where

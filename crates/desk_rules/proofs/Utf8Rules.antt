@@ -9,22 +9,22 @@ use Rattle.std.proofs.lemmas.Cmp.{nat_list_cmp_total}
 use Rattle.desk_base.specs.Names.{Text, written, dot, is_empty}
 use Rattle.desk_base.specs.Utf8.{bad_form}
 use Rattle.desk_properties.specs.Properties.{Entry}
-use Rattle.desk_entries.specs.Blanks.{stripped}
+use Rattle.desk_lines.specs.Blanks.{trimmed_end}
 use Rattle.desk_entries.specs.Forms.{is_plain, is_stored}
 use Rattle.desk_entries.specs.Entries.{rename_of}
 use Rattle.desk_entries.specs.declared.faults.EntryFault.{EntryFault}
 use Rattle.desk_entries.specs.declared.faults.EntryFault.TheVariants.{Key, Value}
 use Rattle.desk_entries.specs.declared.renames.Rename.{Rename}
 use Rattle.desk_rules.specs.Files.{Files, renames_name, direct_name}
-use Rattle.desk_rules.specs.Renames.{Renaming}
+use Rattle.desk_packages.specs.Renames.{Renaming}
 use Rattle.desk_rules.specs.Settled.{Exchange}
-use Rattle.desk_rules.specs.Keys.{renaming}
+use Rattle.desk_packages.specs.Keys.{renaming}
 use Rattle.desk_rules.specs.RuleSets.{HaveUtf8Targets, HaveUtf8Texts}
 use Rattle.desk_rules.specs.RuleFiles.{◌>>=◌, entries_in, in_order, each, with_first, all_in, renames_in, renames_of, rename_entry, renaming_from, direct_entry, where_ok}
 use Rattle.desk_rules.specs.declared.RuleFault.{RuleFault}
-use Rattle.desk_rules.proofs.Picks.{In}
+use Rattle.desk_packages.proofs.Picks.{In}
 use Rattle.desk_rules.proofs.TextMaps.{find_in}
-use Rattle.desk_rules.proofs.Cuts.{written-segments}
+use Rattle.desk_packages.proofs.Cuts.{written-segments}
 use Rattle.desk_rules.proofs.RenameEntries.{read_parts}
 
 none_is : {A : Type 0} (o : Option A) → is_none o ≡ true → o ≡ None
@@ -59,7 +59,7 @@ module _ {X : Type 0} (P : X → Type 0) (file : Text) (read : Text → Text →
 entry_utf8 : (key value : Text) (r : Rename) → rename_of key value ≡ Ok r → bad_form (written dot r.target) ≡ None
 entry_utf8 key value r h =
     let read = read_parts key value r h in
-    ap (λ (x : Rename). bad_form (written dot x.target)) (sym read.is) ∙ ap bad_form (written-segments dot (stripped value)) ∙ stored_is (stripped value) read.stored
+    ap (λ (x : Rename). bad_form (written dot x.target)) (sym read.is) ∙ ap bad_form (written-segments dot (trimmed_end value)) ∙ stored_is (trimmed_end value) read.stored
 
 renaming_utf8 : (key value : Text) (o : Result Rename EntryFault) (r : Renaming) → rename_of key value ≡ o → renaming_from o ≡ Ok r → bad_form (written dot r.target) ≡ None
 renaming_utf8 key value (Ok x) r q h =

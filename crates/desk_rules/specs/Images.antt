@@ -1,8 +1,8 @@
 -- Images of texts.
-use Rattle.std.specs.Prelude.{◌≡◌, ◌≢◌, MatchOption, ℕ, Bool, List, [], ◌∷◌, ◌++◌, Option, Some, None, if◌then◌else◌, unwrap_or}
+use Rattle.std.specs.Prelude.{◌≡◌, ◌≢◌, MatchOption, ℕ, Bool, List, [], ◌∷◌, ◌++◌, Option, if◌then◌else◌, unwrap_or}
 use Rattle.std.specs.FinMap as finite
 use Rattle.desk_base.specs.Names.{Text, Package, segments, written, front, simple, is_name, is_identifier, is_part, dot, slash}
-use Rattle.desk_rules.specs.Renames.{Renaming, pkg}
+use Rattle.desk_packages.specs.Renames.{Renaming, pkg}
 use Rattle.desk_rules.specs.Rules.{Rules}
 
 -- the segments with all but the last exchanged as a package

@@ -1,11 +1,10 @@
-pub mod Renames
 pub mod Rules
 pub mod Settled
 pub mod Images
 pub mod RuleSets
-pub mod Keys
 pub mod Files
 pub mod Builds
 pub mod Reads
 pub mod RuleFiles
 pub mod TextFiles
+pub mod Sides

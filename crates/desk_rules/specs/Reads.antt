@@ -1,5 +1,5 @@
 -- What the entries of rule files say, or the first fault.
-use Rattle.std.specs.Prelude.{Bool, true, false, List, [], ◌∷◌, Option, Some, None, Result, Ok, Err, ⊤}
+use Rattle.std.specs.Prelude.{true, false, List, [], ◌∷◌, Option, Some, None, Result, Ok, Err, ⊤}
 use Rattle.std.specs.Cmp.Lexicographic.{slice_cmp}
 use Rattle.std.specs.Ordering.{nat_cmp}
 use Rattle.std.specs.FinMap as finite
@@ -14,9 +14,9 @@ use Rattle.desk_entries.specs.declared.patterns.Mark.{Mark}
 use Rattle.desk_entries.specs.declared.patterns.Mark.TheVariants.{Include, Exclude}
 use Rattle.desk_patterns.specs.Selections.{Choice}
 use Rattle.desk_rules.specs.Files.{Files, renames_name}
-use Rattle.desk_rules.specs.Renames.{Renaming}
-use Rattle.desk_rules.specs.Keys.{renaming}
-use Rattle.desk_rules.specs.Rules.{Rules, Versions, Update}
+use Rattle.desk_packages.specs.Renames.{Renaming}
+use Rattle.desk_packages.specs.Keys.{renaming}
+use Rattle.desk_rules.specs.Rules.{Rules, Versions}
 use Rattle.desk_rules.specs.Settled.{Exchange, BundleUpdate, Chain as FoundChain, first_chain}
 use Rattle.desk_rules.specs.declared.RuleFault.{RuleFault}
 use Rattle.desk_rules.specs.declared.RuleFault.TheVariants.{NoRenames, Properties, BadKey, BadValue, Chain}

@@ -1,5 +1,5 @@
 -- The rules of a whole rule folder, or its first fault.
-use Rattle.std.specs.Prelude.{List, Result}
+use Rattle.std.specs.Prelude.{Result}
 use Rattle.desk_rules.specs.Files.{Files, versions_name, bundles_name, direct_name, selection_name}
 use Rattle.desk_rules.specs.Rules.{Rules}
 use Rattle.desk_rules.specs.RuleSets.{rules_of}

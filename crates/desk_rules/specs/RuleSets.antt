@@ -1,5 +1,5 @@
 -- What a rule set keeps, and what it answers.
-use Rattle.std.specs.Prelude.{◌≡◌, ◌≤◌, ℕ, Bool, List, Option, Some, None, length, not, option_map, if◌then◌else◌, IsTrue}
+use Rattle.std.specs.Prelude.{◌≡◌, ◌≤◌, ℕ, Bool, List, Option, Some, None, length, option_map, if◌then◌else◌, IsTrue}
 use Rattle.std.specs.List.{list_all, AllByRecursion}
 use Rattle.std.specs.Str.{bytes_eq}
 use Rattle.std.specs.FinMap as finite
@@ -7,9 +7,9 @@ use Rattle.desk_base.specs.Names.{Text, Package, segments, written, is_dotted, i
 use Rattle.desk_base.specs.Utf8.{bad_form}
 use Rattle.desk_patterns.specs.Selections.{Choice}
 use Rattle.desk_patterns.specs.PatternTexts.{PatternText}
-use Rattle.desk_rules.specs.Renames.{Renaming, pick, pkg, changes, is_rename}
+use Rattle.desk_packages.specs.Renames.{Renaming, pick, pkg, changes, is_rename}
 use Rattle.desk_rules.specs.Rules.{Rules, Update, Versions, TextMap}
-use Rattle.desk_rules.specs.Keys.{IsTable, RiseBy, HoldsPlaces, sources_of}
+use Rattle.desk_packages.specs.Keys.{IsTable, RiseBy}
 use Rattle.desk_rules.specs.Settled.{Exchange, BundleUpdate, first_chain_in, IsSettled}
 use Rattle.desk_rules.specs.Images.{dotted, cls, str}
 
@@ -33,14 +33,12 @@ abbrev pub HaveUtf8Texts : TextMap Text → Type 0
 HaveUtf8Texts direct = (text value : Text) → finite.get direct text ≡ Some value → bad_form value ≡ None
 
 -- what a rule set keeps: lists in byte order of their keys without a chain, whose new packages and direct texts are modified
--- UTF-8, and where the sources of the renames are found
-pub record IsKept (renames : List Renaming) (versions : List (Text × Versions)) (bundles : List BundleUpdate) (direct : List Exchange) (dotted_sources slashed_sources : List (List ℕ)) : Type 0 where
+-- UTF-8
+pub record IsKept (renames : List Renaming) (versions : List (Text × Versions)) (bundles : List BundleUpdate) (direct : List Exchange) : Type 0 where
   pub table : IsTable renames
   pub versions_rise : RiseBy (λ v. v.0) versions
   pub bundles_rise : RiseBy (λ b. b.0) bundles
   pub direct_rise : RiseBy (λ d. d.0) direct
-  pub dotted_held : HoldsPlaces dotted_sources (sources_of dot renames)
-  pub slashed_held : HoldsPlaces slashed_sources (sources_of slash renames)
   pub settled : first_chain_in renames direct bundles ≡ None
   pub utf8 : HaveUtf8Targets renames
   pub direct_utf8 : HaveUtf8Texts (finite.from_entries direct)

@@ -10,7 +10,7 @@ pub use Rattle.desk_entries.specs.declared.versions.Versions.{Versions}
 pub use Rattle.desk_entries.specs.declared.bundles.Update.{Update}
 use Rattle.desk_patterns.specs.Selections.{Choice}
 use Rattle.desk_patterns.specs.PatternTexts.{PatternText}
-use Rattle.desk_rules.specs.Renames.{Renaming, renaming_code}
+use Rattle.desk_packages.specs.Renames.{Renaming, renaming_code}
 
 -- a finite map from texts
 abbrev pub TextMap : Type 0 → Type 0

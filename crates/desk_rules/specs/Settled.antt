@@ -4,8 +4,10 @@ use Rattle.std.specs.List.{find}
 use Rattle.std.specs.Str.{bytes_eq}
 use Rattle.std.specs.FinMap as finite
 use Rattle.desk_base.specs.Names.{Text, same, begins_with, segments, dot, is_dotted, front}
-use Rattle.desk_rules.specs.Renames.{Renaming, changes, in_scope, in_reach, key_of}
+use Rattle.desk_packages.specs.Renames.{Renaming, changes, in_scope, in_reach, key_of}
 use Rattle.desk_rules.specs.Rules.{Rules, Update}
+use Rattle.desk_rules.specs.declared.ChainKind.{ChainKind}
+use Rattle.desk_rules.specs.declared.ChainKind.TheVariants.{RenameThenRename, RenameThenDirect, DirectThenDirect, DirectThenRename, BundleThenBundle}
 
 -- whether a package lies in the reach of the first and in the scope of the second
 abbrev pub meets : Renaming → Renaming → Bool
@@ -61,11 +63,11 @@ first_pair R (x ∷ xs) ys = elim (find (R x) ys) [ Some y ↦ Some (x, y) | Non
 
 -- two rules, by their keys, of which the second changes what the first gives
 pub record Chain : Type 0 where
-  pub kind : ℕ
+  pub kind : ChainKind
   pub first : Text
   pub second : Text
 
-abbrev pub chain_of : {A B : Type 0} → ℕ → (A → Text) → (B → Text) → Option (A × B) → Option Chain
+abbrev pub chain_of : {A B : Type 0} → ChainKind → (A → Text) → (B → Text) → Option (A × B) → Option Chain
 chain_of kind first second None = None
 chain_of kind first second (Some pair) = Some (record { kind = kind; first = first pair.0; second = second pair.1 })
 
@@ -80,16 +82,32 @@ old_text e = e.0
 abbrev pub old_name : BundleUpdate → Text
 old_name u = u.0
 
+-- the number of a kind
+abbrev pub chain_number : ChainKind → ℕ
+chain_number RenameThenRename = 1
+chain_number RenameThenDirect = 2
+chain_number DirectThenDirect = 3
+chain_number DirectThenRename = 4
+chain_number BundleThenBundle = 5
+
+-- the first chain of a kind: by the first key, then by the second
+abbrev pub first_chain_of : ChainKind → List Renaming → List Exchange → List BundleUpdate → Option Chain
+first_chain_of RenameThenRename renames direct bundles = chain_of RenameThenRename key_of key_of (first_pair rename_then_rename renames renames)
+first_chain_of RenameThenDirect renames direct bundles = chain_of RenameThenDirect key_of old_text (first_pair rename_then_direct renames direct)
+first_chain_of DirectThenDirect renames direct bundles = chain_of DirectThenDirect old_text old_text (first_pair one_then_another direct direct)
+first_chain_of DirectThenRename renames direct bundles = chain_of DirectThenRename old_text key_of (first_pair direct_then_rename direct renames)
+first_chain_of BundleThenBundle renames direct bundles = chain_of BundleThenBundle old_name old_name (first_pair update_then_update bundles bundles)
+
 -- the first chain among renames, direct rules and bundle updates: by its kind, then by the first key, then by the second
 abbrev pub first_chain_in : List Renaming → List Exchange → List BundleUpdate → Option Chain
 first_chain_in renames direct bundles =
-    or_chain (chain_of 1 key_of key_of (first_pair rename_then_rename renames renames))
-    (or_chain (chain_of 2 key_of old_text (first_pair rename_then_direct renames direct))
-    (or_chain (chain_of 3 old_text old_text (first_pair one_then_another direct direct))
-    (or_chain (chain_of 4 old_text key_of (first_pair direct_then_rename direct renames))
-    (chain_of 5 old_name old_name (first_pair update_then_update bundles bundles)))))
+    or_chain (first_chain_of RenameThenRename renames direct bundles)
+    (or_chain (first_chain_of RenameThenDirect renames direct bundles)
+    (or_chain (first_chain_of DirectThenDirect renames direct bundles)
+    (or_chain (first_chain_of DirectThenRename renames direct bundles)
+    (first_chain_of BundleThenBundle renames direct bundles))))
 
-abbrev pub chain_at : ℕ → Text → Text → Chain
+abbrev pub chain_at : ChainKind → Text → Text → Chain
 chain_at kind first second = record { kind = kind; first = first; second = second }
 
 abbrev pub first_chain : Rules → Option Chain

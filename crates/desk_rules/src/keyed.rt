@@ -1,26 +1,14 @@
-//! Rules by a key text: versions, bundle updates and direct strings, and how one is found.
+//! Rules by a key text: versions, bundle updates, direct strings and patterns of paths.
 
 ghost use Rattle.std.specs.Prelude.{◌≡◌, if◌then◌else◌};
-ghost use Rattle.std.specs.Option.{option_copied};
-ghost use Rattle.std.specs.List.{find};
-ghost use Rattle.std.specs.Str.{bytes_eq};
-ghost use Rattle.desk_rules.specs.Keys.{RiseBy};
 ghost use Rattle.desk_rules.specs.Settled.{alters, renames_bundle};
+ghost use Rattle.desk_rules.specs.Sides.{exports};
 
+use crate::Side;
 use desk_base::Text;
 use desk_entries::{Update, Versions};
-use std::cmp::Ordering;
+use desk_packages::Keyed;
 use std::marker::Model;
-
-/// What has a key.
-pub(crate) trait Keyed {
-    ghost use Rattle.std.specs.Prelude.{ℕ, List};
-
-    ghost key_of: { Self → List ℕ };
-
-    fn key(&self) -> &[u8]
-        ensures { result.now ≡ key_of self.now };
-}
 
 /// The versions of a new package, where it is imported and where it is exported.
 #[derive(Debug, Drop)]
@@ -105,13 +93,12 @@ impl Keyed for DirectRule {
 
 impl VersionRule {
     /// The version where the package is exported, or where it is imported.
-    pub(crate) fn version(&self, export: bool) -> &[u8]
-        ensures { result.now ≡ (if export then self.now.1.exported else self.now.1.imported) }
+    pub(crate) fn version(&self, side: Side) -> &[u8]
+        ensures { result.now ≡ (if exports side then self.now.1.exported else self.now.1.imported) }
     {
-        if export {
-            self.versions.exported.as_bytes()
-        } else {
-            self.versions.imported.as_bytes()
+        match side {
+            Side::Export => self.versions.exported.as_bytes(),
+            Side::Import => self.versions.imported.as_bytes(),
         }
     }
 }
@@ -182,23 +169,4 @@ impl SelectionRule {
     {
         self.excludes
     }
-}
-
-/// The rule with a key, among rules in byte order of their keys. It takes no memory.
-pub(crate) fn rule_of<'r, R: Keyed>(rules: &'r [R], key: &[u8]) -> Option<&'r R>
-    requires { RiseBy R.key_of rules.now }
-    ensures { option_copied result ≡ find (λ r. bytes_eq (R.key_of r) key.now) rules.now }
-{
-    let mut low = 0;
-    let mut high = rules.len();
-    while low < high {
-        let middle = low + (high - low) / 2;
-        let rule = &rules[middle];
-        match rule.key().cmp(&key) {
-            Ordering::Less => low = middle + 1,
-            Ordering::Greater => high = middle,
-            Ordering::Equal => return Some(rule),
-        }
-    }
-    None
 }

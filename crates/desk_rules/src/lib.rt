@@ -1,4 +1,11 @@
 //! Rule files as a settled rule set: which packages are exchanged, and for what.
+//!
+//! ```text
+//! let mut files = RuleFiles::new(alloc);
+//! files.add(renames_name, content)?; // `renames.properties` with the line `javax.servlet.*=jakarta.servlet`
+//! let rules = RuleSet::build(alloc, &files)?;
+//! rules.package(b"javax/servlet/http", Separator::Slash); // the first 13 bytes, for `jakarta` and `servlet`
+//! ```
 #![tactic(auto)]
 
 ghost use Rattle.std.specs.Prelude.{◌≡◌};
@@ -6,21 +13,58 @@ ghost use Rattle.std.specs.Prelude.{◌≡◌};
 mod chain;
 mod files;
 mod keyed;
-mod picking;
 mod reading;
-mod rename;
 mod rule_set;
-mod sources;
-#[cfg(test)]
-mod tests;
 mod texts;
 
 use desk_base::{Memory, Text};
+pub use desk_packages::Separator;
 pub use desk_patterns::{TextHit, TextRules};
 pub use desk_properties::PropFault;
 pub use files::RuleFiles;
 pub use rule_set::{BundleUpdate, Front, RuleSet};
 use std::alloc::AllocFailed;
+
+/// Whether a bundle imports a package or exports it (OSGi Core 3.6).
+#[derive(Clone, Copy, Debug, PartialEq, Eq)]
+pub enum Side {
+    /// A package that is imported.
+    Import,
+    /// A package that is exported.
+    Export,
+}
+
+/// Which two rules make a chain: the first, and the second, which changes what the first gives.
+#[derive(Clone, Copy, Debug, PartialEq, Eq)]
+pub enum ChainKind {
+    /// Two renames.
+    RenameThenRename,
+    /// A rename and a direct string.
+    RenameThenDirect,
+    /// Two direct strings.
+    DirectThenDirect,
+    /// A direct string and a rename.
+    DirectThenRename,
+    /// Two bundle updates.
+    BundleThenBundle,
+}
+
+impl ChainKind {
+    ghost use Rattle.desk_rules.specs.Settled.{chain_number};
+
+    /// Its number, from 1 on in the order in which chains are looked for.
+    pub fn number(self) -> u8
+        ensures { result ≡ chain_number self }
+    {
+        match self {
+            ChainKind::RenameThenRename => 1,
+            ChainKind::RenameThenDirect => 2,
+            ChainKind::DirectThenDirect => 3,
+            ChainKind::DirectThenRename => 4,
+            ChainKind::BundleThenBundle => 5,
+        }
+    }
+}
 
 /// Why rule files make no rule set. Files, keys and names are the bytes as they were read.
 #[derive(Debug, Drop, PartialEq, Eq)]
@@ -28,17 +72,31 @@ pub enum RuleFault {
     /// The file `renames.properties` is missing, or has no key.
     NoRenames,
     /// A file isn't one of properties.
-    Properties { file: Text, fault: PropFault },
+    Properties {
+        file: Text,
+        fault: PropFault,
+    },
     /// A key of a file isn't of the form that this file asks for.
-    BadKey { file: Text, key: Text },
+    BadKey {
+        file: Text,
+        key: Text,
+    },
     /// The value of a key of a file isn't of the form that this file asks for.
-    BadValue { file: Text, key: Text },
+    BadValue {
+        file: Text,
+        key: Text,
+    },
     /// A pattern of `text.properties` names a file that the rule folder lacks.
-    MissingText { key: Text, name: Text },
-    /// The second of two rules, by their keys, changes what the first gives. The kind is 1 for two
-    /// renames, 2 for a rename and a direct string, 3 for two direct strings, 4 for a direct string and
-    /// a rename, and 5 for two bundle updates.
-    Chain { kind: u8, first: Text, second: Text },
+    MissingText {
+        key: Text,
+        name: Text,
+    },
+    /// The second of two rules, by their keys, changes what the first gives.
+    Chain {
+        kind: ChainKind,
+        first: Text,
+        second: Text,
+    },
 }
 
 /// Why no rule set was built: the first fault of the rule files, or want of memory.

@@ -5,16 +5,16 @@ ghost use Rattle.std.specs.FinMap as finite;
 ghost use Rattle.desk_entries.specs.Entries.{IsError};
 ghost use Rattle.desk_rules.specs.Builds.{IsFaultOf, IsEntryFault};
 ghost use Rattle.desk_rules.specs.Files.{renames_name, selection_name};
-ghost use Rattle.desk_rules.specs.Keys.{IsTable, RiseBy};
+ghost use Rattle.desk_packages.specs.Keys.{IsTable, RiseBy};
 ghost use Rattle.desk_rules.specs.RuleFiles.{entries_in, in_order, each, all_in, renames_in, fault_at, selection_entry};
 
-use crate::keyed::{BundleRule, DirectRule, Keyed, SelectionRule, VersionRule};
-use crate::rename::Rename;
+use crate::keyed::{BundleRule, DirectRule, SelectionRule, VersionRule};
 use crate::{BuildFault, RuleFault, RuleFiles};
 use desk_base::{Memory, Text};
 use desk_entries::{
     EntryError, EntryFault, Mark, check_string, read_mark, read_rename, read_update, read_versions,
 };
+use desk_packages::{Keyed, Reach, Rename};
 use desk_patterns::Selection;
 use desk_properties::{PropError, read_properties};
 use indexmap::IndexMap;
@@ -178,16 +178,6 @@ pub(crate) fn read_selection(alloc: Global, files: &RuleFiles) -> Result<Selecti
     Ok(selection_from(alloc, &rules)?)
 }
 
-impl Keyed for Rename {
-    ghost use Rattle.desk_rules.specs.Renames.{key_of as key_of_rename};
-
-    ghost key_of = { key_of_rename };
-
-    fn key(&self) -> &[u8] {
-        self.key_text()
-    }
-}
-
 impl FromEntry for Rename {
     ghost use Rattle.desk_rules.specs.RuleFiles.{rename_entry};
 
@@ -195,7 +185,8 @@ impl FromEntry for Rename {
 
     fn from_entry(alloc: Global, key: &[u8], value: &[u8]) -> Result<Rename, EntryError> {
         let entry = read_rename(alloc, key, value)?;
-        Ok(Rename::new(alloc, entry.source, entry.target, entry.below)?)
+        let reach = Reach::of(entry.below);
+        Ok(Rename::new(alloc, entry.source, entry.target, reach)?)
     }
 }
 

@@ -6,21 +6,20 @@ ghost use Rattle.std.specs.FinMap as finite;
 ghost use Rattle.desk_base.specs.Names.{segments};
 ghost use Rattle.desk_patterns.specs.PatternTexts.{texts_of};
 ghost use Rattle.desk_patterns.specs.Selections.{selects};
-ghost use Rattle.desk_rules.specs.Keys.{is_separator, IsTable, RiseBy};
-ghost use Rattle.desk_rules.specs.Renames.{key_of};
+ghost use Rattle.desk_packages.specs.Keys.{byte_of, IsTable, RiseBy};
+ghost use Rattle.desk_packages.specs.Renames.{key_of};
 ghost use Rattle.desk_rules.specs.Builds.{IsFaultOf};
 ghost use Rattle.desk_rules.specs.RuleFiles.{rules_of_files, settled};
+ghost use Rattle.desk_rules.specs.Sides.{exports};
 ghost use Rattle.desk_rules.specs.RuleSets.{changing_pick, IsFrontOf, IsRuleSet, HaveUtf8Targets, HaveUtf8Texts, PackagesStay, ClassesStay, ClassesKeepForm, DottedStay, DottedKeepForm, StringsStay, BundlesStay, version_of, changing_update, update_of, rules_of};
 
 use crate::chain::first_chain;
-use crate::keyed::{BundleRule, DirectRule, VersionRule, rule_of};
-use crate::picking::picked;
+use crate::keyed::{BundleRule, DirectRule, VersionRule};
 use crate::reading::{read_all, read_renames, read_selection};
-use crate::rename::Rename;
-use crate::sources::Sources;
 use crate::texts::read_texts;
-use crate::{BuildFault, RuleFault, RuleFiles};
+use crate::{BuildFault, RuleFault, RuleFiles, Side};
 use desk_base::{Text, TextList};
+use desk_packages::{Rename, Separator, pick, rule_of};
 use desk_patterns::{PatternTexts, Selection, TextRules};
 use std::alloc::Global;
 use std::marker::Model;
@@ -70,8 +69,6 @@ impl BundleRule {
 #[derive(Drop)]
 pub struct RuleSet {
     renames: Vec<Rename>,
-    dotted_sources: Sources,
-    slashed_sources: Sources,
     versions: Vec<VersionRule>,
     bundles: Vec<BundleRule>,
     direct: Vec<DirectRule>,
@@ -89,14 +86,7 @@ impl Model for RuleSet {
 
     ghost view = { λ r. rules_of r.renames.items r.versions.items r.bundles.items r.direct.items r.selection r.texts };
 
-    ghost invariant = { λ r. IsKept r.renames.items r.versions.items r.bundles.items r.direct.items r.dotted_sources r.slashed_sources };
-}
-
-/// The sources as a separator writes them.
-fn sources_by<'s>(separator: u8, dotted: &'s Sources, slashed: &'s Sources) -> &'s Sources
-    ensures { result.now ≡ (if separator == 47 then slashed.now else dotted.now) }
-{
-    if separator == b'/' { slashed } else { dotted }
+    ghost invariant = { λ r. IsKept r.renames.items r.versions.items r.bundles.items r.direct.items };
 }
 
 impl RuleSet {
@@ -127,12 +117,8 @@ impl RuleSet {
                 second: Text::from_bytes(alloc, chain.second)?,
             }));
         }
-        let dotted_sources = Sources::of(alloc, &renames, b'.')?;
-        let slashed_sources = Sources::of(alloc, &renames, b'/')?;
         Ok(RuleSet {
             renames,
-            dotted_sources,
-            slashed_sources,
             versions,
             bundles,
             direct,
@@ -170,15 +156,14 @@ impl RuleSet {
         true
     }
 
-    /// What is exchanged of a package that is written with a separator, `.` or `/`: something exactly
-    /// where a changing rule is picked for it. It takes no memory. Every rule set is settled: under
+    /// What is exchanged of a package that is written with a separator: something exactly where a
+    /// changing rule is picked for it. It takes no memory. Every rule set is settled: under
     /// it the image of a package, of a class name or of a dotted name is its own image, and the image
     /// of a name is a name of its kind with the same last part.
-    pub fn package(&self, path: &[u8], separator: u8) -> Option<Front<'_>>
-        requires { IsTrue (is_separator separator) }
+    pub fn package(&self, path: &[u8], separator: Separator) -> Option<Front<'_>>
         ensures answer { MatchOption result
-            (changing_pick self.now.renames (segments separator path.now) ≡ None)
-            (λ front. IsFrontOf self.now.renames separator path.now front.taken front.segments.now) }
+            (changing_pick self.now.renames (segments (byte_of separator) path.now) ≡ None)
+            (λ front. IsFrontOf self.now.renames (byte_of separator) path.now front.taken front.segments.now) }
         ensures settled { IsRuleSet self.now }
         ensures packages_stay { PackagesStay self.now.renames }
         ensures classes_stay { ClassesStay self.now.renames }
@@ -186,8 +171,7 @@ impl RuleSet {
         ensures dotted_stay { DottedStay self.now.renames }
         ensures dotted_keep_form { DottedKeepForm self.now.renames }
     {
-        let sources = sources_by(separator, &self.dotted_sources, &self.slashed_sources);
-        match picked(&self.renames, sources, path, separator) {
+        match pick(&self.renames, path, separator) {
             Some(rename) if rename.changes() => Some(Front {
                 taken: rename.source_text(separator).len(),
                 segments: rename.target(),
@@ -211,12 +195,12 @@ impl RuleSet {
 
     /// The version of a new package that is written with dots, where it is exported or where it is imported; none
     /// exactly where the package has no versions. It takes no memory.
-    pub fn version(&self, package: &[u8], export: bool) -> Option<&[u8]>
-        ensures { option_copied result ≡ version_of self.now.versions «package».now export }
+    pub fn version(&self, package: &[u8], side: Side) -> Option<&[u8]>
+        ensures { option_copied result ≡ version_of self.now.versions «package».now (exports side) }
     {
         match rule_of(&self.versions, package) {
             None => None,
-            Some(rule) => Some(rule.version(export)),
+            Some(rule) => Some(rule.version(side)),
         }
     }
 

@@ -4,11 +4,11 @@ ghost use Rattle.std.specs.Prelude.{◌≡◌, ◌≢◌, [], Ok, IfOk, IfErr, O
 ghost use Rattle.desk_rules.specs.Builds.{IsFaultOf};
 ghost use Rattle.desk_rules.specs.TextFiles.{named_by, named_all, checked_texts, pattern_text, pattern_texts, texts_in, IsNamed};
 
-use crate::keyed::Keyed;
 use crate::reading::{FromEntry, entries_in, fault_of, read_all, sorted};
 use crate::{BuildFault, RuleFault, RuleFiles};
 use desk_base::{Memory, Text};
 use desk_entries::{EntryError, check_text_rule, read_text_name};
+use desk_packages::Keyed;
 use desk_patterns::{PatternTexts, TextRules};
 use indexmap::IndexMap;
 use std::alloc::Global;

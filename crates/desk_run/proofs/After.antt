@@ -7,7 +7,7 @@ use Rattle.desk_base.specs.Paths.{full, folder}
 use Rattle.desk_folders.specs.Contents.{Contents}
 use Rattle.desk_ledger.specs.declared.keeper.Held.{Held}
 use Rattle.desk_ledger.specs.Ledger.{Ledger}
-use Rattle.desk_folders.specs.ContentsLaws.{get-insert-other, get-remove-other}
+use Rattle.desk_base.specs.TextMaps.{get-insert-other, get-remove-other}
 use Rattle.desk_run.specs.declared.planning.Plan.{Plan}
 use Rattle.desk_run.specs.declared.planning.Plan.TheVariants.{Keep, Leave, Write}
 use Rattle.desk_run.specs.declared.planning.Work.{Work}

@@ -1,12 +1,12 @@
 -- From the plan and the writing to where a run stands, and to what is promised of it.
-use Rattle.std.proofs.Common.{◌≡◌, inl, inr, ℕ, ◌+◌, ◌≤◌, List, [], ◌∷◌, ◌++◌, Option, Some, None, refl, sym, ap, ◌∙◌, subst, true, false, Bool, cond, append-nil, is_some, length, Result, Ok, Err}
+use Rattle.std.proofs.Common.{◌≡◌, ◌⊎◌, inl, inr, ℕ, ◌+◌, ◌≤◌, List, [], ◌∷◌, ◌++◌, Option, Some, None, refl, sym, ap, ◌∙◌, subst, true, false, Bool, cond, append-nil, is_some, length, Result, Ok, Err}
 use Rattle.std.specs.Prelude.{not, ◌&&◌, ◌||◌, count_by, is_ok, is_err, IsOkAnd, if◌then◌else◌}
 use Rattle.std.specs.List.{flat_map, fold, list_any, sum_by}
 use Rattle.std.proofs.lemmas.List.{length-map}
 use Rattle.desk_base.specs.Names.{Text}
 use Rattle.desk_base.specs.Paths.{full}
 use Rattle.desk_folders.specs.Contents.{Contents, File, setting, files_below}
-use Rattle.desk_folders.specs.ContentsLaws.{Rose-earlier}
+use Rattle.desk_base.specs.Counts.{Rose-earlier}
 use Rattle.desk_ledger.specs.declared.keeper.Header.{Header}
 use Rattle.desk_ledger.specs.Ledger.{Ledger, Rows, with_header}
 use Rattle.desk_report.specs.declared.lines.Detail.{Detail}
@@ -23,8 +23,8 @@ use Rattle.desk_run.specs.declared.stops.Halt.TheVariants as halt
 use Rattle.desk_run.specs.Runs.{Run, is_kept_file, is_fresh, is_refused}
 use Rattle.desk_run.specs.Works.{work_of, works_of, fresh, writes, keeps, leaves, cleared, files_after, ledger_after}
 use Rattle.desk_run.specs.Truth.{IsOurs}
-use Rattle.desk_run.specs.Stops.{Broken, StoppedAt, status_of_halt}
-use Rattle.desk_run.specs.Stands.{Unchanged}
+use Rattle.desk_run.specs.Stops.{Broken, StoppedAt, StoppedBehind, status_of_halt}
+use Rattle.desk_run.specs.Stands.{Unchanged, Between}
 use Rattle.desk_run.specs.Meaning.{run_of_words}
 use Rattle.desk_run.specs.Answers.{other_run, or_else, answer_of_run, first_answer, is_answer, WordsCause}
 use Rattle.desk_run.specs.Reports.{report, line_of, file_line, summary_of, ending, ending_of_works, line_of_work, plan_line, summary_of_works, report_of_works, renamed_uses, added_texts, number_in_file, number_of, number_in_plan}
@@ -120,6 +120,26 @@ stopped_stands words m0 l0 to header works done f' k' p s = by s.broken where
     });
   }
 
+-- all is written, but the ledger fails behind it
+behind_stands : (words : List Text) (m0 : Contents) (l0 : Ledger) (to : Text) (header : Header) (works : List Work) (done : ℕ) (f' : Option Contents) (k' : Option Ledger) → Planned words m0 l0 to header works
+    → StoppedBehind to works done (Some m0) f' (Some (with_header header l0)) k' → Tells f' k' (λ m l. StandsAt words m0 l0 m l done)
+unfolding all_written
+behind_stands words m0 l0 to header works done f' k' p s =
+    let all = all_written words m0 l0 to header works f' k' p (record { folders = s.folders; ledger = s.ledger }) in
+    let count : length (files_below p.run.from m0) ≡ done = sym (ap length p.are ∙ length-map (files_below p.run.from m0) (work_of p.run l0.rows)) ∙ s.count in
+    record {
+      m = all.m;
+      l = all.l;
+      folders = all.folders;
+      ledger = all.ledger;
+      holds = inr (record { run = p.run; is = p.ready.is; stands = inl (subst (Between p.run m0 l0 all.m all.l) count all.holds.stands) });
+    }
+
+stops_stands : (words : List Text) (m0 : Contents) (l0 : Ledger) (to : Text) (header : Header) (works : List Work) (done : ℕ) (f' : Option Contents) (k' : Option Ledger) → Planned words m0 l0 to header works
+    → StoppedAt to works done (Some m0) f' (Some (with_header header l0)) k' ⊎ StoppedBehind to works done (Some m0) f' (Some (with_header header l0)) k' → Tells f' k' (λ m l. StandsAt words m0 l0 m l done)
+stops_stands words m0 l0 to header works done f' k' p (inl s) = stopped_stands words m0 l0 to header works done f' k' p s
+stops_stands words m0 l0 to header works done f' k' p (inr s) = behind_stands words m0 l0 to header works done f' k' p s
+
 -- where a run stands after the writing
 pub finish_stands : (words : List Text) (m0 : Contents) (l0 : Ledger) (to : Text) (header : Header) (works : List Work) (f' : Option Contents) (k' : Option Ledger) (status : Status) → Planned words m0 l0 to header works
     → Finishes to works (Some m0) f' (Some (with_header header l0)) k' status → Tells f' k' (λ m l. StandsAfter words m0 l0 m l status)
@@ -127,10 +147,10 @@ finish_stands words m0 l0 to header works f' k' Done p a = all_written words m0 
 finish_stands words m0 l0 to header works f' k' Refusals p a = all_written words m0 l0 to header works f' k' p a
 finish_stands words m0 l0 to header works f' k' OutputFault p a = all_written words m0 l0 to header works f' k' p a
 finish_stands words m0 l0 to header works f' k' Memory p a =
-    let s = stopped_stands words m0 l0 to header works a.done f' k' p a.stopped in
+    let s = stops_stands words m0 l0 to header works a.done f' k' p a.stopped in
     record { m = s.m; l = s.l; folders = s.folders; ledger = s.ledger; holds = record { done = a.done; stands = s.holds } }
 finish_stands words m0 l0 to header works f' k' (FolderFault done) p a = stopped_stands words m0 l0 to header works done f' k' p a
-finish_stands words m0 l0 to header works f' k' (LedgerFault done) p a = stopped_stands words m0 l0 to header works done f' k' p a
+finish_stands words m0 l0 to header works f' k' (LedgerFault done) p a = stops_stands words m0 l0 to header works done f' k' p a
 finish_stands words m0 l0 to header works f' k' Usage p a = absurd a
 finish_stands words m0 l0 to header works f' k' (NestedRoots first second) p a = absurd a
 finish_stands words m0 l0 to header works f' k' (BadRules fault) p a = absurd a

@@ -3,71 +3,50 @@ use Rattle.std.proofs.Common.{◌≡◌, ℕ, ◌+◌, ◌<◌, ◌≤◌, Bool,
 use Rattle.desk_base.specs.Names.{Text}
 use Rattle.desk_clashes.specs.Clashes.{first_clash}
 use Rattle.desk_folders.specs.Contents.{Contents, file_at, files_below, paths_below}
-use Rattle.desk_folders.specs.ContentsLaws.{Rose-earlier}
+use Rattle.desk_base.specs.Counts.{Rose-earlier}
 use Rattle.desk_ledger.specs.Ledger.{Ledger}
 use Rattle.desk_report.specs.declared.status.Status.{Status}
 use Rattle.desk_report.specs.declared.status.Status.TheVariants.{Done, Refusals, Memory, FolderFault, LedgerFault, OutputFault, Usage, NestedRoots, BadRules, Limit, PathClash, OtherRun}
 use Rattle.desk_run.specs.declared.files.Input.{Input}
-use Rattle.desk_run.specs.declared.files.Place.{Place}
-use Rattle.desk_words.specs.declared.roots.Root.{Root}
+use Rattle.desk_run.specs.declared.files.Route.{Route}
 use Rattle.desk_words.specs.declared.roots.Roots.{Roots}
 use Rattle.desk_run.specs.declared.rules.Ruled.{Ruled}
 use Rattle.desk_run.specs.declared.stops.Halt.{Halt}
 use Rattle.desk_run.specs.declared.stops.Halt.TheVariants as halt
-use Rattle.desk_words.specs.declared.words.Task.{Task}
-use Rattle.desk_words.specs.declared.words.Task.TheVariants as task
-use Rattle.desk_words.specs.Words.{task_of, first_nested}
-use Rattle.desk_words.specs.Roots.{nested_status, roots_apart, roots_of_task, roots_of_words, RefusedBy}
+use Rattle.desk_words.specs.declared.roots.RootsFault.{RootsFault}
+use Rattle.desk_words.specs.declared.roots.RootsFault.TheVariants as roots_fault
+use Rattle.desk_words.specs.Roots as named
+use Rattle.desk_words.specs.Roots.{RefusedBy}
+use Rattle.desk_run.specs.Named.{told_roots, roots_of_words}
 use Rattle.desk_run.specs.Meaning.{ruled, run_of, run_by_roots, run_by_rules, run_of_words}
 use Rattle.desk_run.specs.Runs.{Run, AllRelative}
 use Rattle.desk_run.specs.Answers.{or_else, other_run, first_of, clash_status, clash_answer, files_answer, answer_of_run, WordsCause}
 use Rattle.desk_run.specs.Limits.{paths_answer, size_answer}
 use Rattle.desk_run.specs.Reports.{ending}
-use Rattle.desk_run.specs.Inputs.{place_of, input_at, input_of}
-use Rattle.desk_run.specs.Halts.{HaltsAtWords, HaltsAtFiles, HaltsWith, HaltsClashing, HaltsGathering, HaltsReadingAll, clash_of, reading_answer, is_read_status, is_early_answer}
+use Rattle.desk_run.specs.Inputs.{route_of, input_at, input_of}
+use Rattle.desk_run.specs.Halts.{HaltsAtFiles, HaltsWith, HaltsClashing, HaltsGathering, HaltsReadingAll, clash_of, reading_answer, is_read_status, is_early_answer}
 use Rattle.desk_run.specs.Endings.{AreInputs}
 use Rattle.desk_run.specs.Stops.{halt_of_words}
 use Rattle.desk_run.proofs.Parts.{if_some, at_some}
 
--- a status of words
-words_status : (words : List Text) (status : Status) → roots_of_words words ≡ Err status → (is_early_answer status ≡ true) × WordsCause words status
-words_status words status e = by (task_of words) e where
-  P : Status → Type 0
-  P s = (is_early_answer s ≡ true) × WordsCause words s
+-- what the words are told by
+halts_named : (words : List Text) (told : Option Contents) (f f' : ℕ) (status : Status) → is_early_answer status ≡ true → WordsCause words status → roots_of_words words ≡ Err status → HaltsGathering words told f f' (halt.Answer status)
+halts_named words told f f' status is cause e = record { is = is; cause = cause; first = if_some _ told (λ m _ l. ap (λ r. answer_of_run m l (run_by_roots m r)) e) }
 
-  at : (rules from to ledger : Root) (o : Option (Root × Root)) → roots_apart rules from to ledger o ≡ Err status → P status
-  at rules from to ledger None f = cc
-  at rules from to ledger (Some pair) f = let s : nested_status pair ≡ status = cc in subst P s (refl, e ∙ ap Err (sym s))
+-- a fault that stands against words
+halts_against : (words : List Text) (told : Option Contents) (f f' : ℕ) (fault : RootsFault) → RefusedBy (named.roots_of_words words) fault → HaltsGathering words told f f' (halt_of_words fault)
+halts_against words told f f' roots_fault.Memory e = tt
+halts_against words told f f' roots_fault.Usage e = let n : roots_of_words words ≡ Err Usage = ap told_roots e in halts_named words told f f' Usage refl n n
+halts_against words told f f' (roots_fault.Nested first second) e =
+    let n : roots_of_words words ≡ Err (NestedRoots first second) = ap told_roots e in halts_named words told f f' (NestedRoots first second) refl n n
 
-  by : (o : Option Task) → roots_of_task o ≡ Err status → P status
-  by None f = let s : Usage ≡ status = cc in subst P s (refl, e ∙ ap Err (sym s))
-  by (Some (task.Run rules from to ledger workers)) f = at rules from to ledger (first_nested rules from to ledger) f
+pub halts_by_words : (words : List Text) (told : Option Contents) (f f' : ℕ) (fault : RootsFault) (h : Halt) → h ≡ halt_of_words fault → RefusedBy (named.roots_of_words words) fault → HaltsGathering words told f f' h
+halts_by_words words told f f' fault h e r = subst (HaltsGathering words told f f') (sym e) (halts_against words told f f' fault r)
 
-halts_at_words : (words : List Text) (told : Option Contents) (f f' : ℕ) (h : Halt) → HaltsAtWords words h → HaltsGathering words told f f' h
-halts_at_words words told f f' halt.Memory e = tt
-halts_at_words words told f f' halt.Folders e = absurd e
-halts_at_words words told f f' halt.Ledger e = absurd e
-halts_at_words words told f f' (halt.Answer status) e =
-    let s = words_status words status e in
-    record { is = s.0; cause = s.1; first = if_some _ told (λ m _ l. ap (λ r. answer_of_run m l (run_by_roots m r)) e) }
-
--- a status that stands against words
-halts_against : (words : List Text) (told : Option Contents) (f f' : ℕ) (status : Status) → RefusedBy (roots_of_words words) status → HaltsGathering words told f f' (halt_of_words status)
-halts_against words told f f' Memory e = tt
-halts_against words told f f' Refusals e = halts_at_words words told f f' (halt.Answer Refusals) e
-halts_against words told f f' Done e = halts_at_words words told f f' (halt.Answer Done) e
-halts_against words told f f' (FolderFault done) e = halts_at_words words told f f' (halt.Answer (FolderFault done)) e
-halts_against words told f f' (LedgerFault done) e = halts_at_words words told f f' (halt.Answer (LedgerFault done)) e
-halts_against words told f f' OutputFault e = halts_at_words words told f f' (halt.Answer OutputFault) e
-halts_against words told f f' Usage e = halts_at_words words told f f' (halt.Answer Usage) e
-halts_against words told f f' (NestedRoots first second) e = halts_at_words words told f f' (halt.Answer (NestedRoots first second)) e
-halts_against words told f f' (BadRules fault) e = halts_at_words words told f f' (halt.Answer (BadRules fault)) e
-halts_against words told f f' (OtherRun kept wanted) e = halts_at_words words told f f' (halt.Answer (OtherRun kept wanted)) e
-halts_against words told f f' (Limit kind path) e = halts_at_words words told f f' (halt.Answer (Limit kind path)) e
-halts_against words told f f' (PathClash first second) e = halts_at_words words told f f' (halt.Answer (PathClash first second)) e
-
-pub halts_by_words : (words : List Text) (told : Option Contents) (f f' : ℕ) (status : Status) (h : Halt) → h ≡ halt_of_words status → RefusedBy (roots_of_words words) status → HaltsGathering words told f f' h
-halts_by_words words told f f' status h e r = subst (HaltsGathering words told f f') (sym e) (halts_against words told f f' status r)
+-- roots of words as they are told
+pub ok_named : {T : Type 0} (words : List Text) (names : Roots) (P : T → Roots) (r : Result T Halt) → named.roots_of_words words ≡ Ok names → IfOk r (λ g. P g ≡ names) → IfOk r (λ g. roots_of_words words ≡ Ok (P g))
+ok_named words names P (Ok g) e h = ap told_roots e ∙ ap Ok (sym h)
+ok_named words names P (Err x) e h = tt
 
 -- a status of rules or files
 reading_status : (words : List Text) (status : Status) → is_read_status status ≡ true → (is_early_answer status ≡ true) × WordsCause words status
@@ -114,19 +93,19 @@ first_some : (a b : Option Status) (status : Status) → a ≡ Some status → f
 first_some a b status e = ap (λ o. first_of o b) e
 
 -- the files that were read
-inputs_of_places : (run : Run) (m : Contents) (paths : List Text) → map (input_at run.from m) (map (place_of run.target) paths) ≡ map (input_of run) (map (file_at run.from m) paths)
-inputs_of_places run m [] = refl
-inputs_of_places run m (path ∷ paths) = ap (λ xs. input_of run (file_at run.from m path) ∷ xs) (inputs_of_places run m paths)
+inputs_of_routes : (run : Run) (m : Contents) (paths : List Text) → map (input_at run.from m) (map (route_of run.target) paths) ≡ map (input_of run) (map (file_at run.from m) paths)
+inputs_of_routes run m [] = refl
+inputs_of_routes run m (path ∷ paths) = ap (λ xs. input_of run (file_at run.from m path) ∷ xs) (inputs_of_routes run m paths)
 
-paths_placed : (target : Text → Text) (paths : List Text) → map (λ (place : Place). place.path) (map (place_of target) paths) ≡ paths
-paths_placed target [] = refl
-paths_placed target (path ∷ paths) = ap (λ ps. path ∷ ps) (paths_placed target paths)
+paths_routed : (target : Text → Text) (paths : List Text) → map (λ (route : Route). route.path) (map (route_of target) paths) ≡ paths
+paths_routed target [] = refl
+paths_routed target (path ∷ paths) = ap (λ ps. path ∷ ps) (paths_routed target paths)
 
--- the places that were listed
-pub places_listed : (from : Text) (target : Text → Text) (told now : Option Contents) (places : List Place) → now ≡ told → IfSome told (λ m. places ≡ map (place_of target) (paths_below from m))
-    → IfSome now (λ m. map (λ (place : Place). place.path) places ≡ paths_below from m)
-places_listed from target told now places same listed = if_some _ now (λ m t.
-    ap (map (λ (place : Place). place.path)) (at_some (λ m. places ≡ map (place_of target) (paths_below from m)) told m (sym same ∙ t) listed) ∙ paths_placed target (paths_below from m))
+-- the routes that were listed
+pub routes_listed : (from : Text) (target : Text → Text) (told now : Option Contents) (routes : List Route) → now ≡ told → IfSome told (λ m. routes ≡ map (route_of target) (paths_below from m))
+    → IfSome now (λ m. map (λ (route : Route). route.path) routes ≡ paths_below from m)
+routes_listed from target told now routes same listed = if_some _ now (λ m t.
+    ap (map (λ (route : Route). route.path)) (at_some (λ m. routes ≡ map (route_of target) (paths_below from m)) told m (sym same ∙ t) listed) ∙ paths_routed target (paths_below from m))
 
 paths_of_inputs : (run : Run) (m : Contents) (paths : List Text) → map (λ (input : Input). input.path) (map (input_of run) (map (file_at run.from m) paths)) ≡ paths
 paths_of_inputs run m [] = refl
@@ -139,17 +118,17 @@ targets_of_inputs run m (path ∷ paths) = ap (λ ts. run.target path ∷ ts) (t
 -- what is known of files that were listed and read
 pub record AreRead (run : Run) (m : Contents) (inputs : List Input) : Type 0 where
   pub are : inputs ≡ map (input_of run) (files_below run.from m)
-  pub placed : paths_answer run.from run.target (paths_below run.from m) ≡ None
+  pub routed : paths_answer run.from run.target (paths_below run.from m) ≡ None
   pub fit : size_answer 0 (files_below run.from m) ≡ None
 
-pub are_read : (run : Run) (told mid : Option Contents) (places : List Place) (inputs : List Input) → mid ≡ told → IfSome told (λ m. places ≡ map (place_of run.target) (paths_below run.from m))
-    → IfSome told (λ m. paths_answer run.from run.target (paths_below run.from m) ≡ None) → IfSome mid (λ m. inputs ≡ map (input_at run.from m) places) → IfSome mid (λ m. size_answer 0 (files_below run.from m) ≡ None)
+pub are_read : (run : Run) (told mid : Option Contents) (routes : List Route) (inputs : List Input) → mid ≡ told → IfSome told (λ m. routes ≡ map (route_of run.target) (paths_below run.from m))
+    → IfSome told (λ m. paths_answer run.from run.target (paths_below run.from m) ≡ None) → IfSome mid (λ m. inputs ≡ map (input_at run.from m) routes) → IfSome mid (λ m. size_answer 0 (files_below run.from m) ≡ None)
     → IfSome told (λ m. AreRead run m inputs)
-are_read run told mid places inputs same listed clear read fit = if_some _ told (λ m t. record {
-  are = at_some (λ m. inputs ≡ map (input_at run.from m) places) mid m (same ∙ t) read
-      ∙ ap (map (input_at run.from m)) (at_some (λ m. places ≡ map (place_of run.target) (paths_below run.from m)) told m t listed)
-      ∙ inputs_of_places run m (paths_below run.from m);
-  placed = at_some (λ m. paths_answer run.from run.target (paths_below run.from m) ≡ None) told m t clear;
+are_read run told mid routes inputs same listed clear read fit = if_some _ told (λ m t. record {
+  are = at_some (λ m. inputs ≡ map (input_at run.from m) routes) mid m (same ∙ t) read
+      ∙ ap (map (input_at run.from m)) (at_some (λ m. routes ≡ map (route_of run.target) (paths_below run.from m)) told m t listed)
+      ∙ inputs_of_routes run m (paths_below run.from m);
+  routed = at_some (λ m. paths_answer run.from run.target (paths_below run.from m) ≡ None) told m t clear;
   fit = at_some (λ m. size_answer 0 (files_below run.from m) ≡ None) mid m (same ∙ t) fit;
 })
 
@@ -161,7 +140,7 @@ clash_same run m inputs r =
     ∙ ap (λ ts. clash_status (paths_below run.from m) (first_clash ts)) (targets_of_inputs run m (paths_below run.from m))
 
 files_answer_read : (run : Run) (m : Contents) (inputs : List Input) → AreRead run m inputs → files_answer run m ≡ clash_of inputs
-files_answer_read run m inputs r = first_none _ _ r.placed ∙ first_none _ _ r.fit ∙ sym (clash_same run m inputs r)
+files_answer_read run m inputs r = first_none _ _ r.routed ∙ first_none _ _ r.fit ∙ sym (clash_same run m inputs r)
 
 -- nothing stands against them
 pub inputs_read : (run : Run) (told : Option Contents) (inputs : List Input) → IfSome told (λ m. AreRead run m inputs) → clash_of inputs ≡ None → IfSome told (λ m. AreInputs run m inputs)
@@ -202,3 +181,9 @@ pub err_reading : {T : Type 0} (words : List Text) (names : Roots) (told : Optio
     → IfErr r (HaltsReadingAll names told f f') → IfErr r (HaltsGathering words told f f')
 err_reading words names told f f' (Ok x) e g = tt
 err_reading words names told f f' (Err h) e g = halts_reading words names told f f' h e g
+
+-- the run of the roots and rules that were read
+pub ok_run : {T : Type 0} (words : List Text) (names : Roots) (P : T → Roots) (Q : T → Ruled) (told : Option Contents) (r : Result T Halt) → roots_of_words words ≡ Ok names → IfOk r (λ g. P g ≡ names)
+    → IfOk r (λ g. IfSome told (λ m. ruled names.rules (files_below names.rules m) ≡ Ok (Q g))) → IfOk r (λ g. IfSome told (λ m. run_of_words words m ≡ Ok (run_of (P g) (Q g))))
+ok_run words names P Q told (Ok g) e n h = subst (λ s. IfSome told (λ m. run_of_words words m ≡ Ok (run_of s (Q g)))) (sym n) (run_read words names (Q g) told e h)
+ok_run words names P Q told (Err x) e n h = tt

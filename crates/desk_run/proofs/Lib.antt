@@ -6,7 +6,7 @@ pub mod Writing
 pub mod Parts
 pub mod Sizes
 pub mod Taking
-pub mod Placed
+pub mod Routed
 pub mod Filling
 pub mod Clashing
 pub mod Reporting

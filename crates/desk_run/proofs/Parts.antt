@@ -31,9 +31,9 @@ parts_join text part bytes e f =
 
 pub front_more : (o : Option Contents) (m : Contents) (path text part new : List ℕ) (at : ℕ) → o ≡ Some m → IfSome o (λ c. IsPart (bytes_at c path) at part)
     → at ≡ length text → text ≡ take (length text) (bytes_at m path) → new ≡ text ++ part → new ≡ take (length new) (bytes_at m path)
-front_more o m path text part new at is got place front e =
+front_more o m path text part new at is got route front e =
     let p = at_some (λ c. IsPart (bytes_at c path) at part) o m is got in
-    e ∙ parts_join text part (bytes_at m path) front (p.front ∙ ap (λ n. take (length part) (drop n (bytes_at m path))) place) ∙ ap (λ t. take (length t) (bytes_at m path)) (sym e)
+    e ∙ parts_join text part (bytes_at m path) front (p.front ∙ ap (λ n. take (length part) (drop n (bytes_at m path))) route) ∙ ap (λ t. take (length t) (bytes_at m path)) (sym e)
 
 -- a listed path is there
 pub there_listed : (from : List ℕ) (told now : Option Contents) (paths : List (List ℕ)) (i : ℕ) (path : List ℕ) → now ≡ told → IfSome told (λ m. paths ≡ paths_below from m) → i < length paths

@@ -19,7 +19,7 @@ use Rattle.desk_words.specs.declared.roots.Roots.{Roots}
 use Rattle.desk_run.specs.declared.rules.Ruled.{Ruled}
 use Rattle.desk_run.specs.declared.stops.Halt.{Halt}
 use Rattle.desk_run.specs.declared.stops.Halt.TheVariants as halt
-use Rattle.desk_words.specs.Roots.{roots_of_words}
+use Rattle.desk_run.specs.Named.{roots_of_words}
 use Rattle.desk_run.specs.Meaning.{run_of, run_of_words}
 use Rattle.desk_words.specs.Roots.{AreRoots}
 use Rattle.desk_run.specs.Runs.{Run, AllRelative, AllApart as Distinct, Misses, targets_of}

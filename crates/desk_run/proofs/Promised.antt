@@ -2,8 +2,8 @@
 use Rattle.std.proofs.Common.{All, Bool, ◌≡◌, ◌⊎◌, inl, inr, ℕ, ◌<◌, ◌≤◌, List, [], ◌∷◌, ◌++◌, Option, Some, None, refl, sym, ap, ◌∙◌, subst, true, arith, append-nil, length, length-append, Result, Ok, Err, OnOk, OnErr}
 use Rattle.std.specs.Prelude.{option_map, IsOkAnd, MatchResult}
 use Rattle.desk_base.specs.Names.{Text}
-use Rattle.desk_folders.specs.Contents.{Contents, File, Rose, files_below}
-use Rattle.desk_folders.specs.ContentsLaws.{Rose-earlier, Rose-later}
+use Rattle.desk_base.specs.Counts.{Rose, Rose-earlier, Rose-later}
+use Rattle.desk_folders.specs.Contents.{Contents, File, files_below}
 use Rattle.desk_ledger.specs.declared.keeper.Header.{Header}
 use Rattle.desk_ledger.specs.Ledger.{Ledger, with_header}
 use Rattle.desk_report.specs.declared.sink.SinkFault.{SinkFault}
@@ -17,8 +17,8 @@ use Rattle.std.proofs.lemmas.Bool.{and_parts}
 use Rattle.std.proofs.lemmas.List.Elements.{All-head, All-tail}
 use Rattle.desk_format.specs.Laws.{IsBytes}
 use Rattle.desk_laws.proofs.Whole.{renamed_classes, unchanged_classes}
-use Rattle.desk_images.specs.RuleImages.{images_of}
-use Rattle.desk_images.proofs.Forms.{forms_kept, images_settled}
+use Rattle.desk_rewrite.specs.RuleImages.{images_of}
+use Rattle.desk_rewrite.proofs.Forms.{forms_kept, images_settled}
 use Rattle.desk_paths.specs.declared.Kind.{Kind}
 use Rattle.desk_paths.specs.declared.Kind.TheVariants as kinds
 use Rattle.desk_paths.specs.Kinds.{kind_of}

@@ -10,7 +10,8 @@ use Rattle.desk_base.specs.Paths.{full, is_relative_path}
 use Rattle.desk_folders.specs.Contents.{Contents, File, setting, files_below}
 use Rattle.desk_ledger.specs.declared.keeper.Held.{Held}
 use Rattle.desk_ledger.specs.Ledger.{Ledger, Rows, with_header}
-use Rattle.desk_folders.specs.ContentsLaws.{get-insert-same, get-setting-other, get-remove-same}
+use Rattle.desk_base.specs.TextMaps.{get-insert-same, get-remove-same}
+use Rattle.desk_folders.specs.ContentsLaws.{get-setting-other}
 use Rattle.desk_file.specs.declared.images.Image.{Image}
 use Rattle.desk_report.specs.declared.lines.Reason.{Reason}
 use Rattle.desk_run.specs.declared.planning.Plan.TheVariants.{Keep}
@@ -19,7 +20,7 @@ use Rattle.desk_run.specs.Runs.{Run, TargetsApart, AllRelative, Misses, AllApart
 use Rattle.desk_run.specs.Works.{work_of, works_of, fresh, wrote_plan, logged_plan, cleared_plan, writes, files_after, ledger_after}
 use Rattle.desk_run.specs.Truth.{TrueRows, TrueLedger, IsOurs}
 use Rattle.desk_run.specs.Stands.{Unchanged, Between, Within, Stands, Remains}
-use Rattle.desk_run.proofs.Splits.{covered, same_place, apart_before, apart_behind, misses_front, misses_back, relative_at, relative_front}
+use Rattle.desk_run.proofs.Splits.{covered, same_route, apart_before, apart_behind, misses_front, misses_back, relative_at, relative_front}
 use Rattle.desk_run.proofs.After.{Off, Spares, full_apart, files_spare, rows_spare, off_from_misses, spares_from_misses, files_after-join, ledger_after-join, header_after, header_cleared, cleared_spares}
 use Rattle.desk_run.proofs.Truths.{AllThere, IsThere, there_at, files_there, true_after, true_broken}
 
@@ -267,7 +268,7 @@ remains_within run m0 l0 m l done given s =
           ∙ cleared_spares (run.target s.file.path) (run.target file.path) _ _ (off a b file e lt')
           ∙ front_row run m0 l0 s.before (s.file ∷ s.rest) a b file image given s.split e lt' is;
       next = λ a b file e here.
-          let same = same_place s.before s.rest a s.file file b (sym s.split ∙ e) (here ∙ sym s.count) in
+          let same = same_route s.before s.rest a s.file file b (sym s.split ∙ e) (here ∙ sym s.count) in
           inl (subst (λ (f : File). fin.get l.rows (run.target f.path) ≡ None) same.1 (row_gone run m0 l0 m l done given s));
       paths = λ path h.
           folder_within run m0 l0 m l done s path (h s.before s.rest s.file s.split (let n = s.count in omega arith) (sym (fresh_works _ _ _) ∙ s.fresh))

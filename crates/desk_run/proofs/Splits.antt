@@ -32,13 +32,13 @@ covered (y ∷ before) rest (z ∷ a) x b e h =
       back = c.back;
     }
 
--- two splits at one place
-pub same_place : {X : Type 0} (before rest a : List X) (y x : X) (b : List X) → before ++ y ∷ rest ≡ a ++ x ∷ b → length a ≡ length before → (before ≡ a) × (y ≡ x) × (rest ≡ b)
-same_place [] rest [] y x b e h = (refl, head_same y x rest b e, tail_same y x rest b e)
-same_place [] rest (z ∷ a) y x b e h = absurd (omega arith)
-same_place (w ∷ before) rest [] y x b e h = absurd (omega arith)
-same_place (w ∷ before) rest (z ∷ a) y x b e h =
-    let s = same_place before rest a y x b (tail_same w z (before ++ y ∷ rest) (a ++ x ∷ b) e) (omega arith) in
+-- two splits at one index
+pub same_route : {X : Type 0} (before rest a : List X) (y x : X) (b : List X) → before ++ y ∷ rest ≡ a ++ x ∷ b → length a ≡ length before → (before ≡ a) × (y ≡ x) × (rest ≡ b)
+same_route [] rest [] y x b e h = (refl, head_same y x rest b e, tail_same y x rest b e)
+same_route [] rest (z ∷ a) y x b e h = absurd (omega arith)
+same_route (w ∷ before) rest [] y x b e h = absurd (omega arith)
+same_route (w ∷ before) rest (z ∷ a) y x b e h =
+    let s = same_route before rest a y x b (tail_same w z (before ++ y ∷ rest) (a ++ x ∷ b) e) (omega arith) in
     (ap (λ v. v ∷ before) (head_same w z (before ++ y ∷ rest) (a ++ x ∷ b) e) ∙ ap (λ l. z ∷ l) s.0, s.1, s.2)
 
 pub misses_front : (t : List ℕ) (xs ys : List (List ℕ)) → Misses t (xs ++ ys) → Misses t xs

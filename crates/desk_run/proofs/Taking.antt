@@ -1,5 +1,5 @@
 -- Rule files that are taken in, one after another.
-use Rattle.std.proofs.Common.{◌≡◌, ◌≢◌, ◌⊎◌, inl, inr, ℕ, zero, suc, ◌+◌, ◌<◌, ◌≤◌, Bool, true, false, List, [], ◌∷◌, ◌++◌, length, Option, Some, None, refl, sym, ap, ◌∙◌, subst, take, drop, get_or, map, arith, IfSome, IfErr, IfOk, Result, Ok, Err, append-nil, append_assoc, drop-cons}
+use Rattle.std.proofs.Common.{◌≡◌, ◌≢◌, ◌⊎◌, inl, inr, ℕ, zero, suc, ◌+◌, ◌<◌, ◌≤◌, Bool, true, false, List, [], ◌∷◌, ◌++◌, length, Option, Some, None, refl, sym, ap, ◌∙◌, subst, take, drop, get_or, map, arith, IfSome, IfErr, IfOk, Result, Ok, Err, append-nil, append_assoc, drop-cons, Box, Global}
 use Rattle.std.specs.Prelude.{if◌then◌else◌, nat_lt}
 use Rattle.std.specs.Cmp.Lexicographic.{slice_cmp}
 use Rattle.std.specs.FinMap as fin
@@ -16,7 +16,7 @@ use Rattle.std.proofs.lemmas.Slice.Eq.{bytes_eq-Decides}
 use Rattle.desk_base.specs.Names.{Text}
 use Rattle.desk_base.specs.Paths.{full}
 use Rattle.desk_folders.specs.Contents.{Contents, File, IsListing, bytes_at, file_at, files_below, paths_below}
-use Rattle.desk_folders.specs.ContentsLaws.{Rose-earlier}
+use Rattle.desk_base.specs.Counts.{Rose-earlier}
 use Rattle.desk_ledger.specs.Digests.{HasTaken}
 use Rattle.desk_report.specs.declared.status.Status.{Status}
 use Rattle.desk_report.specs.declared.status.LimitKind.TheVariants.{RuleFiles, RuleSize}
@@ -24,16 +24,15 @@ use Rattle.desk_report.specs.declared.status.Status.TheVariants.{Done, Refusals,
 use Rattle.desk_rules.specs.Files.{Files}
 use Rattle.desk_rules.specs.RuleFiles.{rules_of_files}
 use Rattle.desk_rules.specs.declared.RuleFault.{RuleFault}
-use Rattle.desk_run.specs.declared.TheConstants.{RULE_FILES, RULE_SIZE}
 use Rattle.desk_run.specs.declared.rules.Ruled.{Ruled}
 use Rattle.desk_run.specs.declared.rules.Taken.{Taken}
 use Rattle.desk_run.specs.declared.stops.Halt.{Halt}
 use Rattle.desk_run.specs.declared.stops.Halt.TheVariants as halt
-use Rattle.desk_run.specs.Limits.{within, rule_size_answer, rule_files_answer}
+use Rattle.desk_run.specs.Limits.{within, most_rule_files, rule_size, rule_size_answer, rule_files_answer}
 use Rattle.desk_run.specs.Meaning.{adding_files, named_files, digest_entry, with_digest, ruled, ruled_by}
 use Rattle.desk_run.specs.RuleFolders.{Takes, HasTakenAll, Free}
 use Rattle.desk_run.specs.Runs.{AllApart, Misses}
-use Rattle.desk_run.specs.Halts.{HaltsTakingOne, HaltsTaking, HaltsAtRules, HaltsBuilding, IsLimit, is_rules_status}
+use Rattle.desk_run.specs.Halts.{HaltsTakingOne, HaltsTaking, HaltsAtRules, HaltsBuilding, is_rules_status}
 use Rattle.desk_run.proofs.Parts.{at_some, if_some, dropped_all, taken_all}
 use Rattle.desk_run.proofs.Sizes.{within_none, within_some, rule_large, rule_fits, is_more, not_more}
 use Rattle.desk_run.proofs.Writing.{split_at}
@@ -106,13 +105,12 @@ digest_more root m names i name old new lt is t h =
     (t.digest _ h)
 
 -- a rule file that is too large
-pub halts_large : (root path : Text) (told now : Option Contents) (f f' : ℕ) (text : Option Text) (h : Halt) → now ≡ told → IfSome told (λ m. text ≡ within RULE_SIZE (bytes_at m (full root path))) → text ≡ None
-    → IsLimit RuleSize path h → HaltsTakingOne root path told f f' h
-halts_large root path told now f f' text h same whole none (inl e) = subst (HaltsTakingOne root path told f f') (sym e) tt
-halts_large root path told now f f' text h same whole none (inr e) = subst (HaltsTakingOne root path told f f') (sym e) (
+pub halts_large : (root path : Text) (told now : Option Contents) (f f' : ℕ) (text : Option Text) (h : Halt) → now ≡ told → IfSome told (λ m. text ≡ within rule_size (bytes_at m (full root path))) → text ≡ None
+    → h ≡ halt.Answer (Limit RuleSize path) → HaltsTakingOne root path told f f' h
+halts_large root path told now f f' text h same whole none e = subst (HaltsTakingOne root path told f f') (sym e) (
   refl,
   if_some _ told (λ m t more. rule_large (file_at root m path) more
-      (within_none RULE_SIZE (bytes_at m (full root path)) (sym none ∙ at_some (λ m. text ≡ within RULE_SIZE (bytes_at m (full root path))) told m t whole))),
+      (within_none rule_size (bytes_at m (full root path)) (sym none ∙ at_some (λ m. text ≡ within rule_size (bytes_at m (full root path))) told m t whole))),
 )
 
 -- where one of them halts
@@ -129,38 +127,37 @@ halts_taking root names i name told now f f1 f' (halt.Answer status) le same lt 
 )
 
 -- the rules of all
-ruled_taken : (root : Text) (m : Contents) (taken : Taken) → HasTakenAll root m taken → length (paths_below root m) ≤ RULE_FILES
+ruled_taken : (root : Text) (m : Contents) (taken : Taken) → HasTakenAll root m taken → length (paths_below root m) ≤ most_rule_files
     → ruled root (files_below root m) ≡ with_digest (flat_map digest_entry (files_below root m)) (rules_of_files taken.files)
 ruled_taken root m taken t few =
-    let count : nat_lt RULE_FILES (length (files_below root m)) ≡ false = not_more RULE_FILES _ (subst (λ n. n ≤ RULE_FILES) (sym (length-map (paths_below root m) (file_at root m))) few) in
+    let count : nat_lt most_rule_files (length (files_below root m)) ≡ false = not_more most_rule_files _ (subst (λ n. n ≤ most_rule_files) (sym (length-map (paths_below root m) (file_at root m))) few) in
     ap (λ o. ruled_by o (files_below root m)) (ap (λ b. if b then Some (Limit RuleFiles root) else rule_size_answer (files_below root m)) count ∙ t.small)
     ∙ ap (λ f. with_digest (flat_map digest_entry (files_below root m)) (rules_of_files f)) (sym t.files)
 
-listed_few : (root : Text) (m : Contents) (paths : List Text) → IsListing RULE_FILES (paths_below root m) paths → length paths ≤ RULE_FILES → (paths ≡ paths_below root m) × (length (paths_below root m) ≤ RULE_FILES)
+listed_few : (root : Text) (m : Contents) (paths : List Text) → IsListing most_rule_files (paths_below root m) paths → length paths ≤ most_rule_files → (paths ≡ paths_below root m) × (length (paths_below root m) ≤ most_rule_files)
 listed_few root m paths (inl all) few = (all.1, all.0)
 listed_few root m paths (inr many) few = absurd (let k = many.1 in omega arith)
 
-listed_many : (root : Text) (m : Contents) (paths : List Text) → IsListing RULE_FILES (paths_below root m) paths → RULE_FILES < length paths → RULE_FILES < length (paths_below root m)
+listed_many : (root : Text) (m : Contents) (paths : List Text) → IsListing most_rule_files (paths_below root m) paths → most_rule_files < length paths → most_rule_files < length (paths_below root m)
 listed_many root m paths (inl all) many = absurd (let k = ap length all.1 in let n = all.0 in omega arith)
 listed_many root m paths (inr more) many = more.0
 
-pub rules_listed : (root : Text) (told : Option Contents) (paths : List Text) → IfSome told (λ m. IsListing RULE_FILES (paths_below root m) paths) → length paths ≤ RULE_FILES → IfSome told (λ m. paths ≡ paths_below root m)
-rules_listed root told paths listed few = if_some _ told (λ m t. (listed_few root m paths (at_some (λ m. IsListing RULE_FILES (paths_below root m) paths) told m t listed) few).0)
+pub rules_listed : (root : Text) (told : Option Contents) (paths : List Text) → IfSome told (λ m. IsListing most_rule_files (paths_below root m) paths) → length paths ≤ most_rule_files → IfSome told (λ m. paths ≡ paths_below root m)
+rules_listed root told paths listed few = if_some _ told (λ m t. (listed_few root m paths (at_some (λ m. IsListing most_rule_files (paths_below root m) paths) told m t listed) few).0)
 
 -- too many rule files
-pub halts_many : (root : Text) (told : Option Contents) (paths : List Text) (f f' : ℕ) (h : Halt) → IfSome told (λ m. IsListing RULE_FILES (paths_below root m) paths) → RULE_FILES < length paths
-    → IsLimit RuleFiles root h → HaltsAtRules root told f f' h
-halts_many root told paths f f' h listed many (inl e) = subst (HaltsAtRules root told f f') (sym e) tt
-halts_many root told paths f f' h listed many (inr e) = subst (HaltsAtRules root told f f') (sym e) (
+pub halts_many : (root : Text) (told : Option Contents) (paths : List Text) (f f' : ℕ) (h : Halt) → IfSome told (λ m. IsListing most_rule_files (paths_below root m) paths) → most_rule_files < length paths
+    → h ≡ halt.Answer (Limit RuleFiles root) → HaltsAtRules root told f f' h
+halts_many root told paths f f' h listed many e = subst (HaltsAtRules root told f f') (sym e) (
   refl,
   if_some _ told (λ m t.
-      let over = listed_many root m paths (at_some (λ m. IsListing RULE_FILES (paths_below root m) paths) told m t listed) many in
-      let count : nat_lt RULE_FILES (length (files_below root m)) ≡ true = is_more RULE_FILES _ (subst (λ n. RULE_FILES < n) (sym (length-map (paths_below root m) (file_at root m))) over) in
+      let over = listed_many root m paths (at_some (λ m. IsListing most_rule_files (paths_below root m) paths) told m t listed) many in
+      let count : nat_lt most_rule_files (length (files_below root m)) ≡ true = is_more most_rule_files _ (subst (λ n. most_rule_files < n) (sym (length-map (paths_below root m) (file_at root m))) over) in
       ap (λ o. ruled_by o (files_below root m)) (ap (λ b. if b then Some (Limit RuleFiles root) else rule_size_answer (files_below root m)) count)),
 )
 
 -- one that is too large
-pub halts_taken : (root : Text) (told now : Option Contents) (paths : List Text) (f f1 f' : ℕ) (h : Halt) → f ≤ f1 → now ≡ told → IfSome told (λ m. IsListing RULE_FILES (paths_below root m) paths) → length paths ≤ RULE_FILES
+pub halts_taken : (root : Text) (told now : Option Contents) (paths : List Text) (f f1 f' : ℕ) (h : Halt) → f ≤ f1 → now ≡ told → IfSome told (λ m. IsListing most_rule_files (paths_below root m) paths) → length paths ≤ most_rule_files
     → HaltsTaking root now f1 f' h → HaltsAtRules root told f f' h
 halts_taken root told now paths f f1 f' halt.Memory le same listed few g = tt
 halts_taken root told now paths f f1 f' halt.Folders le same listed few g = Rose-earlier f f1 f' le g
@@ -168,23 +165,23 @@ halts_taken root told now paths f f1 f' halt.Ledger le same listed few g = absur
 halts_taken root told now paths f f1 f' (halt.Answer status) le same listed few g = (
   g.0,
   if_some _ told (λ m t.
-      let below = listed_few root m paths (at_some (λ m. IsListing RULE_FILES (paths_below root m) paths) told m t listed) few in
-      let count : nat_lt RULE_FILES (length (files_below root m)) ≡ false = not_more RULE_FILES _ (subst (λ n. n ≤ RULE_FILES) (sym (length-map (paths_below root m) (file_at root m))) below.1) in
+      let below = listed_few root m paths (at_some (λ m. IsListing most_rule_files (paths_below root m) paths) told m t listed) few in
+      let count : nat_lt most_rule_files (length (files_below root m)) ≡ false = not_more most_rule_files _ (subst (λ n. n ≤ most_rule_files) (sym (length-map (paths_below root m) (file_at root m))) below.1) in
       ap (λ o. ruled_by o (files_below root m)) (ap (λ b. if b then Some (Limit RuleFiles root) else rule_size_answer (files_below root m)) count
       ∙ at_some (λ m. rule_size_answer (files_below root m) ≡ Some status) now m (same ∙ t) g.1)),
 )
 
 -- the rules that are built of what was taken in
-pub built_ok : (root : Text) (told now : Option Contents) (paths : List Text) (taken : Taken) (r : Result Ruled Halt) → now ≡ told → IfSome told (λ m. IsListing RULE_FILES (paths_below root m) paths) → length paths ≤ RULE_FILES
-    → IfSome now (λ m. HasTakenAll root m taken) → IfOk r (λ read. (text : Text) → HasTaken taken.digester text → with_digest text (rules_of_files taken.files) ≡ Ok read)
-    → IfOk r (λ read. IfSome told (λ m. ruled root (files_below root m) ≡ Ok read))
+pub built_ok : (root : Text) (told now : Option Contents) (paths : List Text) (taken : Taken) (r : Result (Box Ruled Global) Halt) → now ≡ told → IfSome told (λ m. IsListing most_rule_files (paths_below root m) paths) → length paths ≤ most_rule_files
+    → IfSome now (λ m. HasTakenAll root m taken) → IfOk r (λ read. (text : Text) → HasTaken taken.digester text → with_digest text (rules_of_files taken.files) ≡ Ok read.value)
+    → IfOk r (λ read. IfSome told (λ m. ruled root (files_below root m) ≡ Ok read.value))
 built_ok root told now paths taken (Err h) same listed few all g = tt
 built_ok root told now paths taken (Ok read) same listed few all g = if_some _ told (λ m t.
     let have = at_some (λ m. HasTakenAll root m taken) now m (same ∙ t) all in
-    ruled_taken root m taken have (listed_few root m paths (at_some (λ m. IsListing RULE_FILES (paths_below root m) paths) told m t listed) few).1
+    ruled_taken root m taken have (listed_few root m paths (at_some (λ m. IsListing most_rule_files (paths_below root m) paths) told m t listed) few).1
     ∙ g (flat_map digest_entry (files_below root m)) have.digest)
 
-pub built_err : (root : Text) (told now : Option Contents) (paths : List Text) (taken : Taken) (f f' : ℕ) (r : Result Ruled Halt) → now ≡ told → IfSome told (λ m. IsListing RULE_FILES (paths_below root m) paths) → length paths ≤ RULE_FILES
+pub built_err : (root : Text) (told now : Option Contents) (paths : List Text) (taken : Taken) (f f' : ℕ) (r : Result (Box Ruled Global) Halt) → now ≡ told → IfSome told (λ m. IsListing most_rule_files (paths_below root m) paths) → length paths ≤ most_rule_files
     → IfSome now (λ m. HasTakenAll root m taken) → IfErr r (HaltsBuilding (rules_of_files taken.files)) → IfErr r (HaltsAtRules root told f f')
 built_err root told now paths taken f f' (Ok read) same listed few all g = tt
 built_err root told now paths taken f f' (Err h) same listed few all g = by h g where
@@ -193,7 +190,7 @@ built_err root told now paths taken f f' (Err h) same listed few all g = by h g 
     refl,
     if_some _ told (λ m t.
         let have = at_some (λ m. HasTakenAll root m taken) now m (same ∙ t) all in
-        ruled_taken root m taken have (listed_few root m paths (at_some (λ m. IsListing RULE_FILES (paths_below root m) paths) told m t listed) few).1
+        ruled_taken root m taken have (listed_few root m paths (at_some (λ m. IsListing most_rule_files (paths_below root m) paths) told m t listed) few).1
         ∙ ap (with_digest (flat_map digest_entry (files_below root m))) e),
   )
 

@@ -13,7 +13,8 @@ use Rattle.std.proofs.lemmas.Bool.Decides.{not_from_Decides, Decides-eqb}
 use Rattle.desk_base.specs.Names.{Text}
 use Rattle.desk_base.specs.Paths.{full, folder, is_relative_path}
 use Rattle.desk_folders.specs.Contents.{Contents, File, behind, below, relative, setting, file_at, files_below}
-use Rattle.desk_folders.specs.ContentsLaws.{get-insert-same, get-insert-other, get-setting-other}
+use Rattle.desk_base.specs.TextMaps.{get-insert-same, get-insert-other}
+use Rattle.desk_folders.specs.ContentsLaws.{get-setting-other}
 use Rattle.desk_ledger.specs.declared.keeper.Held.{Held}
 use Rattle.desk_ledger.specs.Ledger.{Ledger, Rows}
 use Rattle.desk_file.specs.declared.images.Image.{Image}

@@ -5,7 +5,7 @@ use Rattle.std.proofs.lemmas.List.{take_more, take-append-drop}
 use Rattle.std.proofs.Common.{drop-cons}
 use Rattle.desk_ledger.specs.declared.keeper.Row.{Row}
 use Rattle.desk_ledger.specs.Ledger.{Ledger, with_row, held_in}
-use Rattle.desk_folders.specs.ContentsLaws.{insert-remove}
+use Rattle.desk_base.specs.TextMaps.{insert-remove}
 use Rattle.desk_run.specs.declared.planning.Work.{Work}
 use Rattle.desk_run.specs.Works.{forgot, wrote, logged, files_after, ledger_after}
 use Rattle.desk_run.specs.Stops.{Broken, StoppedAt}

@@ -12,7 +12,7 @@ use Rattle.desk_report.specs.declared.status.Status.TheVariants.{Usage, NestedRo
 use Rattle.desk_run.specs.Limits.{paths_answer, size_answer}
 use Rattle.desk_run.specs.Reports.{ending}
 use Rattle.desk_run.specs.Runs.{Run}
-use Rattle.desk_words.specs.Roots.{roots_of_words}
+use Rattle.desk_run.specs.Named.{roots_of_words}
 use Rattle.desk_run.specs.Meaning.{run_of_words}
 
 -- the first of two that stands

@@ -6,7 +6,7 @@ use Rattle.desk_base.specs.Paths.{full}
 use Rattle.desk_folders.specs.Contents.{Contents, File, files_below}
 use Rattle.desk_format.specs.Classes.{Class, read_class}
 use Rattle.desk_format.specs.NewClass.{new_class, new_bytes}
-use Rattle.desk_images.specs.RuleImages.{images_of}
+use Rattle.desk_rewrite.specs.RuleImages.{images_of}
 use Rattle.desk_laws.specs.Classes.{IsRenamedClass, IsUnchangedClass}
 use Rattle.desk_ledger.specs.Ledger.{Ledger}
 use Rattle.desk_file.specs.declared.images.Image.{Image}

@@ -3,7 +3,8 @@ use Rattle.std.specs.Prelude.{◌≡◌, ◌≢◌, ◌⊎◌, ℕ, ◌++◌, Li
 use Rattle.std.specs.FinMap as fin
 use Rattle.desk_base.specs.Names.{Text}
 use Rattle.desk_base.specs.Paths.{full}
-use Rattle.desk_folders.specs.Contents.{Contents, File, Rose, files_below}
+use Rattle.desk_base.specs.Counts.{Rose}
+use Rattle.desk_folders.specs.Contents.{Contents, File, files_below}
 use Rattle.desk_ledger.specs.Ledger.{Ledger}
 use Rattle.desk_report.specs.declared.status.Status.{Status}
 use Rattle.desk_report.specs.declared.status.Status.TheVariants.{Done, Refusals, Memory, FolderFault, LedgerFault, OutputFault}

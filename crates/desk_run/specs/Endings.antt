@@ -1,11 +1,13 @@
 -- How a run ends.
 use Rattle.std.specs.Prelude.{All, ◌≡◌, ◌⊎◌, ℕ, List, length, Option, Some, None, Bool, true, false, Result, Ok, Err, IfSome, option_map, map, IsOkAnd}
 use Rattle.desk_base.specs.Names.{Text}
-use Rattle.desk_folders.specs.Contents.{Contents, File, Rose, files_below}
+use Rattle.desk_base.specs.Counts.{Rose}
+use Rattle.desk_folders.specs.Contents.{Contents, File, files_below}
 use Rattle.desk_format.specs.Laws.{IsBytes}
 use Rattle.desk_rules.specs.RuleSets.{IsRuleSet}
 use Rattle.desk_ledger.specs.declared.keeper.Header.{Header}
-use Rattle.desk_ledger.specs.Ledger.{Ledger, with_header}
+use Rattle.desk_ledger.specs.declared.keeper.Row.{Row}
+use Rattle.desk_ledger.specs.Ledger.{Ledger, NoneWaits, with_header}
 use Rattle.desk_report.specs.declared.status.Status.{Status}
 use Rattle.desk_report.specs.declared.status.Status.TheVariants.{Done, Refusals, Memory, FolderFault, LedgerFault, OutputFault, OtherRun}
 use Rattle.desk_report.specs.Written.{WritesFront, writing}
@@ -20,9 +22,10 @@ use Rattle.desk_run.specs.Works.{works_of, files_after, ledger_after}
 use Rattle.desk_run.specs.Truth.{IsOurs}
 use Rattle.desk_run.specs.Reports.{report}
 use Rattle.desk_run.specs.Inputs.{input_of}
-use Rattle.desk_run.specs.Stops.{StoppedAt, status_of_halt}
+use Rattle.desk_run.specs.declared.stops.Stop.TheVariants as stop
+use Rattle.desk_run.specs.Stops.{StopsAt, status_of_halt}
 use Rattle.desk_run.specs.Stands.{Unchanged, Between, Within}
-use Rattle.desk_words.specs.Roots.{roots_of_words}
+use Rattle.desk_run.specs.Named.{roots_of_words}
 use Rattle.desk_run.specs.Meaning.{run_of, run_of_words}
 use Rattle.desk_run.specs.Answers.{files_answer, other_run, first_answer, is_answer, WordsCause}
 
@@ -98,7 +101,7 @@ pub record AllWritten (to : Text) (works : List Work) (f f' : Option Contents) (
 
 pub record SomeWritten (to : Text) (works : List Work) (f f' : Option Contents) (k k' : Option Ledger) : Type 0 where
   pub done : ℕ
-  pub stopped : StoppedAt to works done f f' k k'
+  pub stopped : StopsAt stop.Memory to works done f f' k k'
 
 -- what the writing leaves
 abbrev pub Finishes : Text → List Work → Option Contents → Option Contents → Option Ledger → Option Ledger → Status → Type 0
@@ -106,9 +109,16 @@ Finishes to works f f' k k' Done = AllWritten to works f f' k k'
 Finishes to works f f' k k' Refusals = AllWritten to works f f' k k'
 Finishes to works f f' k k' OutputFault = AllWritten to works f f' k k'
 Finishes to works f f' k k' Memory = SomeWritten to works f f' k k'
-Finishes to works f f' k k' (FolderFault done) = StoppedAt to works done f f' k k'
-Finishes to works f f' k k' (LedgerFault done) = StoppedAt to works done f f' k k'
+Finishes to works f f' k k' (FolderFault done) = StopsAt stop.Folders to works done f f' k k'
+Finishes to works f f' k k' (LedgerFault done) = StopsAt stop.Ledger to works done f f' k k'
 Finishes to works f f' k k' _ = ⊥
+
+-- no row waits behind a run whose files are all done and whose report was begun
+abbrev pub Committed : Option (List Row) → Status → Type 0
+Committed waiting Done = NoneWaits waiting
+Committed waiting Refusals = NoneWaits waiting
+Committed waiting OutputFault = NoneWaits waiting
+Committed waiting _ = Unit {0}
 
 -- what was written of a report
 abbrev pub Reported : Text → Option Text → Option Text → Status → Type 0

@@ -2,7 +2,8 @@
 use Rattle.std.specs.Prelude.{◌≡◌, ◌⊎◌, ℕ, List, ◌∷◌, Option, Some, Bool, true, false, Result, Ok, Err, IfSome, option_map, map}
 use Rattle.desk_base.specs.Names.{Text}
 use Rattle.desk_clashes.specs.Clashes.{first_clash}
-use Rattle.desk_folders.specs.Contents.{Contents, File, Rose, file_at, files_below}
+use Rattle.desk_base.specs.Counts.{Rose}
+use Rattle.desk_folders.specs.Contents.{Contents, File, file_at, files_below}
 use Rattle.desk_ledger.specs.declared.keeper.Header.{Header}
 use Rattle.desk_ledger.specs.Ledger.{Ledger, with_header}
 use Rattle.desk_report.specs.declared.status.LimitKind.{LimitKind}
@@ -11,7 +12,6 @@ use Rattle.desk_report.specs.declared.status.Status.TheVariants.{Usage, NestedRo
 use Rattle.desk_rules.specs.Rules.{Rules}
 use Rattle.desk_rules.specs.declared.RuleFault.{RuleFault}
 use Rattle.desk_words.specs.declared.roots.Roots.{Roots}
-use Rattle.desk_words.specs.Roots.{roots_of_words}
 use Rattle.desk_run.specs.declared.files.Input.{Input}
 use Rattle.desk_run.specs.declared.stops.Halt.{Halt}
 use Rattle.desk_run.specs.declared.stops.Halt.TheVariants.{Memory, Folders, Ledger as LedgerHalt, Answer}
@@ -21,16 +21,6 @@ use Rattle.desk_run.specs.Limits.{first_long, long_answer, paths_answer, size_an
 use Rattle.desk_run.specs.Meaning.{ruled, run_of}
 use Rattle.desk_run.specs.Answers.{clash_status, files_answer, first_answer, other_run, WordsCause}
 use Rattle.desk_run.specs.Truth.{IsOurs}
-
--- at the words
-abbrev pub HaltsAtWords : List Text → Halt → Type 0
-HaltsAtWords words Memory = Unit {0}
-HaltsAtWords words (Answer status) = roots_of_words words ≡ Err status
-HaltsAtWords words _ = ⊥
-
--- the answer that this path passes a limit
-abbrev pub IsLimit : LimitKind → Text → Halt → Type 0
-IsLimit kind path halt = (halt ≡ Memory) ⊎ (halt ≡ Answer (Limit kind path))
 
 -- a status of the rule folder
 abbrev pub is_rules_status : Status → Bool
@@ -84,10 +74,10 @@ abbrev pub HaltsAtFiles : Run → Option Contents → ℕ → ℕ → Halt → T
 HaltsAtFiles run = HaltsWith (files_answer run)
 
 -- at the first path that is too long
-abbrev pub HaltsPlacing : (Text → Text) → List Text → Halt → Type 0
-HaltsPlacing target paths Memory = Unit {0}
-HaltsPlacing target paths (Answer status) = (is_files_status status ≡ true) × (long_answer (first_long target paths) ≡ Some status)
-HaltsPlacing target paths _ = ⊥
+abbrev pub HaltsRouting : (Text → Text) → List Text → Halt → Type 0
+HaltsRouting target paths Memory = Unit {0}
+HaltsRouting target paths (Answer status) = (is_files_status status ≡ true) × (long_answer (first_long target paths) ≡ Some status)
+HaltsRouting target paths _ = ⊥
 
 -- where one file is read, with so many bytes before it
 abbrev pub HaltsReadingOne : Text → ℕ → Text → Option Contents → ℕ → ℕ → Halt → Type 0
@@ -112,10 +102,6 @@ abbrev pub HaltsPlanning : ℕ → ℕ → Halt → Type 0
 HaltsPlanning k k' Memory = Unit {0}
 HaltsPlanning k k' LedgerHalt = Rose k k'
 HaltsPlanning k k' _ = ⊥
-
--- the answer of another run
-abbrev pub IsOtherRun : Header → Header → Halt → Type 0
-IsOtherRun kept wanted halt = (halt ≡ Memory) ⊎ (halt ≡ Answer (OtherRun kept wanted))
 
 -- a status of the ledger
 abbrev pub is_ledger_status : Status → Bool

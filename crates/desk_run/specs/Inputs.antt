@@ -9,19 +9,19 @@ use Rattle.desk_folders.specs.Contents.{Contents, File, bytes_at}
 use Rattle.desk_ledger.specs.Ledger.{Rows}
 use Rattle.desk_report.specs.declared.lines.Reason.{Reason}
 use Rattle.desk_run.specs.declared.files.Input.{Input}
-use Rattle.desk_run.specs.declared.files.Place.{Place}
+use Rattle.desk_run.specs.declared.files.Route.{Route}
 use Rattle.desk_run.specs.declared.planning.Plan.TheVariants.{Keep}
 use Rattle.desk_run.specs.declared.planning.Work.{Work}
 use Rattle.desk_run.specs.Runs.{Run, is_kept}
 use Rattle.desk_run.specs.Works.{fresh}
 
 -- a path with its target
-abbrev pub place_of : (Text → Text) → Text → Place
-place_of target path = record { path = path; target = target path }
+abbrev pub route_of : (Text → Text) → Text → Route
+route_of target path = record { path = path; target = target path }
 
 -- with the bytes that stand there
-abbrev pub input_at : Text → Contents → Place → Input
-input_at from m place = record { path = place.path; target = place.target; bytes = bytes_at m (full from place.path) }
+abbrev pub input_at : Text → Contents → Route → Input
+input_at from m route = record { path = route.path; target = route.target; bytes = bytes_at m (full from route.path) }
 
 abbrev pub input_of : Run → File → Input
 input_of run file = record { path = file.path; target = run.target file.path; bytes = file.bytes }

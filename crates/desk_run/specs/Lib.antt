@@ -6,6 +6,7 @@ pub mod Truth
 pub mod Stands
 pub mod Stops
 pub mod Reports
+pub mod Named
 pub mod Meaning
 pub mod Answers
 pub mod Halts

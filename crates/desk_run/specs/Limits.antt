@@ -1,14 +1,34 @@
 -- What a run takes no more of, and what stands against files that pass it.
 use Rattle.std.specs.Prelude.{ℕ, ◌+◌, ◌&&◌, nat_lt, nat_le, List, [], ◌∷◌, length, Option, Some, None, Bool, cond, if◌then◌else◌}
+use Rattle.desk_base.specs.Limits.{file_size}
 use Rattle.desk_base.specs.Names.{Text}
 use Rattle.desk_folders.specs.Contents.{File}
 use Rattle.desk_report.specs.declared.status.LimitKind.TheVariants.{PathLength, FileSize, Sum, RuleFiles, RuleSize, Files}
 use Rattle.desk_report.specs.declared.status.Status.{Status}
 use Rattle.desk_report.specs.declared.status.Status.TheVariants.{Limit}
-use Rattle.desk_run.specs.declared.TheConstants.{FILES, LENGTH, SIZE, SUM, RULE_FILES, RULE_SIZE}
+
+-- how many files of the source a run takes
+abbrev pub most_files : ℕ
+most_files = 200000
+
+-- how many bytes a relative path or its target may have
+abbrev pub path_length : ℕ
+path_length = 1024
+
+-- how many bytes all files of the source may have together
+abbrev pub sum_size : ℕ
+sum_size = 1073741824
+
+-- how many files the rule folder may have
+abbrev pub most_rule_files : ℕ
+most_rule_files = 1000
+
+-- how many bytes a rule file may have
+abbrev pub rule_size : ℕ
+rule_size = 1048576
 
 abbrev pub is_short : Text → Bool
-is_short text = nat_le (length text) LENGTH
+is_short text = nat_le (length text) path_length
 
 -- the first of these paths that is too long, or whose target is
 abbrev pub first_long : (Text → Text) → List Text → Option Text
@@ -21,15 +41,15 @@ long_answer (Some path) = Some (Limit PathLength path)
 
 -- what stands against the paths below a root: that they are too many, or that one is too long
 abbrev pub paths_answer : Text → (Text → Text) → List Text → Option Status
-paths_answer from target paths = if nat_lt FILES (length paths) then Some (Limit Files from) else long_answer (first_long target paths)
+paths_answer from target paths = if nat_lt most_files (length paths) then Some (Limit Files from) else long_answer (first_long target paths)
 
 -- what stands against files by their bytes, with so many bytes before them: the first that has too many,
 -- or with which they are too many
 abbrev pub size_answer : ℕ → List File → Option Status
 size_answer sum [] = None
 size_answer sum (file ∷ files) =
-    if nat_lt SIZE (length file.bytes) then Some (Limit FileSize file.path)
-    else if nat_lt SUM (sum + length file.bytes) then Some (Limit Sum file.path)
+    if nat_lt file_size (length file.bytes) then Some (Limit FileSize file.path)
+    else if nat_lt sum_size (sum + length file.bytes) then Some (Limit Sum file.path)
     else size_answer (sum + length file.bytes) files
 
 -- a file's bytes where they are within a limit
@@ -39,8 +59,8 @@ within limit bytes = cond (nat_lt limit (length bytes)) None (Some bytes)
 -- the first rule file that has too many bytes
 abbrev pub rule_size_answer : List File → Option Status
 rule_size_answer [] = None
-rule_size_answer (file ∷ files) = if nat_lt RULE_SIZE (length file.bytes) then Some (Limit RuleSize file.path) else rule_size_answer files
+rule_size_answer (file ∷ files) = if nat_lt rule_size (length file.bytes) then Some (Limit RuleSize file.path) else rule_size_answer files
 
 -- what stands against rule files below a root: that they are too many, or that one has too many bytes
 abbrev pub rule_files_answer : Text → List File → Option Status
-rule_files_answer root files = if nat_lt RULE_FILES (length files) then Some (Limit RuleFiles root) else rule_size_answer files
+rule_files_answer root files = if nat_lt most_rule_files (length files) then Some (Limit RuleFiles root) else rule_size_answer files

@@ -15,7 +15,7 @@ use Rattle.desk_rules.specs.RuleFiles.{rules_of_files}
 use Rattle.desk_rules.specs.declared.RuleFault.{RuleFault}
 use Rattle.desk_words.specs.declared.roots.Roots.{Roots}
 use Rattle.desk_run.specs.declared.rules.Ruled.{Ruled}
-use Rattle.desk_words.specs.Roots.{roots_of_words}
+use Rattle.desk_run.specs.Named.{roots_of_words}
 use Rattle.desk_run.specs.Limits.{rule_files_answer}
 use Rattle.desk_run.specs.Runs.{Run}
 

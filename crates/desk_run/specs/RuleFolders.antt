@@ -6,14 +6,14 @@ use Rattle.desk_base.specs.Names.{Text}
 use Rattle.desk_folders.specs.Contents.{Contents, File, files_below}
 use Rattle.desk_ledger.specs.Digests.{HasTaken}
 use Rattle.desk_rules.specs.Files.{Files}
-use Rattle.desk_run.specs.declared.TheConstants.{RULE_SIZE}
+use Rattle.desk_run.specs.Limits.{rule_size}
 use Rattle.desk_run.specs.declared.rules.Taken.{Taken}
 use Rattle.desk_run.specs.Limits.{rule_size_answer}
 use Rattle.desk_run.specs.Meaning.{digest_entry, named_files}
 
 -- one more rule file is taken in
 pub record Takes (file : File) (old new : Taken) : Type 0 where
-  pub small : length file.bytes ≤ RULE_SIZE
+  pub small : length file.bytes ≤ rule_size
   pub files : new.files ≡ fin.insert old.files file.path file.bytes
   pub digest : (taken : Text) → HasTaken old.digester taken → HasTaken new.digester (taken ++ digest_entry file)
 

@@ -4,12 +4,15 @@ use Rattle.desk_base.specs.Names.{Text}
 use Rattle.desk_base.specs.Paths.{full}
 use Rattle.desk_folders.specs.declared.folders.FolderFault.{FolderFault}
 use Rattle.desk_folders.specs.declared.folders.FolderFault.TheVariants as folder
-use Rattle.desk_folders.specs.Contents.{Contents, Rose, ChangesOnly}
+use Rattle.desk_base.specs.Counts.{Rose}
+use Rattle.desk_folders.specs.Contents.{Contents, ChangesOnly}
 use Rattle.desk_ledger.specs.declared.keeper.KeeperFault.{KeeperFault}
 use Rattle.desk_ledger.specs.declared.keeper.KeeperFault.TheVariants as keeper
 use Rattle.desk_ledger.specs.Ledger.{Ledger}
 use Rattle.desk_report.specs.declared.status.Status.{Status}
 use Rattle.desk_report.specs.declared.status.Status.TheVariants as status
+use Rattle.desk_words.specs.declared.roots.RootsFault.{RootsFault}
+use Rattle.desk_words.specs.declared.roots.RootsFault.TheVariants as words
 use Rattle.desk_run.specs.declared.planning.Work.{Work}
 use Rattle.desk_run.specs.declared.stops.Stop.{Stop}
 use Rattle.desk_run.specs.declared.stops.Stop.TheVariants.{Memory, Folders, Ledger as LedgerStop}
@@ -54,6 +57,18 @@ pub record StoppedAt (to : Text) (works : List Work) (done : ℕ) (f f' : Option
   pub count : length before ≡ done
   pub broken : Broken to work (option_map (files_after to before) f) f' (option_map (ledger_after before) k) k'
 
+-- all works were done, so many
+pub record StoppedBehind (to : Text) (works : List Work) (done : ℕ) (f f' : Option Contents) (k k' : Option Ledger) : Type 0 where
+  pub count : length works ≡ done
+  pub folders : f' ≡ option_map (files_after to works) f
+  pub ledger : k' ≡ option_map (ledger_after works) k
+
+-- the folders stop a run within the works, the ledger and want of memory behind them, too
+abbrev pub StopsAt : Stop → Text → List Work → ℕ → Option Contents → Option Contents → Option Ledger → Option Ledger → Type 0
+StopsAt Folders to works done f f' k k' = StoppedAt to works done f f' k k'
+StopsAt Memory to works done f f' k k' = StoppedAt to works done f f' k k' ⊎ StoppedBehind to works done f f' k k'
+StopsAt LedgerStop to works done f f' k k' = StoppedAt to works done f f' k k' ⊎ StoppedBehind to works done f f' k k'
+
 abbrev pub status_of_stop : Stop → ℕ → Status
 status_of_stop Memory done = status.Memory
 status_of_stop Folders done = status.FolderFault done
@@ -67,9 +82,10 @@ abbrev pub halt_of_keeper : KeeperFault → Halt
 halt_of_keeper keeper.Failed = halt.Ledger
 halt_of_keeper keeper.Memory = halt.Memory
 
-abbrev pub halt_of_words : Status → Halt
-halt_of_words status.Memory = halt.Memory
-halt_of_words against = halt.Answer against
+abbrev pub halt_of_words : RootsFault → Halt
+halt_of_words words.Usage = halt.Answer status.Usage
+halt_of_words (words.Nested first second) = halt.Answer (status.NestedRoots first second)
+halt_of_words words.Memory = halt.Memory
 
 abbrev pub status_of_halt : Halt → Status
 status_of_halt halt.Memory = status.Memory

@@ -6,7 +6,6 @@ ghost use Rattle.desk_run.specs.Answers.{clash_status};
 ghost use Rattle.desk_run.specs.Halts.{HaltsClashing, clash_of};
 
 use crate::files::Input;
-use crate::sources::copy_of;
 use crate::stops::Halt;
 use desk_base::{Memory, Text};
 use desk_clashes::{Clash, Targets};
@@ -25,11 +24,11 @@ fn targets_of(alloc: Global, inputs: &[Input]) -> Result<Targets<'_>, Memory>
 }
 
 /// The status of two files whose targets clash.
-fn path_clash(alloc: Global, first: &Text, second: &Text) -> Result<Status, Memory>
+fn path_clash(first: &Text, second: &Text) -> Result<Status, Memory>
     ensures { IfOk result (λ status. status ≡ Status.PathClash first.now second.now) }
 {
-    let first = copy_of(alloc, first)?;
-    let second = copy_of(alloc, second)?;
+    let first = first.clone()?;
+    let second = second.clone()?;
     Ok(Status::PathClash { first, second })
 }
 
@@ -42,7 +41,6 @@ pub(crate) fn refuse_clash(alloc: Global, inputs: &[Input]) -> Result<(), Halt>
     match targets.first_clash(alloc)? {
         None => Ok(()),
         Some(Clash { first, second }) => Err(Halt::Answer(path_clash(
-            alloc,
             &inputs[first].path,
             &inputs[second].path,
         )?)),

@@ -1,9 +1,9 @@
 //! Files of the source: as they are listed, and as they were read.
 
 ghost use Rattle.std.specs.Prelude.{◌≡◌, ◌≤◌, length};
+ghost use Rattle.desk_base.specs.Limits.{file_size};
 ghost use Rattle.desk_format.specs.Laws.{IsBytes};
 
-use crate::SIZE;
 use desk_base::Text;
 use std::marker::Model;
 
@@ -15,19 +15,19 @@ pub struct Content {
 
 impl Model for Content {
     ghost use Rattle.std.specs.Prelude.{ℕ, List, ◌≤◌, length};
-    ghost use Rattle.desk_run.specs.declared.TheConstants.{SIZE};
+    ghost use Rattle.desk_base.specs.Limits.{file_size};
 
     ghost Value = { List ℕ };
 
     ghost view = { λ c. c.text };
 
-    ghost invariant = { λ c. length c.text ≤ SIZE };
+    ghost invariant = { λ c. length c.text ≤ file_size };
 }
 
 impl Content {
     /// Bytes within the limit.
     pub(crate) fn new(text: Text) -> Content
-        requires { length text ≤ SIZE }
+        requires { length text ≤ file_size }
         ensures { result ≡ text }
     {
         Content { text }
@@ -37,7 +37,7 @@ impl Content {
     pub(crate) fn as_bytes(&self) -> &[u8]
         ensures bytes { result.now ≡ self.now }
         ensures each { IsBytes self.now }
-        ensures small { length self.now ≤ SIZE }
+        ensures small { length self.now ≤ file_size }
     {
         let bytes = self.text.as_bytes();
         bytes
@@ -46,7 +46,7 @@ impl Content {
     /// The bytes as a text.
     pub(crate) fn into_text(self) -> Text
         ensures bytes { result ≡ self }
-        ensures small { length self ≤ SIZE }
+        ensures small { length self ≤ file_size }
     {
         let Content { text } = self;
         text
@@ -55,7 +55,7 @@ impl Content {
 
 /// A path of the source, and its target.
 #[derive(Debug, Drop)]
-pub struct Place {
+pub struct Route {
     pub path: Text,
     pub target: Text,
 }

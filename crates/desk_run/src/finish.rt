@@ -2,9 +2,9 @@
 
 ghost use Rattle.std.specs.Prelude.{◌≡◌, ◌≤◌, ◌<◌, ◌^◌, [], true, None, Some, IfOk, OnOk, IfErr, IfSome, option_map, IsSome, length, map};
 ghost use Rattle.std.specs.List.{list_any};
-ghost use Rattle.desk_folders.specs.Contents.{Rose};
+ghost use Rattle.desk_base.specs.Counts.{Rose};
 ghost use Rattle.desk_ledger.specs.Ledger.{with_header};
-ghost use Rattle.desk_run.specs.Endings.{Finishes, HaltsEarly, HasCauses, IsAttached, IsTold, NamedEarly, Planned, Reported, WhereTold, is_final};
+ghost use Rattle.desk_run.specs.Endings.{Committed, Finishes, HaltsEarly, HasCauses, IsAttached, IsTold, NamedEarly, Planned, Reported, WhereTold, is_final};
 ghost use Rattle.desk_run.specs.Halts.{HaltsPlan, NamedAtHalt};
 ghost use Rattle.desk_file.specs.Images.{image};
 ghost use Rattle.desk_run.specs.Inputs.{work_of_input};
@@ -20,11 +20,12 @@ use crate::opening::open_ledger;
 use crate::planning::{Work, plan_works};
 use crate::report::write_report;
 use crate::stops::{Halt, status_of_stop};
-use crate::write::write_all;
+use crate::write::write_and_commit;
 use desk_base::Text;
 use desk_folders::Folders;
 use desk_ledger::{Header, Keeper};
 use desk_report::{Sink, Status};
+use desk_words::Roots;
 use std::alloc::Global;
 
 /// What a run is about to do: the header of its ledger, the root that it writes to, and its works.
@@ -38,14 +39,14 @@ pub struct Prepared {
 /// Opens the ledger and plans the works.
 fn plan<K: Keeper>(alloc: Global, keeper: &mut K, gathered: Gathered) -> Result<Prepared, Halt>
     ensures header { IfOk result (λ p. p.header ≡ gathered.header) }
-    ensures to { IfOk result (λ p. p.to ≡ gathered.names.to) }
-    ensures works { IfOk result (λ p. IfSome (K.told keeper.old) (λ l. p.works.items ≡ map (work_of_input (image gathered.ruled.rules) l.rows) gathered.inputs.items)) }
+    ensures to { IfOk result (λ p. p.to ≡ gathered.names.value.to) }
+    ensures works { IfOk result (λ p. IfSome (K.told keeper.old) (λ l. p.works.items ≡ map (work_of_input (image gathered.ruled.value.rules) l.rows) gathered.inputs.items)) }
     ensures targets { IfOk result (λ p. map (λ work. work.target) p.works.items ≡ map (λ input. input.target) gathered.inputs.items) }
     ensures ledger { OnOk result (K.told keeper.new ≡ option_map (with_header gathered.header) (K.told keeper.old)) }
     ensures ours { OnOk result (IfSome (K.told keeper.old) (λ l. IsOurs gathered.header l.header)) }
     ensures other { OnOk result (IfSome (K.told keeper.old) (λ l. other_run gathered.header l.header ≡ None)) }
-    ensures attached { OnOk result (K.attached keeper.new ≡ Some gathered.names.ledger) }
-    ensures named { IfErr result (NamedAtHalt (K.attached keeper.old) (K.attached keeper.new) gathered.names.ledger) }
+    ensures attached { OnOk result (K.attached keeper.new ≡ Some gathered.names.value.ledger) }
+    ensures named { IfErr result (NamedAtHalt (K.attached keeper.old) (K.attached keeper.new) gathered.names.value.ledger) }
     ensures err { IfErr result (HaltsPlan gathered.header (K.told keeper.old) (K.told keeper.new) (K.faults keeper.old) (K.faults keeper.new)) }
     ensures counts { K.faults keeper.old ≤ K.faults keeper.new }
 {
@@ -55,13 +56,10 @@ fn plan<K: Keeper>(alloc: Global, keeper: &mut K, gathered: Gathered) -> Result<
         header,
         inputs,
     } = gathered;
-    open_ledger(alloc, keeper, &names.ledger, &header)?;
+    open_ledger(keeper, &names.ledger, &header)?;
     let works = plan_works(alloc, keeper, &ruled.rules, inputs)?;
-    Ok(Prepared {
-        header,
-        to: names.to,
-        works,
-    })
+    let Roots { to, .. } = Box::into_inner(names);
+    Ok(Prepared { header, to, works })
 }
 
 /// Reads words, rules and files, opens the ledger and plans the works.
@@ -84,10 +82,7 @@ pub(crate) fn prepare<F: Folders, K: Keeper>(
     ensures counts_f { F.faults folders.old ≤ F.faults folders.new }
     ensures counts_k { K.faults keeper.old ≤ K.faults keeper.new }
 {
-    match gather(alloc, words, folders) {
-        Ok(gathered) => plan(alloc, keeper, gathered),
-        Err(halt) => Err(halt),
-    }
+    plan(alloc, keeper, gather(alloc, words, folders)?)
 }
 
 /// Whether a file is left alone.
@@ -114,7 +109,7 @@ fn tell<O: Sink>(out: &mut O, works: Vec<Work>) -> Status
     }
 }
 
-/// Writes the files and the report.
+/// Writes the files and the rows, and only then the report.
 pub(crate) fn finish<F: Folders, K: Keeper, O: Sink>(
     alloc: Global,
     folders: &mut F,
@@ -129,6 +124,7 @@ pub(crate) fn finish<F: Folders, K: Keeper, O: Sink>(
     ensures finishes { Finishes prepared.to prepared.works.items (F.told folders.old) (F.told folders.new) (K.told keeper.old) (K.told keeper.new) result }
     ensures ends { is_final result ≡ true → result ≡ ending_of_works prepared.works.items }
     ensures output { Reported (report_of_works prepared.works.items) (O.told out.old) (O.told out.new) result }
+    ensures committed { Committed (K.waiting keeper.new) result }
     ensures attached { K.attached keeper.new ≡ K.attached keeper.old }
     ensures causes { HasCauses [] result (F.faults folders.old) (F.faults folders.new) (K.faults keeper.old) (K.faults keeper.new) (O.faults out.old) (O.faults out.new) }
     ensures counts_f { F.faults folders.old ≤ F.faults folders.new }
@@ -136,7 +132,7 @@ pub(crate) fn finish<F: Folders, K: Keeper, O: Sink>(
     ensures counts_o { O.faults out.old ≤ O.faults out.new }
 {
     let Prepared { to, works, .. } = prepared;
-    match write_all(alloc, folders, keeper, &to, &works) {
+    match write_and_commit(alloc, folders, keeper, &to, &works) {
         Ok(()) => tell(out, works),
         Err(stopped) => status_of_stop(stopped.why, stopped.done),
     }

@@ -3,20 +3,21 @@
 ghost use Rattle.std.specs.Prelude.{All, ◌≡◌, ◌≤◌, ◌<◌, ◌^◌, Ok, IfOk, IfErr, IfSome, length, map};
 ghost use Rattle.desk_format.specs.Laws.{IsBytes};
 ghost use Rattle.desk_rules.specs.RuleSets.{IsRuleSet};
-ghost use Rattle.desk_folders.specs.Contents.{Rose, files_below};
+ghost use Rattle.desk_base.specs.Counts.{Rose};
+ghost use Rattle.desk_folders.specs.Contents.{files_below};
 ghost use Rattle.desk_run.specs.Endings.{AreInputs};
 ghost use Rattle.desk_run.specs.Halts.{HaltsAtFiles, HaltsGathering, HaltsReadingAll};
 ghost use Rattle.desk_run.specs.Meaning.{ruled, run_of, run_of_words};
-ghost use Rattle.desk_words.specs.Roots.{AreRoots, roots_of_words};
+ghost use Rattle.desk_words.specs.Roots.{AreRoots};
+ghost use Rattle.desk_run.specs.Named.{roots_of_words};
 ghost use Rattle.desk_run.specs.Runs.{AllRelative};
 
 use crate::clash::refuse_clash;
 use crate::files::Input;
-use crate::listing::list_places;
+use crate::listing::list_routes;
 use crate::reading::read_all;
 use crate::rules::{Ruled, read_rules};
-use crate::sources::copy_of;
-use crate::stops::{Halt, halt_of_words};
+use crate::stops::Halt;
 use desk_base::{Memory, Text};
 use desk_folders::Folders;
 use desk_ledger::Header;
@@ -26,18 +27,18 @@ use std::alloc::Global;
 /// What a run goes by: its roots, its rules, its header, and its files.
 #[derive(Drop)]
 pub(crate) struct Gathered {
-    pub(crate) names: Roots,
-    pub(crate) ruled: Ruled,
+    pub(crate) names: Box<Roots>,
+    pub(crate) ruled: Box<Ruled>,
     pub(crate) header: Header,
     pub(crate) inputs: Vec<Input>,
 }
 
 /// The header of a run.
-fn header_of(alloc: Global, names: &Roots, ruled: &Ruled) -> Result<Header, Memory>
+fn header_of(names: &Roots, ruled: &Ruled) -> Result<Header, Memory>
     ensures { IfOk result (λ header. header ≡ (run_of names.now ruled.now).header) }
 {
-    let from = copy_of(alloc, &names.from)?;
-    let to = copy_of(alloc, &names.to)?;
+    let from = names.from.clone()?;
+    let to = names.to.clone()?;
     Ok(Header {
         from,
         to,
@@ -61,44 +62,34 @@ fn read_inputs<F: Folders>(
     ensures counts { F.faults folders.old ≤ F.faults folders.new }
     ensures bytes { IfOk result (λ inputs. All (λ input. IsBytes input.bytes) inputs.items) }
 {
-    let places = match list_places(alloc, folders, &ruled.rules, &names.from) {
-        Ok(places) => places,
-        Err(halt) => return Err(halt),
-    };
-    let inputs = match read_all(alloc, folders, &names.from, places) {
-        Ok(inputs) => inputs,
-        Err(halt) => return Err(halt),
-    };
-    match refuse_clash(alloc, &inputs) {
-        Ok(()) => Ok(inputs),
-        Err(halt) => Err(halt),
-    }
+    let routes = list_routes(alloc, folders, &ruled.rules, &names.from)?;
+    let inputs = read_all(alloc, folders, &names.from, routes)?;
+    refuse_clash(alloc, &inputs)?;
+    Ok(inputs)
 }
 
 /// Reads rules and files, by the roots of words.
-fn gather_by<F: Folders>(alloc: Global, folders: &mut F, names: Roots) -> Result<Gathered, Halt>
-    requires { AreRoots names }
+fn gather_by<F: Folders>(
+    alloc: Global,
+    folders: &mut F,
+    names: Box<Roots>,
+) -> Result<Gathered, Halt>
+    requires { AreRoots names.value }
     ensures told { F.told folders.new ≡ F.told folders.old }
-    ensures names { IfOk result (λ g. g.names ≡ names) }
-    ensures header { IfOk result (λ g. g.header ≡ (run_of names g.ruled).header) }
-    ensures rules { IfOk result (λ g. IfSome (F.told folders.old) (λ m. ruled names.rules (files_below names.rules m) ≡ Ok g.ruled)) }
-    ensures inputs { IfOk result (λ g. IfSome (F.told folders.old) (λ m. AreInputs (run_of names g.ruled) m g.inputs.items)) }
+    ensures names { IfOk result (λ g. g.names.value ≡ names.value) }
+    ensures header { IfOk result (λ g. g.header ≡ (run_of names.value g.ruled.value).header) }
+    ensures rules { IfOk result (λ g. IfSome (F.told folders.old) (λ m. ruled names.value.rules (files_below names.value.rules m) ≡ Ok g.ruled.value)) }
+    ensures inputs { IfOk result (λ g. IfSome (F.told folders.old) (λ m. AreInputs (run_of names.value g.ruled.value) m g.inputs.items)) }
     ensures relative { IfOk result (λ g. AllRelative (map (λ input. input.target) g.inputs.items)) }
     ensures few { IfOk result (λ g. length g.inputs.items < 2 ^ 32) }
-    ensures err { IfErr result (HaltsReadingAll names (F.told folders.old) (F.faults folders.old) (F.faults folders.new)) }
+    ensures err { IfErr result (HaltsReadingAll names.value (F.told folders.old) (F.faults folders.old) (F.faults folders.new)) }
     ensures counts { F.faults folders.old ≤ F.faults folders.new }
     ensures bytes { IfOk result (λ g. All (λ input. IsBytes input.bytes) g.inputs.items) }
-    ensures settled { IfOk result (λ g. IsRuleSet g.ruled.rules) }
+    ensures settled { IfOk result (λ g. IsRuleSet g.ruled.value.rules) }
 {
-    let ruled = match read_rules(alloc, folders, &names.rules) {
-        Ok(ruled) => ruled,
-        Err(halt) => return Err(halt),
-    };
-    let inputs = match read_inputs(alloc, folders, &names, &ruled) {
-        Ok(inputs) => inputs,
-        Err(halt) => return Err(halt),
-    };
-    let header = header_of(alloc, &names, &ruled)?;
+    let ruled = read_rules(alloc, folders, &names.rules)?;
+    let header = header_of(&names, &ruled)?;
+    let inputs = read_inputs(alloc, folders, &names, &ruled)?;
     Ok(Gathered {
         names,
         ruled,
@@ -114,20 +105,18 @@ pub(crate) fn gather<F: Folders>(
     folders: &mut F,
 ) -> Result<Gathered, Halt>
     ensures told { F.told folders.new ≡ F.told folders.old }
-    ensures names { IfOk result (λ g. roots_of_words words.now ≡ Ok g.names) }
-    ensures sound { IfOk result (λ g. AreRoots g.names) }
-    ensures header { IfOk result (λ g. g.header ≡ (run_of g.names g.ruled).header) }
-    ensures run { IfOk result (λ g. IfSome (F.told folders.old) (λ m. run_of_words words.now m ≡ Ok (run_of g.names g.ruled))) }
-    ensures inputs { IfOk result (λ g. IfSome (F.told folders.old) (λ m. AreInputs (run_of g.names g.ruled) m g.inputs.items)) }
+    ensures names { IfOk result (λ g. roots_of_words words.now ≡ Ok g.names.value) }
+    ensures sound { IfOk result (λ g. AreRoots g.names.value) }
+    ensures header { IfOk result (λ g. g.header ≡ (run_of g.names.value g.ruled.value).header) }
+    ensures run { IfOk result (λ g. IfSome (F.told folders.old) (λ m. run_of_words words.now m ≡ Ok (run_of g.names.value g.ruled.value))) }
+    ensures inputs { IfOk result (λ g. IfSome (F.told folders.old) (λ m. AreInputs (run_of g.names.value g.ruled.value) m g.inputs.items)) }
     ensures relative { IfOk result (λ g. AllRelative (map (λ input. input.target) g.inputs.items)) }
     ensures few { IfOk result (λ g. length g.inputs.items < 2 ^ 32) }
     ensures err { IfErr result (HaltsGathering words.now (F.told folders.old) (F.faults folders.old) (F.faults folders.new)) }
     ensures counts { F.faults folders.old ≤ F.faults folders.new }
     ensures bytes { IfOk result (λ g. All (λ input. IsBytes input.bytes) g.inputs.items) }
-    ensures settled { IfOk result (λ g. IsRuleSet g.ruled.rules) }
+    ensures settled { IfOk result (λ g. IsRuleSet g.ruled.value.rules) }
 {
-    match roots_of_words(alloc, words) {
-        Ok(names) => gather_by(alloc, folders, names),
-        Err(status) => Err(halt_of_words(status)),
-    }
+    let names = roots_of_words(alloc, words)?;
+    gather_by(alloc, folders, Box::new(alloc, names)?)
 }

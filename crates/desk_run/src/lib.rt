@@ -1,11 +1,19 @@
 //! The desk: one run from its words to its report.
+//!
+//! ```text
+//! let mut folders = DiskFolders::new(&rt);
+//! let mut keeper = SqliteKeeper::new(&rt);
+//! let mut out = StdSink::new(&rt);
+//! let status = desk(rt.alloc(), &words, &mut folders, &mut keeper, &mut out);
+//! ExitCode::from(status.code())
+//! ```
 #![tactic(auto)]
 
 ghost use Rattle.std.specs.Prelude.{◌≡◌, ◌≤◌, true};
 ghost use Rattle.desk_run.specs.Answers.{first_answer};
 ghost use Rattle.desk_run.specs.Classes.{Classes};
 ghost use Rattle.desk_run.specs.Clauses.{Exact, Files, LedgerHolds, Left, Output};
-ghost use Rattle.desk_run.specs.Endings.{HasCauses, Named, ReportedOf, StandsAfter, Tells, WhereTold, is_final};
+ghost use Rattle.desk_run.specs.Endings.{Committed, HasCauses, Named, ReportedOf, StandsAfter, Tells, WhereTold, is_final};
 
 mod clash;
 mod files;
@@ -36,9 +44,6 @@ pub const FILES: u32 = 200_000;
 /// How many bytes a relative path or its target may have.
 pub const LENGTH: usize = 1024;
 
-/// How many bytes a file may have.
-pub const SIZE: usize = 67_108_864;
-
 /// How many bytes all files of the source may have together.
 pub const SUM: u64 = 1_073_741_824;
 
@@ -60,6 +65,7 @@ fn run_words<F: Folders, K: Keeper, O: Sink>(
     ensures first { WhereTold (F.told folders.old) (K.told keeper.old) (λ m l. is_final result ≡ true → result ≡ first_answer words.now m l) }
     ensures output { ReportedOf words.now (F.told folders.old) (K.told keeper.old) (O.told out.old) (O.told out.new) result }
     ensures named { Named words.now (K.attached keeper.old) (K.attached keeper.new) result }
+    ensures committed { Committed (K.waiting keeper.new) result }
     ensures causes { HasCauses words.now result (F.faults folders.old) (F.faults folders.new) (K.faults keeper.old) (K.faults keeper.new) (O.faults out.old) (O.faults out.new) }
     ensures counts_f { F.faults folders.old ≤ F.faults folders.new }
     ensures counts_k { K.faults keeper.old ≤ K.faults keeper.new }
@@ -72,8 +78,8 @@ fn run_words<F: Folders, K: Keeper, O: Sink>(
 }
 
 /// Migrates the application that words name: reads the rules and the source, opens the ledger, writes
-/// each file that has an image and isn't kept from an earlier run, and then the report; or the line of
-/// what stands against it.
+/// each file that has an image and isn't kept from an earlier run, commits the rows, and writes the report;
+/// or the line of what stands against it.
 ///
 /// The words are `run` and its options. The statuses, of which the first that stands is the answer:
 /// `Usage` (words without a task), `NestedRoots` (a root lies in another that is written to or holds the
@@ -82,7 +88,8 @@ fn run_words<F: Folders, K: Keeper, O: Sink>(
 /// of which one's target equals the other's or is a folder of it, `OtherRun` (the ledger's header isn't
 /// this run's), `Refusals` (a file is neither kept nor has an image), `Done`.
 /// `FolderFault`, `LedgerFault` and `OutputFault` come only where the count of faults of that object rose
-/// in this call; `Memory` may come at any step.
+/// in this call; `Memory` may come at any step. Rows that wait are written outside before the report: where
+/// that fails, the run ends as `LedgerFault` with all files done, and no report is written.
 pub fn desk<F: Folders, K: Keeper, O: Sink>(
     alloc: Global,
     words: &[Text],
@@ -92,6 +99,7 @@ pub fn desk<F: Folders, K: Keeper, O: Sink>(
 ) -> Status
     ensures files { WhereTold (F.told folders.old) (K.told keeper.old) (λ m0 l0. Tells (F.told folders.new) (K.told keeper.new) (λ m l. Files words.now m0 l0 m result)) }
     ensures ledger { LedgerHolds words.now (F.told folders.old) (F.told folders.new) (K.told keeper.old) (K.told keeper.new) (K.attached keeper.old) (K.attached keeper.new) result }
+    ensures committed { Committed (K.waiting keeper.new) result }
     ensures output { Output words.now (F.told folders.old) (K.told keeper.old) (O.told out.old) (O.told out.new) (O.faults out.old) (O.faults out.new) result }
     ensures status { WhereTold (F.told folders.old) (K.told keeper.old) (λ m l. Exact (first_answer words.now m l) result
         (F.faults folders.old) (F.faults folders.new) (K.faults keeper.old) (K.faults keeper.new) (O.faults out.old) (O.faults out.new)) }

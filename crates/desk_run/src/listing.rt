@@ -5,13 +5,13 @@ ghost use Rattle.std.specs.List.{list_all};
 ghost use Rattle.desk_base.specs.Paths.{is_root, is_relative_path};
 ghost use Rattle.desk_file.specs.Images.{target};
 ghost use Rattle.desk_folders.specs.Contents.{paths_below};
-ghost use Rattle.desk_run.specs.Halts.{HaltsPlacing, HaltsWith, IsLimit};
-ghost use Rattle.desk_run.specs.Inputs.{place_of};
-ghost use Rattle.desk_run.specs.Limits.{first_long, is_short, paths_answer};
+ghost use Rattle.desk_run.specs.Halts.{HaltsRouting, HaltsWith};
+ghost use Rattle.desk_run.specs.Inputs.{route_of};
+ghost use Rattle.desk_run.specs.Limits.{first_long, is_short, most_files, paths_answer};
 ghost use Rattle.desk_run.specs.Runs.{AllRelative};
 
-use crate::files::Place;
-use crate::sources::{copy_of, limit};
+use crate::files::Route;
+use crate::sources::limit;
 use crate::stops::Halt;
 use crate::{FILES, LENGTH};
 use desk_base::{Memory, Text};
@@ -29,54 +29,53 @@ fn is_short(path: &Text) -> bool
 }
 
 /// A path with its target.
-fn place_of(alloc: Global, rules: &RuleSet, path: &Text) -> Result<Place, Memory>
-    requires { IsTrue (is_relative_path path.now) }
-    ensures place { IfOk result (λ place. place ≡ place_of (target rules.now) path.now) }
-    ensures relative { IfOk result (λ place. is_relative_path place.target ≡ true) }
+fn route_of(alloc: Global, rules: &RuleSet, path: Text) -> Result<Route, Memory>
+    requires { IsTrue (is_relative_path path) }
+    ensures route { IfOk result (λ route. route ≡ route_of (target rules.now) path) }
+    ensures relative { IfOk result (λ route. is_relative_path route.target ≡ true) }
 {
-    let target = target_of(alloc, rules, path)?;
-    let path = copy_of(alloc, path)?;
-    Ok(Place { path, target })
+    let target = target_of(alloc, rules, &path)?;
+    Ok(Route { path, target })
 }
 
 /// Paths with their targets, or the first that is too long.
-fn place_all(alloc: Global, rules: &RuleSet, paths: &[Text]) -> Result<Vec<Place>, Halt>
-    requires { IsTrue (list_all is_relative_path paths.now) }
-    ensures places { IfOk result (λ places. places.items ≡ map (place_of (target rules.now)) paths.now) }
-    ensures relative { IfOk result (λ places. AllRelative (map (λ place. place.target) places.items)) }
-    ensures short { IfOk result (λ _. first_long (target rules.now) paths.now ≡ None) }
-    ensures err { IfErr result (HaltsPlacing (target rules.now) paths.now) }
+fn route_all(alloc: Global, rules: &RuleSet, paths: Vec<Text>) -> Result<Vec<Route>, Halt>
+    requires { IsTrue (list_all is_relative_path paths.items) }
+    ensures routes { IfOk result (λ routes. routes.items ≡ map (route_of (target rules.now)) paths.items) }
+    ensures relative { IfOk result (λ routes. AllRelative (map (λ route. route.target) routes.items)) }
+    ensures short { IfOk result (λ _. first_long (target rules.now) paths.items ≡ None) }
+    ensures err { IfErr result (HaltsRouting (target rules.now) paths.items) }
 {
-    let mut places = Vec::new(alloc);
+    let mut routes = Vec::new(alloc);
     for path in paths {
-        let place = place_of(alloc, rules, path)?;
-        if !is_short(&place.path) || !is_short(&place.target) {
-            return Err(limit(alloc, LimitKind::PathLength, path));
+        let route = route_of(alloc, rules, path)?;
+        if !is_short(&route.path) || !is_short(&route.target) {
+            return Err(limit(LimitKind::PathLength, route.path));
         }
-        places.push(place)?;
+        routes.push(route)?;
     }
-    Ok(places)
+    Ok(routes)
 }
 
 /// The paths below the root of the source with their targets.
-pub(crate) fn list_places<F: Folders>(
+pub(crate) fn list_routes<F: Folders>(
     alloc: Global,
     folders: &mut F,
     rules: &RuleSet,
     from: &Text,
-) -> Result<Vec<Place>, Halt>
+) -> Result<Vec<Route>, Halt>
     requires { IsTrue (is_root from.now) }
     ensures told { F.told folders.new ≡ F.told folders.old }
-    ensures places { IfOk result (λ places. IfSome (F.told folders.old) (λ m. places.items ≡ map (place_of (target rules.now)) (paths_below from.now m))) }
-    ensures relative { IfOk result (λ places. AllRelative (map (λ place. place.target) places.items)) }
-    ensures few { IfOk result (λ places. length places.items ≤ FILES) }
+    ensures routes { IfOk result (λ routes. IfSome (F.told folders.old) (λ m. routes.items ≡ map (route_of (target rules.now)) (paths_below from.now m))) }
+    ensures relative { IfOk result (λ routes. AllRelative (map (λ route. route.target) routes.items)) }
+    ensures few { IfOk result (λ routes. length routes.items ≤ most_files) }
     ensures clear { IfOk result (λ _. IfSome (F.told folders.old) (λ m. paths_answer from.now (target rules.now) (paths_below from.now m) ≡ None)) }
     ensures err { IfErr result (HaltsWith (λ m. paths_answer from.now (target rules.now) (paths_below from.now m)) (F.told folders.old) (F.faults folders.old) (F.faults folders.new)) }
     ensures counts { F.faults folders.old ≤ F.faults folders.new }
 {
     let paths = folders.list(from, FILES)?;
     if paths.len() > FILES as usize {
-        return Err(limit(alloc, LimitKind::Files, from));
+        return Err(limit(LimitKind::Files, from.clone()?));
     }
-    place_all(alloc, rules, paths.as_slice())
+    route_all(alloc, rules, paths.into_vec())
 }

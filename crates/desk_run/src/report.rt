@@ -2,7 +2,7 @@
 
 ghost use Rattle.std.specs.Prelude.{◌≡◌, ◌≤◌, ◌<◌, ◌^◌, ◌++◌, OnOk, OnErr, length, count_by};
 ghost use Rattle.std.specs.List.{flat_map, sum_by};
-ghost use Rattle.desk_folders.specs.Contents.{Rose};
+ghost use Rattle.desk_base.specs.Counts.{Rose};
 ghost use Rattle.desk_report.specs.Texts.{line_text, summary_text};
 ghost use Rattle.desk_report.specs.Written.{WritesFront, writing};
 ghost use Rattle.desk_run.specs.Works.{writes, keeps, leaves};
@@ -137,10 +137,7 @@ pub(crate) fn write_report<O: Sink>(out: &mut O, works: Vec<Work>) -> Result<(),
 {
     let summary = summary_of(&works);
     for work in works {
-        match write_work(out, work) {
-            Ok(()) => {}
-            Err(fault) => return Err(fault),
-        }
+        write_work(out, work)?;
     }
     write_summary(&summary, out)
 }

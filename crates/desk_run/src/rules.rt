@@ -14,7 +14,7 @@ ghost use Rattle.desk_run.specs.Meaning.{digest_entry, ruled, with_digest};
 ghost use Rattle.desk_run.specs.RuleFolders.{HasTakenAll, Takes};
 ghost use Rattle.desk_rules.specs.RuleSets.{IsRuleSet};
 
-use crate::sources::{copy_of, limit, read_below};
+use crate::sources::{limit, read_below};
 use crate::stops::Halt;
 use crate::{RULE_FILES, RULE_SIZE};
 use desk_base::Text;
@@ -51,17 +51,17 @@ fn digest_file(digester: &mut Digester, name: &Text, content: &[u8])
 }
 
 /// The rules of rule files, with the digest that was taken of them.
-fn build(alloc: Global, taken: Taken) -> Result<Ruled, Halt>
-    ensures ok { IfOk result (λ ruled. (text : List ℕ) → HasTaken taken.digester text → with_digest text (rules_of_files taken.files) ≡ Ok ruled) }
+fn build(alloc: Global, taken: Taken) -> Result<Box<Ruled>, Halt>
+    ensures ok { IfOk result (λ ruled. (text : List ℕ) → HasTaken taken.digester text → with_digest text (rules_of_files taken.files) ≡ Ok ruled.value) }
     ensures err { IfErr result (HaltsBuilding (rules_of_files taken.files)) }
-    ensures settled { IfOk result (λ ruled. IsRuleSet ruled.rules) }
+    ensures settled { IfOk result (λ ruled. IsRuleSet ruled.value.rules) }
 {
     let Taken { files, digester } = taken;
     match RuleSet::build(alloc, &files) {
-        Ok(rules) => Ok(Ruled {
-            rules,
-            digest: digester.finish(),
-        }),
+        Ok(rules) => {
+            let digest = digester.finish();
+            Ok(Box::new(alloc, Ruled { rules, digest })?)
+        }
         Err(BuildFault::Rules(fault)) => Err(Halt::Answer(Status::BadRules(fault))),
         Err(BuildFault::Memory) => Err(Halt::Memory),
     }
@@ -83,11 +83,11 @@ fn take_file<F: Folders>(
     ensures err { IfErr result (HaltsTakingOne root.now path.now (F.told folders.old) (F.faults folders.old) (F.faults folders.new)) }
     ensures counts { F.faults folders.old ≤ F.faults folders.new }
 {
+    let name = Text::from_bytes(alloc, path.as_bytes())?;
     let Some(content) = read_below(alloc, folders, root, path, RULE_SIZE)? else {
-        return Err(limit(alloc, LimitKind::RuleSize, path));
+        return Err(limit(LimitKind::RuleSize, name));
     };
-    let name = copy_of(alloc, path)?;
-    digest_file(&mut taken.digester, &name, content.as_bytes());
+    digest_file(&mut taken.digester, path, content.as_bytes());
     taken.files.add(name, content)?;
     Ok(())
 }
@@ -111,9 +111,7 @@ fn take_all<F: Folders>(
         digester: Digester::new(),
     };
     for path in paths {
-        if let Err(halt) = take_file(alloc, folders, root, path, &mut taken) {
-            return Err(halt);
-        }
+        take_file(alloc, folders, root, path, &mut taken)?;
     }
     Ok(taken)
 }
@@ -124,20 +122,17 @@ pub(crate) fn read_rules<F: Folders>(
     alloc: Global,
     folders: &mut F,
     root: &Text,
-) -> Result<Ruled, Halt>
+) -> Result<Box<Ruled>, Halt>
     requires { IsTrue (is_root root.now) }
     ensures told { F.told folders.new ≡ F.told folders.old }
-    ensures ok { IfOk result (λ read. IfSome (F.told folders.old) (λ m. ruled root.now (files_below root.now m) ≡ Ok read)) }
+    ensures ok { IfOk result (λ read. IfSome (F.told folders.old) (λ m. ruled root.now (files_below root.now m) ≡ Ok read.value)) }
     ensures err { IfErr result (HaltsAtRules root.now (F.told folders.old) (F.faults folders.old) (F.faults folders.new)) }
     ensures counts { F.faults folders.old ≤ F.faults folders.new }
-    ensures settled { IfOk result (λ ruled. IsRuleSet ruled.rules) }
+    ensures settled { IfOk result (λ ruled. IsRuleSet ruled.value.rules) }
 {
     let paths = folders.list(root, RULE_FILES)?;
     if paths.len() > RULE_FILES as usize {
-        return Err(limit(alloc, LimitKind::RuleFiles, root));
+        return Err(limit(LimitKind::RuleFiles, root.clone()?));
     }
-    match take_all(alloc, folders, root, paths.as_slice()) {
-        Ok(taken) => build(alloc, taken),
-        Err(halt) => Err(halt),
-    }
+    build(alloc, take_all(alloc, folders, root, paths.as_slice())?)
 }

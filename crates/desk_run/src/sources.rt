@@ -3,8 +3,8 @@
 ghost use Rattle.std.specs.Prelude.{◌≡◌, ◌≤◌, length, Err, IfOk, IfSome, IsSome};
 ghost use Rattle.std.specs.FinMap as fin;
 ghost use Rattle.desk_base.specs.Paths.{full};
-ghost use Rattle.desk_folders.specs.Contents.{Rose, bytes_at};
-ghost use Rattle.desk_run.specs.Halts.{IsLimit};
+ghost use Rattle.desk_base.specs.Counts.{Rose};
+ghost use Rattle.desk_folders.specs.Contents.{bytes_at};
 ghost use Rattle.desk_run.specs.Limits.{within};
 
 use crate::stops::Halt;
@@ -31,21 +31,11 @@ pub(crate) fn full_path(alloc: Global, root: &Text, path: &Text) -> Result<Text,
     Ok(text)
 }
 
-/// A text once more.
-pub(crate) fn copy_of(alloc: Global, text: &Text) -> Result<Text, Memory>
-    ensures { IfOk result (λ copy. copy ≡ text.now) }
+/// The answer that a path passes a limit.
+pub(crate) fn limit(kind: LimitKind, path: Text) -> Halt
+    ensures { result ≡ Halt.Answer (Status.Limit kind path) }
 {
-    Text::from_bytes(alloc, text.as_bytes())
-}
-
-/// The answer that a path passes a limit, or want of memory.
-pub(crate) fn limit(alloc: Global, kind: LimitKind, path: &Text) -> Halt
-    ensures { IsLimit kind path.now result }
-{
-    match copy_of(alloc, path) {
-        Ok(path) => Halt::Answer(Status::Limit { kind, path }),
-        Err(Memory) => Halt::Memory,
-    }
+    Halt::Answer(Status::Limit { kind, path })
 }
 
 /// Reads a file whole, or finds that it has more bytes than a limit.

@@ -7,7 +7,8 @@ use desk_base::Memory;
 use desk_folders::FolderFault;
 use desk_ledger::KeeperFault;
 use desk_report::Status;
-use std::alloc::AllocFailed;
+use desk_words::RootsFault;
+use std::alloc::{AllocError, AllocFailed};
 
 /// Why the writing stopped.
 #[derive(Clone, Copy, Debug, PartialEq, Eq)]
@@ -88,6 +89,17 @@ impl From<Memory> for Halt {
     }
 }
 
+impl From<AllocError> for Halt {
+    ghost use Rattle.std.specs.Prelude.{◌≡◌};
+    ghost use Rattle.desk_run.specs.declared.stops.Halt.TheVariants as halt;
+
+    ghost from_gives = { λ _ it. it ≡ halt.Memory };
+
+    fn from(_: AllocError) -> Halt {
+        Halt::Memory
+    }
+}
+
 impl<T: Drop> From<AllocFailed<T>> for Halt {
     ghost use Rattle.std.specs.Prelude.{◌≡◌};
     ghost use Rattle.desk_run.specs.declared.stops.Halt.TheVariants as halt;
@@ -121,13 +133,17 @@ impl From<KeeperFault> for Halt {
     }
 }
 
-/// Why a run stops at words against which this status stands.
-pub(crate) fn halt_of_words(status: Status) -> Halt
-    ensures { result ≡ halt_of_words status }
-{
-    match status {
-        Status::Memory => Halt::Memory,
-        status => Halt::Answer(status),
+impl From<RootsFault> for Halt {
+    ghost from_gives = { λ fault halt. halt ≡ halt_of_words fault };
+
+    fn from(fault: RootsFault) -> Halt {
+        match fault {
+            RootsFault::Usage => Halt::Answer(Status::Usage),
+            RootsFault::Nested { first, second } => {
+                Halt::Answer(Status::NestedRoots { first, second })
+            }
+            RootsFault::Memory => Halt::Memory,
+        }
     }
 }
 

@@ -2,12 +2,13 @@
 
 ghost use Rattle.std.specs.Prelude.{◌≡◌, ◌⊎◌, ◌≤◌, ◌<◌, ◌+◌, ◌^◌, true, [], List, length, map, option_map, Some, Err, OnOk, OnErr, IfOk, IfErr, IfSome, IsSome, IsTrue};
 ghost use Rattle.desk_base.specs.Paths.{full, is_full_path, is_relative_path};
-ghost use Rattle.desk_folders.specs.Contents.{Contents, Rose, ChangesOnly, holding};
-ghost use Rattle.desk_ledger.specs.Ledger.{with_row, held_in};
+ghost use Rattle.desk_base.specs.Counts.{Rose};
+ghost use Rattle.desk_folders.specs.Contents.{Contents, ChangesOnly, holding};
+ghost use Rattle.desk_ledger.specs.Ledger.{NoneWaits, with_row, held_in};
 ghost use Rattle.desk_words.specs.Roots.{IsPathRoot};
 ghost use Rattle.desk_run.specs.Runs.{AllRelative};
 ghost use Rattle.desk_run.specs.Works.{wrote, logged, forgot, files_after, ledger_after, held_of_work};
-ghost use Rattle.desk_run.specs.Stops.{HasCause, Broken, StoppedAt, Begun, Untouched};
+ghost use Rattle.desk_run.specs.Stops.{HasCause, Broken, StoppedAt, StopsAt, Begun, Untouched};
 
 use crate::planning::{Plan, Work};
 use crate::sources::full_path;
@@ -21,12 +22,12 @@ use std::alloc::Global;
 const PART: usize = 1_048_576;
 
 /// The row that a work leaves.
-fn row_of(alloc: Global, work: &Work) -> Result<Row, Memory>
+fn row_of(work: &Work) -> Result<Row, Memory>
     ensures target { IfOk result (λ row. row.target ≡ work.now.target) }
     ensures held { IfOk result (λ row. held_in row ≡ held_of_work work.now) }
 {
-    let target = Text::from_bytes(alloc, work.target.as_bytes())?;
-    let source = Text::from_bytes(alloc, work.path.as_bytes())?;
+    let target = work.target.clone()?;
+    let source = work.path.clone()?;
     Ok(Row {
         target,
         source,
@@ -71,16 +72,16 @@ fn replace<F: Folders, K: Keeper>(
     keeper: &mut K,
     path: &Text,
     found: bool,
-    row: &Row,
+    row: Row,
     bytes: &[u8],
 ) -> Result<(), Stop>
     requires attached { IsSome (K.attached keeper.old) }
     requires path { IsTrue (is_full_path path.now) }
     ensures folders { OnOk result (F.told folders.new ≡ holding path.now bytes.now (F.told folders.old)) }
-    ensures ledger { OnOk result (K.told keeper.new ≡ option_map (with_row row.now) (K.told keeper.old)) }
+    ensures ledger { OnOk result (K.told keeper.new ≡ option_map (with_row row) (K.told keeper.old)) }
     ensures err { OnErr result (Untouched (F.told folders.old) (F.told folders.new) (K.told keeper.old) (K.told keeper.new)
         ⊎ (ChangesOnly path.now (F.told folders.old) (F.told folders.new)
-        × (K.told keeper.new ≡ option_map (forgot found row.now.target) (K.told keeper.old)))) }
+        × (K.told keeper.new ≡ option_map (forgot found row.target) (K.told keeper.old)))) }
     ensures attached { K.attached keeper.new ≡ K.attached keeper.old }
     ensures counts_f { F.faults folders.old ≤ F.faults folders.new }
     ensures counts_k { K.faults keeper.old ≤ K.faults keeper.new }
@@ -115,8 +116,8 @@ fn write_one<F: Folders, K: Keeper>(
         return Ok(());
     };
     let path = full_path(alloc, to, &work.target)?;
-    let row = row_of(alloc, work)?;
-    replace(folders, keeper, &path, *found, &row, image.bytes.as_bytes())
+    let row = row_of(work)?;
+    replace(folders, keeper, &path, *found, row, image.bytes.as_bytes())
 }
 
 /// Why the writing stopped, and how many files were done before.
@@ -127,7 +128,7 @@ pub struct Stopped {
 }
 
 /// Writes the files in their order.
-pub(crate) fn write_all<F: Folders, K: Keeper>(
+fn write_all<F: Folders, K: Keeper>(
     alloc: Global,
     folders: &mut F,
     keeper: &mut K,
@@ -155,4 +156,48 @@ pub(crate) fn write_all<F: Folders, K: Keeper>(
         }
     }
     Ok(())
+}
+
+/// How many files were done, of so many.
+fn done_of(written: &Result<(), Stopped>, all: u32) -> u32
+    ensures all { OnOk written.now (result ≡ all) }
+    ensures some { IfErr written.now (λ stopped. result ≡ stopped.done) }
+{
+    match written {
+        Ok(()) => all,
+        Err(stopped) => stopped.done,
+    }
+}
+
+/// Writes the files in their order, and then, also behind a stop, the rows that wait: where these can't be
+/// written, that is why the writing stopped.
+pub(crate) fn write_and_commit<F: Folders, K: Keeper>(
+    alloc: Global,
+    folders: &mut F,
+    keeper: &mut K,
+    to: &Text,
+    works: &[Work],
+) -> Result<(), Stopped>
+    requires attached { IsSome (K.attached keeper.old) }
+    requires root { IsPathRoot to.now }
+    requires relative { AllRelative (map (λ work. work.target) works.now) }
+    requires few { length works.now < 2 ^ 32 }
+    ensures folders { OnOk result (F.told folders.new ≡ option_map (files_after to.now works.now) (F.told folders.old)) }
+    ensures ledger { OnOk result (K.told keeper.new ≡ option_map (ledger_after works.now) (K.told keeper.old)) }
+    ensures err { IfErr result (λ stopped. StopsAt stopped.why to.now works.now stopped.done (F.told folders.old) (F.told folders.new) (K.told keeper.old) (K.told keeper.new)) }
+    ensures written { OnOk result (NoneWaits (K.waiting keeper.new)) }
+    ensures behind { IfErr result (λ stopped. stopped.why ≡ Stop.Folders → NoneWaits (K.waiting keeper.new)) }
+    ensures attached { K.attached keeper.new ≡ K.attached keeper.old }
+    ensures counts_f { F.faults folders.old ≤ F.faults folders.new }
+    ensures counts_k { K.faults keeper.old ≤ K.faults keeper.new }
+    ensures cause { IfErr result (λ stopped. HasCause stopped.why (F.faults folders.old) (F.faults folders.new) (K.faults keeper.old) (K.faults keeper.new)) }
+{
+    let written = write_all(alloc, folders, keeper, to, works);
+    match keeper.commit() {
+        Ok(()) => written,
+        Err(fault) => Err(Stopped {
+            why: fault.into(),
+            done: done_of(&written, works.len() as u32),
+        }),
+    }
 }

@@ -1,1 +1,2 @@
 pub mod OverFile
+pub mod Statements

@@ -1,5 +1,8 @@
 //! A database file. What its calls do to the file is said by no clause, so that each caller is proved
-//! without the clauses of SQL.
+//! without the clauses of SQL; clauses count what it refused, so that no refusal is passed over.
+
+ghost use Rattle.std.specs.Prelude.{◌≡◌, ◌≢◌, IsErr, OnOk, OnErr};
+ghost use Rattle.desk_base.specs.Counts.{counted};
 
 use crate::files::Log;
 use desk_ledger::KeeperFault;
@@ -7,25 +10,35 @@ use sqlite::types::ValueRef;
 use sqlite::{Connection, Error, ErrorCode, File, FileStore, Row};
 use std::marker::Model;
 
-/// A database file that is open, and locked against other programs. Contracts see nothing of it.
+/// A database file that is open, and locked against other programs. Contracts see how many statements it
+/// refused; the count stands still at 18,446,744,073,709,551,615.
 pub(crate) struct Database {
     connection: Connection<FileStore<File>>,
+    refused: u64,
 }
 
 impl Model for Database {
-    ghost Value = { Unit {0} };
+    ghost use Rattle.std.specs.Prelude.{ℕ};
 
-    ghost view = { λ _. tt };
+    ghost Value = { ℕ };
+
+    ghost view = { λ d. d.refused };
 }
 
 impl Drop for Database {
     fn drop(self) {
-        let Database { connection: _ } = self;
+        let Database {
+            connection: _,
+            refused: _,
+        } = self;
     }
 }
 
 /// What an error of a statement means: want of memory is told apart from all others.
-fn fault_of(error: Error) -> KeeperFault {
+fn fault_of(error: Error) -> KeeperFault
+    ensures memory { error ≡ Error.SqliteFailure ErrorCode.OutOfMemory → result ≡ KeeperFault.Memory }
+    ensures failed { error ≢ Error.SqliteFailure ErrorCode.OutOfMemory → result ≡ KeeperFault.Failed }
+{
     match error {
         Error::SqliteFailure(ErrorCode::OutOfMemory) => KeeperFault::Memory,
         _ => KeeperFault::Failed,
@@ -41,11 +54,22 @@ fn is_unsound(error: &Error) -> bool {
 }
 
 impl Database {
+    /// Counts a refusal, and answers what it means.
+    fn refuse(&mut self, error: Error) -> KeeperFault
+        ensures { self.new ≡ counted self.old }
+    {
+        self.refused = self.refused.saturating_add(1);
+        fault_of(error)
+    }
+
     /// Opens the database file at a path, and makes an empty one where there is no file. A file that holds
     /// no sound database is left as it was.
     pub(crate) fn open(rt: &HostRuntime, path: &str, log: &Log) -> Result<Database, KeeperFault> {
         match Connection::open(rt, path) {
-            Ok(connection) => Ok(Database { connection }),
+            Ok(connection) => Ok(Database {
+                connection,
+                refused: 0,
+            }),
             Err(error) => {
                 if is_unsound(&error) {
                     let _ = log.remove_new(rt);
@@ -60,30 +84,40 @@ impl Database {
         &mut self,
         statement: &str,
         values: &[ValueRef<'_>],
-    ) -> Result<(), KeeperFault> {
+    ) -> Result<(), KeeperFault>
+        ensures ok { OnOk result (self.new ≡ self.old) }
+        ensures err { OnErr result (self.new ≡ counted self.old) }
+    {
         match self.connection.execute(statement, values) {
             Ok(_) => Ok(()),
-            Err(error) => Err(fault_of(error)),
+            Err(error) => Err(self.refuse(error)),
         }
     }
 
     /// All rows that a query gives.
-    pub(crate) fn query(&mut self, query: &str) -> Result<Vec<Row>, KeeperFault> {
+    pub(crate) fn query(&mut self, query: &str) -> Result<Vec<Row>, KeeperFault>
+        ensures ok { OnOk result (self.new ≡ self.old) }
+        ensures err { OnErr result (self.new ≡ counted self.old) }
+    {
         match self.connection.query_all(query, &[]) {
             Ok(rows) => Ok(rows),
-            Err(error) => Err(fault_of(error)),
+            Err(error) => Err(self.refuse(error)),
         }
     }
 
     /// Ends a transaction in which this was done: what it wrote stays, or nothing of it where it failed.
-    pub(crate) fn end(&mut self, done: Result<(), KeeperFault>) -> Result<(), KeeperFault> {
+    pub(crate) fn end(&mut self, done: Result<(), KeeperFault>) -> Result<(), KeeperFault>
+        ensures done { IsErr done → IsErr result }
+        ensures ok { OnOk result (self.new ≡ self.old) }
+    {
         let ended = match done {
             Ok(()) => self.run("COMMIT", &[]),
             Err(fault) => Err(fault),
         };
-        if ended.is_err() {
+        if let Err(fault) = ended {
             let _ = self.run("ROLLBACK", &[]);
+            return Err(fault);
         }
-        ended
+        Ok(())
     }
 }

@@ -1,5 +1,8 @@
 //! The files of a database, beside what the database does with them.
 
+ghost use Rattle.std.specs.Prelude.{◌≡◌, ◌≢◌};
+ghost use Rattle.std.specs.IoError.{error_kind};
+
 use desk_ledger::KeeperFault;
 use std::fs::{self, File};
 use std::io::{self, ErrorKind, Read};
@@ -14,7 +17,10 @@ const HALF_MADE: [u8; 16] = *b"\0QLite format 3\0";
 const WITH_PAGE: u64 = 32 + 24 + 512;
 
 /// What an error of the system means: want of memory is told apart from all others.
-fn fault_of(error: io::Error) -> KeeperFault {
+fn fault_of(error: io::Error) -> KeeperFault
+    ensures memory { error_kind error ≡ ErrorKind.OutOfMemory → result ≡ KeeperFault.Memory }
+    ensures failed { error_kind error ≢ ErrorKind.OutOfMemory → result ≡ KeeperFault.Failed }
+{
     if error.kind() == ErrorKind::OutOfMemory {
         KeeperFault::Memory
     } else {

@@ -1,9 +1,10 @@
 //! A keeper over an SQLite file.
 
-ghost use Rattle.std.specs.Prelude.{◌≡◌, ◌≤◌, ◌↔◌, None, Some, Err, [], IsTrue, IsSome, IfOk, IfSome, OnOk, OnErr, option_map};
+ghost use Rattle.std.specs.Prelude.{◌≡◌, ◌≤◌, ◌⊎◌, None, Some, Err, [], IsTrue, IsSome, IfOk, IfSome, OnOk, OnErr, option_map};
 ghost use Rattle.std.specs.FinMap as fin;
-ghost use Rattle.desk_ledger.specs.Ledger.{Rose, row_at, with_header, with_row, without_row};
-ghost use Rattle.desk_sqlite.specs.OverFile.{attached_in, held_in_memory, told_by, waiting_in};
+ghost use Rattle.desk_base.specs.Counts.{Rose};
+ghost use Rattle.desk_ledger.specs.Ledger.{NoneWaits, row_at, with_header, with_row, without_row};
+ghost use Rattle.desk_sqlite.specs.OverFile.{all_written, attached_in, held_in_memory, told_by, waiting_in, with_put, with_room};
 
 use crate::opened::Opened;
 use desk_base::Text;
@@ -12,52 +13,43 @@ use std::marker::Model;
 
 /// A keeper over an SQLite file. It tells nothing. It reads the file once, when it is attached, and
 /// answers from memory. The header, and the removal of a row, are in the file when their call answers; of
-/// the rows that are put, up to 1,024 wait to be written together, at the latest before the next removal.
-/// Each refusal of the outside counts as a fault. Contracts see the attached name, what it answers from,
-/// the rows that wait, the count of faults, and how often a row was asked for.
+/// the rows that are put, up to 1,024 wait to be written together, at the latest before the next removal. `commit`
+/// writes those that wait. Each refusal of the outside counts as a fault. Contracts see the attached name,
+/// what it answers from, the rows that wait, and the count of faults.
 #[derive(Drop)]
 pub struct SqliteKeeper<'r> {
     rt: &'r HostRuntime,
-    opened: Option<Opened>,
+    opened: Option<Box<Opened>>,
     faults: u64,
-    asked: u32,
 }
 
 impl<'r> Model for SqliteKeeper<'r> {
+    ghost use Rattle.std.specs.Prelude.{option_map};
     ghost use Rattle.desk_sqlite.specs.OverFile.{OverFile, over_file_code};
 
     ghost Value = { OverFile };
 
     ghost coded = { over_file_code };
 
-    ghost view = { λ k. record { opened = k.opened; faults = k.faults; asked = k.asked } };
+    ghost view = { λ k. record { opened = option_map (λ o. o.value) k.opened; faults = k.faults } };
 }
 
 impl<'r> SqliteKeeper<'r> {
     /// A keeper that is attached to no name. It takes no memory.
     pub fn new(rt: &'r HostRuntime) -> SqliteKeeper<'r>
-        ensures { result ≡ record { opened = None; faults = 0; asked = 0 } }
+        ensures { result ≡ record { opened = None; faults = 0 } }
     {
         SqliteKeeper {
             rt,
             opened: None,
             faults: 0,
-            asked: 0,
         }
-    }
-
-    /// How often `find` was called; the count stands still at 4,294,967,295.
-    pub fn asked(&self) -> u32
-        ensures { result ≡ self.now.asked }
-    {
-        self.asked
     }
 
     /// Counts a fault where a call failed.
     fn count<T>(&mut self, outcome: Result<T, KeeperFault>) -> Result<T, KeeperFault>
         ensures same { result ≡ outcome }
         ensures opened { self.new.opened ≡ self.old.opened }
-        ensures asked { self.new.asked ≡ self.old.asked }
         ensures counts { self.old.faults ≤ self.new.faults }
         ensures failed { result ≡ Err KeeperFault.Failed → Rose self.old.faults self.new.faults }
     {
@@ -79,9 +71,7 @@ impl<'r> SqliteKeeper<'r> {
 
     /// Writes the rows that wait.
     fn write_waiting(&mut self) -> Result<(), KeeperFault>
-        ensures attached { attached_in self.new ≡ attached_in self.old }
-        ensures held { held_in_memory self.new ≡ held_in_memory self.old }
-        ensures ok { OnOk result (IfSome (waiting_in self.new) (λ rows. rows ≡ [])) }
+        ensures ok { OnOk result (self.new.opened ≡ option_map all_written self.old.opened) }
         ensures err { OnErr result (self.new ≡ self.old) }
         ensures counts { self.new.faults ≡ self.old.faults }
     {
@@ -104,22 +94,11 @@ impl<'r> SqliteKeeper<'r> {
             return Ok(());
         }
         let opened = Opened::at(self.rt, name)?;
-        self.opened = Some(opened);
+        let Ok(boxed) = Box::new(self.rt.alloc(), opened) else {
+            return Err(KeeperFault::Memory);
+        };
+        self.opened = Some(boxed);
         Ok(())
-    }
-
-    /// Writes the rows that wait to be written; after an error they go on waiting. It is `Failed` where the
-    /// outside refused, which counts as a fault, and `Memory` where memory ran out.
-    pub fn finish(&mut self) -> Result<(), KeeperFault>
-        ensures written { OnOk result (IfSome (waiting_in self.new) (λ rows. rows ≡ [])) }
-        ensures err { OnErr result (self.new.opened ≡ self.old.opened) }
-        ensures attached { attached_in self.new ≡ attached_in self.old }
-        ensures held { held_in_memory self.new ≡ held_in_memory self.old }
-        ensures counts { self.old.faults ≤ self.new.faults }
-        ensures failed { result ≡ Err KeeperFault.Failed → Rose self.old.faults self.new.faults }
-    {
-        let written = self.write_waiting();
-        self.count(written)
     }
 }
 
@@ -127,6 +106,8 @@ impl Keeper for SqliteKeeper<'_> {
     ghost told = { told_by };
 
     ghost attached = { attached_in };
+
+    ghost waiting = { waiting_in };
 
     ghost faults = { λ k. k.faults };
 
@@ -184,14 +165,13 @@ impl Keeper for SqliteKeeper<'_> {
     fn find(&mut self, target: &Text) -> Result<Option<Row>, KeeperFault>
         requires { IsSome (attached_in self.old) }
         ensures held { IfOk result (λ row. IfSome (held_in_memory self.old) (λ l. row ≡ option_map (row_at target.now) (fin.get l.rows target.now))) }
-        ensures same { self.new.opened ≡ self.old.opened }
+        ensures same { self.new ≡ self.old }
         ensures found { IfOk result (λ row. IfSome (told_by self.old) (λ l. row ≡ option_map (row_at target.now) (fin.get l.rows target.now))) }
         ensures told { told_by self.new ≡ told_by self.old }
         ensures attached { attached_in self.new ≡ attached_in self.old }
         ensures counts { self.old.faults ≤ self.new.faults }
         ensures failed { result ≡ Err KeeperFault.Failed → Rose self.old.faults self.new.faults }
     {
-        self.asked = self.asked.saturating_add(1);
         match &self.opened {
             Some(opened) => Ok(opened.find(target)?),
             None => unreachable!(),
@@ -199,11 +179,13 @@ impl Keeper for SqliteKeeper<'_> {
     }
 
     /// The row waits to be written.
-    fn put(&mut self, row: &Row) -> Result<(), KeeperFault>
+    fn put(&mut self, row: Row) -> Result<(), KeeperFault>
         requires { IsSome (attached_in self.old) }
-        ensures held { OnOk result (held_in_memory self.new ≡ option_map (with_row row.now) (held_in_memory self.old)) }
+        ensures waits { OnOk result (self.new.opened ≡ option_map (λ o. with_put row (with_room o)) self.old.opened) }
+        ensures held { OnOk result (held_in_memory self.new ≡ option_map (with_row row) (held_in_memory self.old)) }
+        ensures waiting { OnErr result ((self.new.opened ≡ self.old.opened) ⊎ (self.new.opened ≡ option_map with_room self.old.opened)) }
         ensures unchanged { OnErr result (held_in_memory self.new ≡ held_in_memory self.old) }
-        ensures ok { OnOk result (told_by self.new ≡ option_map (with_row row.now) (told_by self.old)) }
+        ensures ok { OnOk result (told_by self.new ≡ option_map (with_row row) (told_by self.old)) }
         ensures err { OnErr result (told_by self.new ≡ told_by self.old) }
         ensures attached { attached_in self.new ≡ attached_in self.old }
         ensures counts { self.old.faults ≤ self.new.faults }
@@ -233,5 +215,20 @@ impl Keeper for SqliteKeeper<'_> {
             None => unreachable!(),
         };
         self.count(forgotten)
+    }
+
+    /// Writes the rows that wait, in one transaction; after an error they go on waiting.
+    fn commit(&mut self) -> Result<(), KeeperFault>
+        requires { IsSome (attached_in self.old) }
+        ensures exactly { OnOk result (self.new.opened ≡ option_map all_written self.old.opened) }
+        ensures written { OnOk result (NoneWaits (waiting_in self.new)) }
+        ensures same { OnErr result (self.new.opened ≡ self.old.opened) }
+        ensures told { told_by self.new ≡ told_by self.old }
+        ensures attached { attached_in self.new ≡ attached_in self.old }
+        ensures counts { self.old.faults ≤ self.new.faults }
+        ensures failed { result ≡ Err KeeperFault.Failed → Rose self.old.faults self.new.faults }
+    {
+        let written = self.write_waiting();
+        self.count(written)
     }
 }

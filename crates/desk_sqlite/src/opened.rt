@@ -1,33 +1,29 @@
 //! A ledger that is open.
 
-ghost use Rattle.std.specs.Prelude.{◌≡◌, ◌↔◌, ◌⊎◌, ◌++◌, ◌∷◌, [], IfOk, IsTrue, OnOk, OnErr, option_map};
+ghost use Rattle.std.specs.Prelude.{◌≡◌, ◌↔◌, ◌⊎◌, ◌<◌, length, IfOk, IsTrue, OnOk, OnErr, option_map};
 ghost use Rattle.std.specs.FinMap as fin;
-ghost use Rattle.desk_ledger.specs.Ledger.{row_at, with_header, with_row, without_row};
-ghost use Rattle.desk_sqlite.specs.OverFile.{all_written};
+ghost use Rattle.desk_ledger.specs.Ledger.{row_at, with_header, without_row};
+ghost use Rattle.desk_sqlite.specs.OverFile.{all_written, nothing, with_put, with_room};
 
-use crate::contents::{Contents, copy_of, header_again, row_again};
 use crate::database::Database;
 use crate::files::{Log, may_be_database};
 use crate::tables::{make_tables, read_contents, write_header, write_rows, write_then_remove};
+use crate::waiting::Waiting;
 use desk_base::{Memory, Text};
-use desk_ledger::{Header, KeeperFault, Row};
+use desk_ledger::{Contents, Header, KeeperFault, Row};
 use std::alloc::Global;
 use std::marker::Model;
 use std::str;
 
-/// How many rows wait at most to be written.
-const BATCH: usize = 1024;
-
-/// A ledger that is open: its name, its file, what it holds, those of its rows that wait to be written, and
-/// whether some of these stand in place of others. Contracts see all but the file and the last.
+/// A ledger that is open: its name, its file, what it holds, and those of its rows that wait to be written.
+/// Contracts see all but the file.
 #[derive(Drop)]
 pub(crate) struct Opened {
     alloc: Global,
     name: Text,
     database: Database,
     contents: Contents,
-    waiting: Vec<Row>,
-    replaces: bool,
+    waiting: Waiting,
 }
 
 impl Model for Opened {
@@ -37,7 +33,7 @@ impl Model for Opened {
 
     ghost coded = { open_code };
 
-    ghost view = { λ o. record { name = o.name; ledger = o.contents; waiting = o.waiting.items } };
+    ghost view = { λ o. record { name = o.name; ledger = o.contents; waiting = o.waiting } };
 }
 
 /// What the tables of a database hold. They are made where it holds nothing.
@@ -78,18 +74,17 @@ impl Opened {
     /// Opens the ledger of a name, and makes it where there is no file.
     pub(crate) fn at(rt: &HostRuntime, name: &Text) -> Result<Opened, KeeperFault>
         ensures name { IfOk result (λ opened. opened.name ≡ name.now) }
-        ensures waiting { IfOk result (λ opened. opened.waiting ≡ []) }
+        ensures waiting { IfOk result (λ opened. opened.waiting ≡ nothing) }
     {
         let alloc = rt.alloc();
         let (database, contents) = ledger_at(rt, name)?;
-        let name = copy_of(alloc, name)?;
+        let name = name.clone()?;
         Ok(Opened {
             alloc,
             name,
             database,
             contents,
-            waiting: Vec::new(alloc),
-            replaces: false,
+            waiting: Waiting::new(alloc),
         })
     }
 
@@ -114,26 +109,13 @@ impl Opened {
         self.contents.find(target)
     }
 
-    /// Nothing waits any more.
-    fn set_written(&mut self)
-        ensures { self.new ≡ all_written self.old }
-    {
-        self.waiting.clear();
-        self.replaces = false;
-    }
-
     /// Writes the rows that wait.
     pub(crate) fn write_waiting(&mut self) -> Result<(), KeeperFault>
         ensures ok { OnOk result (self.new ≡ all_written self.old) }
         ensures err { OnErr result (self.new ≡ self.old) }
     {
-        write_rows(
-            &mut self.database,
-            self.alloc,
-            self.waiting.as_slice(),
-            self.replaces,
-        )?;
-        self.set_written();
+        write_rows(&mut self.database, self.alloc, &self.waiting)?;
+        self.waiting.clear();
         Ok(())
     }
 
@@ -142,62 +124,63 @@ impl Opened {
         ensures ok { OnOk result (self.new ≡ record self.old { ledger = with_header header.now self.old.ledger }) }
         ensures err { OnErr result (self.new ≡ self.old) }
     {
-        let copy = header_again(self.alloc, header)?;
+        let copy = header.clone()?;
         write_header(&mut self.database, header)?;
         self.contents.set_header(copy);
         Ok(())
     }
 
-    /// Takes a row, and lets it wait.
-    fn take(&mut self, row: &Row) -> Result<(), Memory>
-        ensures ok { OnOk result (self.new ≡ record self.old { ledger = with_row row.now self.old.ledger; waiting = self.old.waiting ++ row.now ∷ [] }) }
-        ensures name { self.new.name ≡ self.old.name }
-        ensures err { OnErr result (self.new.ledger ≡ self.old.ledger) }
+    /// Takes a row, and lets a copy of it wait.
+    fn take(&mut self, row: Row) -> Result<(), Memory>
+        requires { length self.old.waiting.rows < 1024 }
+        ensures ok { OnOk result (self.new ≡ with_put row self.old) }
+        ensures err { OnErr result (self.new ≡ self.old) }
     {
-        let held = row_again(self.alloc, row)?;
-        let waits = row_again(self.alloc, row)?;
+        let waits = row.clone()?;
         self.waiting.push(waits)?;
-        match self.contents.put(held) {
-            Ok(replaced) => {
-                self.replaces = self.replaces || replaced;
+        match self.contents.put(row) {
+            Ok(earlier) => {
+                self.waiting.note(earlier.is_some());
                 Ok(())
             }
             Err(Memory) => {
-                let _ = self.waiting.pop();
+                self.waiting.take_back();
                 Err(Memory)
             }
         }
     }
 
-    /// Takes a row in place of its target's, and lets it wait. The rows that waited before are written
-    /// where they are 1,024.
-    pub(crate) fn put(&mut self, row: &Row) -> Result<(), KeeperFault>
-        ensures name { self.new.name ≡ self.old.name }
-        ensures ok { OnOk result (self.new.ledger ≡ with_row row.now self.old.ledger) }
-        ensures waits { OnOk result ((self.new.waiting ≡ self.old.waiting ++ row.now ∷ []) ⊎ (self.new.waiting ≡ row.now ∷ [])) }
-        ensures err { OnErr result (self.new.ledger ≡ self.old.ledger) }
+    /// Writes the rows that wait where no other may.
+    fn make_room(&mut self) -> Result<(), KeeperFault>
+        ensures ok { OnOk result (self.new ≡ with_room self.old) }
+        ensures room { OnOk result (length self.new.waiting.rows < 1024) }
+        ensures err { OnErr result (self.new ≡ self.old) }
     {
-        if self.waiting.len() >= BATCH {
+        if self.waiting.is_full() {
             self.write_waiting()?;
         }
+        Ok(())
+    }
+
+    /// Takes a row in place of its target's, and lets it wait. The rows that waited before are written
+    /// where they are 1,024.
+    pub(crate) fn put(&mut self, row: Row) -> Result<(), KeeperFault>
+        ensures ok { OnOk result (self.new ≡ with_put row (with_room self.old)) }
+        ensures err { OnErr result ((self.new ≡ self.old) ⊎ (self.new ≡ with_room self.old)) }
+    {
+        self.make_room()?;
         self.take(row)?;
         Ok(())
     }
 
     /// Writes the rows that wait, and removes the row of a target.
     pub(crate) fn forget(&mut self, target: &Text) -> Result<(), KeeperFault>
-        ensures ok { OnOk result (self.new ≡ record self.old { ledger = without_row target.now self.old.ledger; waiting = [] }) }
+        ensures ok { OnOk result (self.new ≡ record self.old { ledger = without_row target.now self.old.ledger; waiting = nothing }) }
         ensures err { OnErr result (self.new ≡ self.old) }
     {
-        write_then_remove(
-            &mut self.database,
-            self.alloc,
-            self.waiting.as_slice(),
-            self.replaces,
-            target,
-        )?;
-        self.set_written();
-        self.contents.remove(target);
+        write_then_remove(&mut self.database, self.alloc, &self.waiting, target)?;
+        self.waiting.clear();
+        self.contents.forget(target);
         Ok(())
     }
 }

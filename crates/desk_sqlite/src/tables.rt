@@ -1,9 +1,13 @@
 //! The two tables of a ledger: one holds the header, the other the rows by their targets.
 
-use crate::contents::Contents;
+ghost use Rattle.std.specs.Prelude.{◌≡◌, ◌≢◌, string_bytes, IfOk, OnOk};
+ghost use Rattle.sqlite.specs.Values.{bound};
+ghost use Rattle.desk_sqlite.specs.Statements.{insertion, values_in, verb};
+
 use crate::database::Database;
+use crate::waiting::Waiting;
 use desk_base::Text;
-use desk_ledger::{Digest, Header, KeeperFault, Row};
+use desk_ledger::{Contents, Digest, Header, KeeperFault, Row};
 use sqlite::types::ValueRef;
 use sqlite::{Row as Found, params};
 use std::alloc::{AllocError, Global};
@@ -16,13 +20,17 @@ const HEADER: &str =
 const WRITTEN: &str =
     "CREATE TABLE written (target BLOB NOT NULL PRIMARY KEY, source BLOB NOT NULL, digest BLOB NOT NULL) STRICT";
 
-fn make_both(database: &mut Database) -> Result<(), KeeperFault> {
+fn make_both(database: &mut Database) -> Result<(), KeeperFault>
+    ensures { OnOk result (database.new ≡ database.old) }
+{
     database.run(HEADER, &[])?;
     database.run(WRITTEN, &[])
 }
 
 /// Makes both tables or none.
-fn make(database: &mut Database) -> Result<(), KeeperFault> {
+fn make(database: &mut Database) -> Result<(), KeeperFault>
+    ensures { OnOk result (database.new ≡ database.old) }
+{
     database.run("BEGIN", &[])?;
     let made = make_both(database);
     database.end(made)
@@ -34,7 +42,9 @@ fn is_made_by(found: &Found, statement: &str) -> bool {
 }
 
 /// Makes the tables in a database that holds nothing. One that holds anything but them is refused.
-pub(crate) fn make_tables(database: &mut Database) -> Result<(), KeeperFault> {
+pub(crate) fn make_tables(database: &mut Database) -> Result<(), KeeperFault>
+    ensures { OnOk result (database.new ≡ database.old) }
+{
     let found = database.query(
         "SELECT sql FROM sqlite_schema WHERE sql IS NOT NULL ORDER BY name",
     )?;
@@ -83,31 +93,59 @@ fn row_in(alloc: Global, found: &Found) -> Result<Row, KeeperFault> {
     })
 }
 
-/// The header that the tables hold, if there is one.
-fn read_header(alloc: Global, database: &mut Database) -> Result<Option<Header>, KeeperFault> {
+/// Takes the header that the tables hold, if there is one.
+fn read_header(
+    alloc: Global,
+    database: &mut Database,
+    contents: &mut Contents,
+) -> Result<(), KeeperFault>
+    ensures { OnOk result (database.new ≡ database.old) }
+{
     let found = database.query("SELECT from_root, to_root, rules FROM header")?;
     match found.as_slice() {
-        [] => Ok(None),
-        [one] => Ok(Some(header_in(alloc, one)?)),
+        [] => Ok(()),
+        [one] => {
+            contents.set_header(header_in(alloc, one)?);
+            Ok(())
+        }
         _ => Err(KeeperFault::Failed),
     }
 }
 
-/// All that the tables hold.
-pub(crate) fn read_contents(
+/// Takes a row that was found.
+fn take_row(alloc: Global, found: &Found, contents: &mut Contents) -> Result<(), KeeperFault> {
+    contents.put(row_in(alloc, found)?)?;
+    Ok(())
+}
+
+/// Takes the rows that the tables hold.
+fn read_rows(
     alloc: Global,
     database: &mut Database,
-) -> Result<Contents, KeeperFault> {
-    let header = read_header(alloc, database)?;
-    let mut contents = Contents::new(alloc, header);
+    contents: &mut Contents,
+) -> Result<(), KeeperFault>
+    ensures { OnOk result (database.new ≡ database.old) }
+{
     for found in database.query("SELECT target, source, digest FROM written")? {
-        contents.put(row_in(alloc, &found)?)?;
+        take_row(alloc, &found, contents)?;
     }
+    Ok(())
+}
+
+/// All that the tables hold.
+pub(crate) fn read_contents(alloc: Global, database: &mut Database) -> Result<Contents, KeeperFault>
+    ensures { OnOk result (database.new ≡ database.old) }
+{
+    let mut contents = Contents::new(alloc);
+    read_header(alloc, database, &mut contents)?;
+    read_rows(alloc, database, &mut contents)?;
     Ok(contents)
 }
 
 /// Makes this the header.
-pub(crate) fn write_header(database: &mut Database, header: &Header) -> Result<(), KeeperFault> {
+pub(crate) fn write_header(database: &mut Database, header: &Header) -> Result<(), KeeperFault>
+    ensures { OnOk result (database.new ≡ database.old) }
+{
     database.run(
         "INSERT OR REPLACE INTO header VALUES (1, ?1, ?2, ?3)",
         params![
@@ -118,23 +156,44 @@ pub(crate) fn write_header(database: &mut Database, header: &Header) -> Result<(
     )
 }
 
-/// The statement that writes so many rows. One that replaces puts each in place of its target's.
-fn insertion_of(alloc: Global, rows: usize, replaces: bool) -> Result<String, AllocError> {
+/// What a statement does with a row whose target has one already.
+#[derive(Clone, Copy)]
+pub(crate) enum OnConflict {
+    /// It fails, and writes no row.
+    Abort,
+    /// It puts the new row in place of the old one.
+    Replace,
+}
+
+impl OnConflict {
+    /// How the statement begins.
+    fn verb(self) -> &'static str
+        ensures { result.now ≡ verb self }
+    {
+        match self {
+            OnConflict::Abort => "INSERT",
+            OnConflict::Replace => "INSERT OR REPLACE",
+        }
+    }
+}
+
+/// The statement that writes so many rows.
+fn insertion_of(alloc: Global, rows: usize, on_conflict: OnConflict) -> Result<String, AllocError>
+    ensures { IfOk result (λ text. string_bytes text ≡ insertion on_conflict rows) }
+{
     let mut text = String::new(alloc);
-    text.push_str(if replaces {
-        "INSERT OR REPLACE"
-    } else {
-        "INSERT"
-    })?;
+    text.push_str(on_conflict.verb())?;
     text.push_str(" INTO written VALUES (?, ?, ?)")?;
-    for _ in 1..rows {
+    for _further in 0..rows.saturating_sub(1) {
         text.push_str(", (?, ?, ?)")?;
     }
     Ok(text)
 }
 
 /// The values of rows, one behind the other.
-fn values_of(alloc: Global, rows: &[Row]) -> Result<Vec<ValueRef<'_>>, AllocError> {
+fn values_of(alloc: Global, rows: &[Row]) -> Result<Vec<ValueRef<'_>>, AllocError>
+    ensures { IfOk result (λ values. bound values.items ≡ values_in rows.now) }
+{
     let mut values = Vec::new(alloc);
     for row in rows {
         values.push(ValueRef::Blob(row.target.as_bytes()))?;
@@ -144,23 +203,33 @@ fn values_of(alloc: Global, rows: &[Row]) -> Result<Vec<ValueRef<'_>>, AllocErro
     Ok(values)
 }
 
-/// Writes rows in their order by one statement, which is much faster than one for each: all of them or none.
-/// Where some stand in place of others, which takes longer, it has to be told.
+/// Writes the rows that wait in their order by one statement, which is one transaction and much faster than
+/// one for each: all of them or none.
 pub(crate) fn write_rows(
     database: &mut Database,
     alloc: Global,
-    rows: &[Row],
-    replaces: bool,
-) -> Result<(), KeeperFault> {
+    waiting: &Waiting,
+) -> Result<(), KeeperFault>
+    ensures { OnOk result (database.new ≡ database.old) }
+{
+    let rows = waiting.rows();
     if rows.is_empty() {
         return Ok(());
     }
-    let statement = insertion_of(alloc, rows.len(), replaces).map_err(|_| KeeperFault::Memory)?;
-    let values = values_of(alloc, rows).map_err(|_| KeeperFault::Memory)?;
+    // Looking for the rows that are replaced takes longer, so it is asked for only where there are some.
+    let on_conflict = if waiting.replaces() {
+        OnConflict::Replace
+    } else {
+        OnConflict::Abort
+    };
+    let statement = insertion_of(alloc, rows.len(), on_conflict)?;
+    let values = values_of(alloc, rows)?;
     database.run(statement.as_str(), values.as_slice())
 }
 
-fn remove(database: &mut Database, target: &Text) -> Result<(), KeeperFault> {
+fn remove(database: &mut Database, target: &Text) -> Result<(), KeeperFault>
+    ensures { OnOk result (database.new ≡ database.old) }
+{
     database.run(
         "DELETE FROM written WHERE target = ?1",
         params![target.as_bytes()],
@@ -170,23 +239,25 @@ fn remove(database: &mut Database, target: &Text) -> Result<(), KeeperFault> {
 fn write_and_remove(
     database: &mut Database,
     alloc: Global,
-    rows: &[Row],
-    replaces: bool,
+    waiting: &Waiting,
     target: &Text,
-) -> Result<(), KeeperFault> {
-    write_rows(database, alloc, rows, replaces)?;
+) -> Result<(), KeeperFault>
+    ensures { OnOk result (database.new ≡ database.old) }
+{
+    write_rows(database, alloc, waiting)?;
     remove(database, target)
 }
 
-/// Writes rows, and then removes the row of a target: all of it or nothing.
+/// Writes the rows that wait, and then removes the row of a target: all of it or nothing.
 pub(crate) fn write_then_remove(
     database: &mut Database,
     alloc: Global,
-    rows: &[Row],
-    replaces: bool,
+    waiting: &Waiting,
     target: &Text,
-) -> Result<(), KeeperFault> {
+) -> Result<(), KeeperFault>
+    ensures { OnOk result (database.new ≡ database.old) }
+{
     database.run("BEGIN", &[])?;
-    let written = write_and_remove(database, alloc, rows, replaces, target);
+    let written = write_and_remove(database, alloc, waiting, target);
     database.end(written)
 }

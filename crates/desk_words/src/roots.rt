@@ -4,12 +4,10 @@ ghost use Rattle.std.specs.Prelude.{◌≡◌, Some, Ok, Err, IfOk, IfErr, OnOk,
 ghost use Rattle.std.specs.List.{list_any};
 ghost use Rattle.desk_base.specs.Names.{written as joined};
 ghost use Rattle.desk_words.specs.Words.{is_value, parts, is_upward, is_dropped, named_parts, root_of, written, lies_in, overlap, first_nested};
-ghost use Rattle.desk_report.specs.declared.status.Status.TheVariants.{NestedRoots};
-ghost use Rattle.desk_words.specs.Roots.{AreRoots, RefusedBy, nested_status, roots_apart, roots_of_words};
+ghost use Rattle.desk_words.specs.Roots.{AreRoots, RefusedBy, nested_fault, roots_apart, roots_of_words};
 
 use crate::words::{Task, WordsFault, read_words};
 use desk_base::{Memory, Text, TextList};
-use desk_report::Status;
 use std::alloc::Global;
 
 /// A folder or file that a word names: the segments between its `/`, without empty ones and `.`.
@@ -141,24 +139,46 @@ pub struct Roots {
     pub ledger: Text,
 }
 
-/// The status of two roots of which one lies in the other, or want of memory.
-fn nested(alloc: Global, first: &Root, second: &Root) -> Result<Status, Memory>
-    ensures { IfOk result (λ status. status ≡ NestedRoots (written first.now) (written second.now)) }
+/// Why words name no roots of a run.
+#[derive(Debug, Drop)]
+pub enum RootsFault {
+    /// The words mean no task.
+    Usage,
+    /// Of these roots, as they are written, one lies in the other where it may not.
+    Nested { first: Text, second: Text },
+    /// Memory ran out.
+    Memory,
+}
+
+impl From<Memory> for RootsFault {
+    ghost use Rattle.std.specs.Prelude.{◌≡◌};
+    ghost use Rattle.desk_words.specs.declared.roots.RootsFault.TheVariants as fault;
+
+    ghost from_gives = { λ _ it. it ≡ fault.Memory };
+
+    fn from(_: Memory) -> RootsFault {
+        RootsFault::Memory
+    }
+}
+
+/// The fault of two roots of which one lies in the other, or want of memory.
+fn nested(alloc: Global, first: &Root, second: &Root) -> Result<RootsFault, Memory>
+    ensures { IfOk result (λ fault. fault ≡ RootsFault.Nested (written first.now) (written second.now)) }
 {
     let first = first.written(alloc)?;
     let second = second.written(alloc)?;
-    Ok(Status::NestedRoots { first, second })
+    Ok(RootsFault::Nested { first, second })
 }
 
-/// The first nested pair of a task's roots, as a status.
+/// The first nested pair of a task's roots, as a fault.
 fn first_nested(
     alloc: Global,
     rules: &Root,
     from: &Root,
     to: &Root,
     ledger: &Root,
-) -> Result<Option<Status>, Memory>
-    ensures { IfOk result (λ status. status ≡ option_map nested_status (first_nested rules.now from.now to.now ledger.now)) }
+) -> Result<Option<RootsFault>, Memory>
+    ensures { IfOk result (λ fault. fault ≡ option_map nested_fault (first_nested rules.now from.now to.now ledger.now)) }
 {
     if from.overlaps(to) {
         Ok(Some(nested(alloc, from, to)?))
@@ -197,7 +217,7 @@ fn written_roots(
     })
 }
 
-/// The roots as they are written, or the status of the first pair of them that is nested, or want of
+/// The roots as they are written, or the fault of the first pair of them that is nested, or want of
 /// memory.
 fn separate_roots(
     alloc: Global,
@@ -205,22 +225,18 @@ fn separate_roots(
     from: &Root,
     to: &Root,
     ledger: &Root,
-) -> Result<Roots, Status>
+) -> Result<Roots, RootsFault>
     ensures ok { IfOk result (λ roots. roots_apart rules.now from.now to.now ledger.now (first_nested rules.now from.now to.now ledger.now) ≡ Ok roots) }
     ensures err { IfErr result (RefusedBy (roots_apart rules.now from.now to.now ledger.now (first_nested rules.now from.now to.now ledger.now))) }
 {
-    match first_nested(alloc, rules, from, to, ledger) {
-        Ok(Some(status)) => Err(status),
-        Ok(None) => match written_roots(alloc, rules, from, to, ledger) {
-            Ok(roots) => Ok(roots),
-            Err(Memory) => Err(Status::Memory),
-        },
-        Err(Memory) => Err(Status::Memory),
+    match first_nested(alloc, rules, from, to, ledger)? {
+        Some(fault) => Err(fault),
+        None => Ok(written_roots(alloc, rules, from, to, ledger)?),
     }
 }
 
 /// The roots that words name, as they are written, or why they name none.
-fn read_roots(alloc: Global, words: &[Text]) -> Result<Roots, Status>
+fn read_roots(alloc: Global, words: &[Text]) -> Result<Roots, RootsFault>
     ensures ok { IfOk result (λ roots. roots_of_words words.now ≡ Ok roots) }
     ensures err { IfErr result (RefusedBy (roots_of_words words.now)) }
 {
@@ -234,16 +250,16 @@ fn read_roots(alloc: Global, words: &[Text]) -> Result<Roots, Status>
                 ..
             },
         ) => separate_roots(alloc, &rules, &from, &to, &ledger),
-        Err(WordsFault::Usage) => Err(Status::Usage),
-        Err(WordsFault::Memory) => Err(Status::Memory),
+        Err(WordsFault::Usage) => Err(RootsFault::Usage),
+        Err(WordsFault::Memory) => Err(RootsFault::Memory),
     }
 }
 
 /// The roots that words name, as they are written. They are roots below which paths stand, and source and
 /// target have no path in common.
-/// The errors: `Usage` of words without a task; `NestedRoots` with the first two roots of which one lies
+/// The errors: `Usage` of words without a task; `Nested` with the first two roots of which one lies
 /// in the other; `Memory`, which may come at any words.
-pub fn roots_of_words(alloc: Global, words: &[Text]) -> Result<Roots, Status>
+pub fn roots_of_words(alloc: Global, words: &[Text]) -> Result<Roots, RootsFault>
     ensures ok { IfOk result (λ roots. roots_of_words words.now ≡ Ok roots) }
     ensures sound { IfOk result AreRoots }
     ensures err { IfErr result (RefusedBy (roots_of_words words.now)) }

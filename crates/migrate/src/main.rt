@@ -1,98 +1,87 @@
-//! The program: it makes the real folders and the real output, and hands them to the desk with its words.
+//! The program: it hands its words, the real folders, the ledger on disk and the real output to the desk, and exits
+//! with the status that the desk answers.
 #![tactic(auto)]
 
-ghost use Rattle.std.specs.Prelude.{◌≡◌, ◌≢◌, [], IfSome, IsSome};
-ghost use Rattle.desk_sqlite.specs.OverFile.{waiting_in};
-
-#[cfg(test)]
-mod rows;
+ghost use Rattle.std.specs.Prelude.{◌≡◌, ◌≢◌, IfOk, drop, map, string_bytes};
+ghost use Rattle.std.specs.Process.{exit_status};
+ghost use Rattle.desk_report.specs.Texts.{code_of};
 
 use desk_base::{Memory, Text};
 use desk_folders::DiskFolders;
-use desk_ledger::KeeperFault;
-use desk_report::{Sink, Status, StdSink, write_fault};
+use desk_report::{Status, StdSink, write_fault};
 use desk_run::desk;
 use desk_sqlite::SqliteKeeper;
+use std::alloc::Global;
 use std::io::ErrorKind;
 use std::process::ExitCode;
 use std::{env, io};
 
-/// The words behind the program's name. Words that aren't UTF-8 mean no task.
-fn read_args(rt: &HostRuntime) -> Result<Vec<Text>, Status> {
-    match collect_args(rt) {
-        Ok(words) => Ok(words),
-        Err(error) if error.kind() == ErrorKind::OutOfMemory => Err(Status::Memory),
-        Err(_) => Err(Status::Usage),
-    }
-}
-
-fn collect_args(rt: &HostRuntime) -> io::Result<Vec<Text>> {
-    let mut words = Vec::new(rt.alloc());
-    for word in env::args(rt)?.skip(1) {
-        match Text::from_bytes(rt.alloc(), word.as_bytes()) {
-            Ok(word) => words.push(word)?,
-            Err(Memory) => return Err(io::Error::from(ErrorKind::OutOfMemory)),
-        }
+/// Words as texts, as they were given.
+fn texts_of(alloc: Global, given: &[String]) -> Result<Vec<Text>, Memory>
+    ensures { IfOk result (λ words. words.items ≡ map string_bytes given.now) }
+{
+    let mut words = Vec::new(alloc);
+    for word in given {
+        words.push(Text::from_bytes(alloc, word.as_bytes())?)?;
     }
     Ok(words)
 }
 
-/// Tells a status that is not the desk's.
-fn tell<O: Sink>(status: Status, out: &mut O) -> Status
-    ensures { result ≡ status }
+/// The words behind the program's name, as they were given.
+fn words_behind(alloc: Global, args: &[String]) -> Result<Vec<Text>, Memory>
+    ensures { IfOk result (λ words. words.items ≡ map string_bytes (drop 1 args.now)) }
 {
-    let _ = write_fault(&status, out);
-    status
-}
-
-/// What a failure of the last rows makes of a run that ended with this status, after it had asked for so
-/// many files. A run that ended for the ledger or for want of memory stays as it was told.
-fn ending_of(fault: KeeperFault, status: &Status, asked: u32) -> Option<Status>
-    ensures done { status.now ≡ Status.Done → IsSome result }
-    ensures refusals { status.now ≡ Status.Refusals → IsSome result }
-    ensures no_success { IfSome result (λ ending. (ending ≢ Status.Done) × (ending ≢ Status.Refusals)) }
-{
-    match (fault, status) {
-        (KeeperFault::Failed, Status::Done | Status::Refusals | Status::OutputFault) => {
-            Some(Status::LedgerFault { done: asked })
-        }
-        (KeeperFault::Failed, Status::FolderFault { done }) => {
-            Some(Status::LedgerFault { done: *done })
-        }
-        (KeeperFault::Memory, Status::Done | Status::Refusals | Status::OutputFault) => {
-            Some(Status::Memory)
-        }
-        _ => None,
+    match args.split_first() {
+        Some((_, given)) => texts_of(alloc, given),
+        None => Ok(Vec::new(alloc)),
     }
 }
 
-/// Writes the rows that wait behind a run, and answers how the program ends. A failure has its line, behind
-/// what the run told.
-fn finish<O: Sink>(keeper: &mut SqliteKeeper<'_>, status: Status, out: &mut O) -> Status
-    ensures done { result ≡ Status.Done → IfSome (waiting_in keeper.new) (λ rows. rows ≡ []) }
-    ensures refusals { result ≡ Status.Refusals → IfSome (waiting_in keeper.new) (λ rows. rows ≡ []) }
+fn read_words(rt: &HostRuntime) -> io::Result<Vec<Text>> {
+    let mut args = Vec::new(rt.alloc());
+    for arg in env::args(rt)? {
+        args.push(arg)?;
+    }
+    match words_behind(rt.alloc(), &args) {
+        Ok(words) => Ok(words),
+        Err(Memory) => Err(io::Error::from(ErrorKind::OutOfMemory)),
+    }
+}
+
+/// How a program ends whose words can't be read: for want of memory, or as words that mean no task.
+fn unread(kind: ErrorKind) -> Status
+    ensures memory { kind ≡ ErrorKind.OutOfMemory → result ≡ Status.Memory }
+    ensures other { kind ≢ ErrorKind.OutOfMemory → result ≡ Status.Usage }
 {
-    let Err(fault) = keeper.finish() else {
-        return status;
-    };
-    match ending_of(fault, &status, keeper.asked()) {
-        Some(ending) => tell(ending, out),
-        None => status,
+    match kind {
+        ErrorKind::OutOfMemory => Status::Memory,
+        _ => Status::Usage,
     }
 }
 
 fn run(rt: &HostRuntime) -> Status {
     let mut out = StdSink::new(rt);
-    let words = match read_args(rt) {
-        Ok(words) => words,
-        Err(status) => return tell(status, &mut out),
-    };
-    let mut folders = DiskFolders::new(rt);
-    let mut keeper = SqliteKeeper::new(rt);
-    let status = desk(rt.alloc(), &words, &mut folders, &mut keeper, &mut out);
-    finish(&mut keeper, status, &mut out)
+    match read_words(rt) {
+        Ok(words) => {
+            let mut folders = DiskFolders::new(rt);
+            let mut keeper = SqliteKeeper::new(rt);
+            desk(rt.alloc(), &words, &mut folders, &mut keeper, &mut out)
+        }
+        Err(error) => {
+            let status = unread(error.kind());
+            let _ = write_fault(&status, &mut out);
+            status
+        }
+    }
+}
+
+/// The exit status that tells a status.
+fn exit_of(status: &Status) -> ExitCode
+    ensures { exit_status result ≡ code_of status.now }
+{
+    ExitCode::from(status.code())
 }
 
 fn main(rt: HostRuntime) -> ExitCode {
-    ExitCode::from(run(&rt).code())
+    exit_of(&run(&rt))
 }

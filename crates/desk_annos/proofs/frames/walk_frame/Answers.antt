@@ -4,4 +4,4 @@ use Rattle.desk_annos.proofs.Steps.{nothing_selected}
 use Rattle.desk_annos.proofs.frames.walk_frame.Goals as goal
 
 pub returns-in-0-to-63-clause-walks : goal.returns-in-0-to-63-clause-walks
-returns-in-0-to-63-clause-walks g c = nothing_selected _ _ _ _ _ _ _ c.in-Ok.ensures.ok (grind (arith, nat_tests)) (grind (arith, nat_tests))
+returns-in-0-to-63-clause-walks g c = nothing_selected _ _ _ _ _ _ _ c.in_ok-tag.ensures.ok (grind (arith, nat_tests)) (grind (arith, nat_tests))

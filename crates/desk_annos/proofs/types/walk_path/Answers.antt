@@ -4,6 +4,6 @@ use Rattle.desk_format.specs.Walk.{walk_at}
 use Rattle.desk_annos.proofs.Steps.{sized_table_walked}
 use Rattle.desk_annos.proofs.types.walk_path.Goals as goal
 
-pub returns-in-Ok-clause-walks : goal.returns-in-Ok-clause-walks
-returns-in-Ok-clause-walks c = λ us entries.
-    sized_table_walked c.walk_steps.result _ us entries w8 path_step (walk_at us c.args.cursor.now) _ c.in-Ok.count (c.in-Ok.ensures.walks us) c.in-Ok.ensures.value (c.walk_steps.ensures.walks us entries)
+pub returns-clause-walks : goal.returns-clause-walks
+returns-clause-walks c = λ us entries.
+    sized_table_walked c.walk_steps.result _ us entries w8 path_step (walk_at us c.args.cursor.now) _ c.in_ok-count.count (c.in_ok-count.ensures.walks us) c.in_ok-count.ensures.value (c.walk_steps.ensures.walks us entries)

@@ -6,4 +6,4 @@ use Rattle.desk_annos.proofs.types.walk_steps.Goals as goal
 
 pub loop-preserved : goal.loop-preserved
 loop-preserved c =
-    (λ us entries. times_on (read entries path_step) c.args.count c.loop.counter _ _ _ c.loop-test.true (c.in-Ok.ensures.walks us entries) (c.loop.invariant.0 us entries), (omega arith, omega arith))
+    (λ us entries. times_on (read entries path_step) c.args.count c.loop.counter _ _ _ c.loop-test.true (c.in_ok-walk_step.ensures.walks us entries) (c.loop.invariant.0 us entries), (omega arith, omega arith))

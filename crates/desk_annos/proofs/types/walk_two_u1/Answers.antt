@@ -1,9 +1,12 @@
+use Rattle.std.proofs.lemmas.Result.{err_from_is_err_and}
 use Rattle.desk_format.specs.Rows.{u1}
 use Rattle.desk_annos.proofs.Steps.{pair_walked, pair_stopped}
 use Rattle.desk_annos.proofs.types.walk_two_u1.Goals as goal
 
-pub returns-in-Ok-walk_u1-clause-walks : goal.returns-in-Ok-walk_u1-clause-walks
-returns-in-Ok-walk_u1-clause-walks c = λ us entries. pair_walked us entries (u1) u1 _ _ _ (c.in-Ok.ensures.reads us entries) (c.in-Ok-walk_u1.ensures.reads us entries)
+pub returns-clause-walks : goal.returns-clause-walks
+returns-clause-walks c = λ us entries. pair_walked us entries u1 u1 _ _ _ (c.in_ok-walk_u1.ensures.reads us entries) (c.in_ok-walk_u1-2.ensures.reads us entries)
 
-pub returns-in-Err-walk_u1-clause-walks : goal.returns-in-Err-walk_u1-clause-walks
-returns-in-Err-walk_u1-clause-walks c = λ us entries. pair_stopped c.in-Err-walk_u1.fault us entries (u1) u1 _ _ (c.in-Ok.ensures.reads us entries) (c.in-Err-walk_u1.ensures.reads us entries)
+pub returns-in_err-walk_u1-2-clause-walks : goal.returns-in_err-walk_u1-2-clause-walks
+returns-in_err-walk_u1-2-clause-walks c =
+    let p = err_from_is_err_and c.from_residual-in_err-walk_u1-2.result c.from_residual-in_err-walk_u1-2.ensures.1 in
+    λ us entries. rw (p.1, p.2) (pair_stopped _ us entries u1 u1 _ _ (c.in_ok-walk_u1.ensures.reads us entries) (c.in_err-walk_u1-2.ensures.reads us entries))

@@ -8,4 +8,4 @@ use Rattle.desk_class.proofs.body.read_each_interface.Goals as goal
 
 pub loop-preserved : goal.loop-preserved
 loop-preserved c = λ us.
-    times_on (read c.args.pool.now.entries (Layout.index kinds.ClassName)) c.args.count c.loop.counter (walk_at us c.loop.cursor) (walk_at us c.read_class.new.cursor) _ (omega arith) (c.in-Ok.ensures.walks us) (c.loop.invariant us)
+    times_on (read c.args.pool.now.entries (Layout.index kinds.ClassName)) c.args.count c.loop.counter (walk_at us c.loop.cursor) (walk_at us c.read_class.new.cursor) _ (omega arith) (c.in_ok-read_class.ensures.walks us) (c.loop.invariant us)

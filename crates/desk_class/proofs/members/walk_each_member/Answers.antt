@@ -10,8 +10,8 @@ pub loop-preserved : goal.loop-preserved
 loop-preserved c =
     times_scan_on (read c.args.pool.now.entries (Layout.member (member_layout c.args.method))) c.args.count c.loop.counter
     (scan_at c.loop.uses.items c.loop.members.items c.loop.cursor) (scan_at c.walk_member.new.uses.items c.push.new.self.items c.walk_member.new.cursor) _ (omega arith)
-    (rw c.in_ok-push-in-Ok.ensures.items
-    (member_scans c.args.pool.now.entries c.args.method c.loop.uses.items c.walk_member.new.uses.items c.loop.members.items c.loop.cursor c.walk_member.new.cursor c.in-Ok.member c.in-Ok.ensures.member c.in-Ok.ensures.walks))
+    (rw c.in_ok-push.ensures.items
+    (member_scans c.args.pool.now.entries c.args.method c.loop.uses.items c.walk_member.new.uses.items c.loop.members.items c.loop.cursor c.walk_member.new.cursor c.in_ok-member.member c.in_ok-member.ensures.member c.in_ok-member.ensures.walks))
     c.loop.invariant
 
 pub returns : goal.returns

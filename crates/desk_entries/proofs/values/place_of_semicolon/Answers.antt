@@ -1,4 +1,4 @@
-use Rattle.std.proofs.Common.{◌==◌, sym, arith}
+use Rattle.std.proofs.Common.{sym, arith}
 use Rattle.std.proofs.lemmas.Bool.{ne_eqb, eq-eqb}
 use Rattle.std.proofs.lemmas.List.Sums.{position_or_len_is}
 use Rattle.desk_entries.specs.Forms.{is_semicolon}

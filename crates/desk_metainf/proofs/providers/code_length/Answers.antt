@@ -1,7 +1,7 @@
 use Rattle.std.proofs.Common.{arith}
 use Rattle.std.proofs.lemmas.Bool.{false_from_ne_true}
 use Rattle.desk_metainf.specs.Services.{is_hash}
-use Rattle.desk_metainf.proofs.Places.{until_length}
+use Rattle.desk_lines.proofs.Cuts.{until_length}
 use Rattle.desk_metainf.proofs.providers.code_length.Goals as goal
 
 pub returns-in-None-clause-length_is : goal.returns-in-None-clause-length_is

@@ -1,4 +1,5 @@
 use Rattle.std.proofs.Common.{◌≡◌, ◌+◌, ◌≤◌, ◌++◌, length, drop}
+use Rattle.desk_base.specs.Limits.{file_size}
 use Rattle.desk_format.specs.PoolBytes.{print_slots, pool_uses}
 use Rattle.desk_pool.specs.Seen.{seen}
 use Rattle.desk_pool.proofs.uses.uses_of.Given as goal
@@ -6,5 +7,5 @@ use Rattle.desk_pool.proofs.uses.uses_of.Given as goal
 abbrev pub invariant-loop-slot : goal.invariant-loop-slot
 invariant-loop-slot l = record {
   rest : l.uses.items ++ pool_uses l.at (seen (drop l.slot-index l.slots)) ≡ pool_uses l.start (seen l.slots);
-  room : l.at + length (print_slots (seen (drop l.slot-index l.slots))) ≤ 67108864;
+  room : l.at + length (print_slots (seen (drop l.slot-index l.slots))) ≤ file_size;
 }

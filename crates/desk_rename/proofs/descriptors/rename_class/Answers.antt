@@ -1,5 +1,5 @@
 use Rattle.std.proofs.Common.{◌≡◌, ◌∙◌, sym, true, false}
-use Rattle.desk_base.specs.Targets.{begins_array}
+use Rattle.desk_base.specs.Referents.{begins_array}
 use Rattle.desk_rename.specs.Images.{cls, desc, class_image}
 use Rattle.desk_rename.proofs.Finished.{starts_array, cls_array, cls_name, image_along}
 use Rattle.desk_rename.proofs.descriptors.rename_class.Goals as goal

@@ -1,6 +1,6 @@
 use Rattle.std.proofs.Common.{◌≡◌, ◌++◌, ◌∙◌, ap, arith}
 use Rattle.desk_base.specs.Names.{Text}
-use Rattle.desk_rename.proofs.Appended.{appended_more, appended_first}
+use Rattle.desk_packages.proofs.Joined.{appended_more, appended_first}
 use Rattle.desk_rename.proofs.fronts.append_segments.Goals as goal
 use Rattle.desk_rename.proofs.fronts.append_segments.Goals.{then-i-gt0+in_ok-push, else-i-gt0}
 

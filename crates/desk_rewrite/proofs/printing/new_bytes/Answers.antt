@@ -2,7 +2,7 @@ use Rattle.std.proofs.Common.{◌≡◌, ◌≤◌, ◌++◌, false, ℕ, List, 
 use Rattle.desk_base.specs.declared.kinds.Used.{Used}
 use Rattle.desk_format.specs.Classes.{Class, class_uses, entries_at}
 use Rattle.desk_format.specs.PoolBytes.{print_slots, pool_uses}
-use Rattle.desk_format.specs.Servlet.{list_in, uses_in}
+use Rattle.desk_format.specs.Classes.{list_in, uses_in}
 use Rattle.desk_class.specs.Parts.{pool_in, body_at_of, body_at_in}
 use Rattle.desk_laws.specs.Sound.{IsShaped}
 use Rattle.desk_rewrite.proofs.Parts.{IsKnown, known, body_uses, stands_same}

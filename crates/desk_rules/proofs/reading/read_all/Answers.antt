@@ -1,8 +1,7 @@
-use Rattle.std.proofs.Common.{◌≡◌, ◌∙◌, ap, List, map}
+use Rattle.std.proofs.Common.{◌≡◌, ◌∙◌, ap, map}
 use Rattle.std.proofs.lemmas.Result.{IfOk-weaker}
-use Rattle.desk_base.specs.Names.{Text}
 use Rattle.desk_properties.specs.Properties.{Entry}
-use Rattle.desk_rules.specs.Keys.{RiseBy}
+use Rattle.desk_packages.specs.Keys.{RiseBy}
 use Rattle.desk_rules.proofs.Ordered.{order_rises, rise_of_keys}
 use Rattle.desk_rules.specs.RuleFiles.{in_order}
 use Rattle.desk_rules.proofs.reading.read_all.Goals as goal

@@ -1,8 +1,5 @@
-use Rattle.std.proofs.Common.{◌≡◌, ◌≤◌, ◌∙◌, ap, sym, Some, length, List, ℕ, arith, rules}
+use Rattle.std.proofs.Common.{◌∙◌, ap, sym, arith}
 use Rattle.std.proofs.lemmas.Result.{err_from_is_err_and}
-use Rattle.desk_rules.specs.Builds.{IsFaultOf, IsEntryFault}
-use Rattle.desk_rules.specs.RuleFiles.{each}
-use Rattle.desk_rules.specs.declared.BuildFault.{BuildFault}
 use Rattle.desk_rules.proofs.InTurn.{read_more, refused_at, entry_there}
 use Rattle.desk_rules.proofs.reading.read_each.Goals as goal
 use Rattle.desk_rules.proofs.reading.read_each.Goals.{in-Some+in_ok-rule+in_ok-push, in_default}

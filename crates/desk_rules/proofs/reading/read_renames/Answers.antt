@@ -1,10 +1,8 @@
-use Rattle.std.proofs.Common.{◌≡◌, ◌∙◌, ap, sym, List, Result, Ok, Err, IfOk, map, length, true, false}
-use Rattle.std.specs.Prelude.{IfErr}
+use Rattle.std.proofs.Common.{◌≡◌, ◌∙◌, ap, sym, List, Result, Ok, Err, IfOk, map}
 use Rattle.std.proofs.lemmas.Bool.{both_ways}
-use Rattle.desk_base.specs.Names.{Text}
 use Rattle.desk_properties.specs.Properties.{Entry}
-use Rattle.desk_rules.specs.Renames.{Renaming, key_of}
-use Rattle.desk_rules.specs.Keys.{IsTable}
+use Rattle.desk_packages.specs.Renames.{Renaming, key_of}
+use Rattle.desk_packages.specs.Keys.{IsTable}
 use Rattle.desk_rules.specs.Files.{renames_name}
 use Rattle.desk_rules.specs.RuleFiles.{entries_in, renames_in, renames_of, each, rename_entry, in_order}
 use Rattle.desk_rules.proofs.Faults.{ok_next, read_whole, refused_whole}

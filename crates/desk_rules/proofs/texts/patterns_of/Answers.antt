@@ -1,7 +1,7 @@
-use Rattle.std.proofs.Common.{◌≡◌, ◌∙◌, ◌++◌, [], ◌∷◌, ap, sym, List, ℕ, arith}
+use Rattle.std.proofs.Common.{◌∙◌, ◌++◌, [], ◌∷◌, ap, sym, List, ℕ, arith}
 use Rattle.std.proofs.lemmas.Result.{err_from_is_err_and}
 use Rattle.desk_rules.specs.TextFiles.{pattern_text}
-use Rattle.desk_rules.proofs.TextTurns.{collect_start, collect_more, collect_fault, collect_end, item_there}
+use Rattle.desk_rules.proofs.TextTurns.{collect_more, collect_fault, collect_end, item_there}
 use Rattle.desk_rules.proofs.texts.patterns_of.Goals as goal
 use Rattle.desk_rules.proofs.texts.patterns_of.Goals.{in-Some+in_ok-rules+in_ok-pattern+in_ok-push, in_default}
 

@@ -1,4 +1,3 @@
-use Rattle.std.proofs.Common.{◌≡◌, ◌∙◌, ap, sym}
 use Rattle.std.proofs.lemmas.Result.{err_from_is_err_and}
 use Rattle.desk_rules.specs.TextFiles.{texts_in, pattern_texts}
 use Rattle.desk_rules.proofs.Faults.{read_whole, refused_whole}

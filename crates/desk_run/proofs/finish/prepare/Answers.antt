@@ -1,21 +1,24 @@
+use Rattle.std.proofs.lemmas.Result.{err_from_is_err_and}
 use Rattle.desk_run.proofs.Preparing.{ok_planned, ok_few, err_plan, gather_named}
 use Rattle.desk_run.proofs.finish.prepare.Goals as goal
 
-pub returns-in-Ok-clause-planned : goal.returns-in-Ok-clause-planned
-returns-in-Ok-clause-planned g c =
-    let gathered = c.in-Ok.gathered in
-    let e = c.in-Ok.ensures in
-    ok_planned c.args.words.now gathered.names gathered.ruled gathered.header gathered.inputs.items _ _ c.plan.result e.settled e.bytes e.sound e.header e.run e.inputs e.relative
+pub returns-clause-planned : goal.returns-clause-planned
+returns-clause-planned g c =
+    let gathered = c.in_ok-gather.field-0 in
+    let e = c.in_ok-gather.ensures in
+    ok_planned c.args.words.now gathered.names.value gathered.ruled.value gathered.header gathered.inputs.items _ _ c.plan.result e.settled e.bytes e.sound e.header e.run e.inputs e.relative
     c.plan.ensures.header c.plan.ensures.to c.plan.ensures.works c.plan.ensures.ours c.plan.ensures.other
 
-pub returns-in-Ok-clause-few : goal.returns-in-Ok-clause-few
-returns-in-Ok-clause-few g c = ok_few c.in-Ok.gathered.inputs.items c.plan.result c.plan.ensures.targets c.in-Ok.ensures.few
+pub returns-clause-few : goal.returns-clause-few
+returns-clause-few g c = ok_few c.in_ok-gather.field-0.inputs.items c.plan.result c.plan.ensures.targets c.in_ok-gather.ensures.few
 
-pub returns-in-Ok-clause-err : goal.returns-in-Ok-clause-err
-returns-in-Ok-clause-err g c =
-    let gathered = c.in-Ok.gathered in
-    let e = c.in-Ok.ensures in
-    err_plan c.args.words.now gathered.names gathered.ruled gathered.header gathered.inputs.items _ _ _ _ _ _ _ c.plan.result e.sound e.header e.run e.inputs e.relative c.plan.ensures.err
+pub returns-clause-err : goal.returns-clause-err
+returns-clause-err g c =
+    let gathered = c.in_ok-gather.field-0 in
+    let e = c.in_ok-gather.ensures in
+    err_plan c.args.words.now gathered.names.value gathered.ruled.value gathered.header gathered.inputs.items _ _ _ _ _ _ _ c.plan.result e.sound e.header e.run e.inputs e.relative c.plan.ensures.err
 
-pub returns-in-Err-clause-named : goal.returns-in-Err-clause-named
-returns-in-Err-clause-named g c = gather_named c.args.words.now _ _ _ _ c.in-Err.halt c.in-Err.ensures.err
+pub returns-in_err-gather-clause-named : goal.returns-in_err-gather-clause-named
+returns-in_err-gather-clause-named g c =
+    let p = err_from_is_err_and c.from_residual.result c.from_residual.ensures.1 in
+    rw (p.1, p.2) (gather_named c.args.words.now _ _ _ _ c.in_err-gather.field-0.0 c.in_err-gather.ensures.err)

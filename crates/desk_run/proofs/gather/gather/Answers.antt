@@ -1,8 +1,19 @@
-use Rattle.desk_run.proofs.Gathering.{halts_by_words, err_reading}
+use Rattle.std.proofs.Common.{◌≡◌, ◌∙◌, Ok, ap, sym, rules}
+use Rattle.desk_run.specs.Named.{told_roots}
+use Rattle.desk_run.proofs.Gathering.{err_reading, ok_named, ok_run}
 use Rattle.desk_run.proofs.gather.gather.Goals as goal
 
-pub returns-in-Ok-clause-err : goal.returns-in-Ok-clause-err
-returns-in-Ok-clause-err g c = err_reading c.args.words.now c.in-Ok.names _ _ _ c.gather_by.result c.in-Ok.ensures.ok c.gather_by.ensures.err
+pub returns-clause-names : goal.returns-clause-names
+returns-clause-names g c =
+    let same : c.in_ok-new.field-0.value ≡ c.in_ok-names.names = search rules in
+    ok_named c.args.words.now c.in_ok-new.field-0.value (λ gathered. gathered.names.value) c.gather_by.result (c.in_ok-names.ensures.ok ∙ ap Ok (sym same)) c.gather_by.ensures.names
 
-pub returns-in-Err-clause-err : goal.returns-in-Err-clause-err
-returns-in-Err-clause-err g c = halts_by_words c.args.words.now _ _ _ c.in-Err.status c.halt_of_words.result c.halt_of_words.ensures c.in-Err.ensures.err
+pub returns-clause-run : goal.returns-clause-run
+returns-clause-run g c =
+    let same : c.in_ok-new.field-0.value ≡ c.in_ok-names.names = search rules in
+    ok_run c.args.words.now c.in_ok-new.field-0.value (λ gathered. gathered.names.value) (λ gathered. gathered.ruled.value) _ c.gather_by.result (ap told_roots (c.in_ok-names.ensures.ok ∙ ap Ok (sym same))) c.gather_by.ensures.names c.gather_by.ensures.rules
+
+pub returns-clause-err : goal.returns-clause-err
+returns-clause-err g c =
+    let same : c.in_ok-new.field-0.value ≡ c.in_ok-names.names = search rules in
+    err_reading c.args.words.now c.in_ok-new.field-0.value _ _ _ c.gather_by.result (ap told_roots (c.in_ok-names.ensures.ok ∙ ap Ok (sym same))) c.gather_by.ensures.err

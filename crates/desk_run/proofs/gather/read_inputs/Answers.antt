@@ -1,28 +1,30 @@
 use Rattle.std.proofs.Common.{ap, sym, subst, ◌∙◌}
+use Rattle.std.proofs.lemmas.Result.{err_from_is_err_and}
 use Rattle.desk_file.specs.Images.{target}
 use Rattle.desk_run.specs.Halts.{HaltsClashing, clash_of}
 use Rattle.desk_run.specs.Meaning.{run_of}
-use Rattle.desk_run.proofs.Gathering.{are_read, halts_clash, halts_paths, inputs_read, places_listed}
+use Rattle.desk_run.proofs.Gathering.{are_read, halts_clash, inputs_read, routes_listed}
 use Rattle.desk_run.proofs.gather.read_inputs.Goals as goal
 
 pub read_all-requires : goal.read_all-requires
-read_all-requires g c = places_listed c.args.names.now.from (target c.args.ruled.now.rules) _ _ c.in-Ok.places.items c.in-Ok.ensures.told c.in-Ok.ensures.places
+read_all-requires g c = routes_listed c.args.names.now.from (target c.args.ruled.now.rules) _ _ c.in_ok-routes.routes.items c.in_ok-routes.ensures.told c.in_ok-routes.ensures.routes
 
-pub returns-in-Err-clause-err : goal.returns-in-Err-clause-err
-returns-in-Err-clause-err g c = halts_paths (run_of c.args.names.now c.args.ruled.now) _ _ _ c.in-Err.halt c.in-Err.ensures.err
-
-pub returns-in-Ok-refuse_clash-clause-inputs : goal.returns-in-Ok-refuse_clash-clause-inputs
-returns-in-Ok-refuse_clash-clause-inputs g c =
+pub returns-clause-inputs : goal.returns-clause-inputs
+returns-clause-inputs g c =
     let run = run_of c.args.names.now c.args.ruled.now in
-    let all = c.in-Ok-read_all.ensures in
-    inputs_read run _ c.in-Ok-read_all.inputs.items
-    (are_read run _ _ c.in-Ok.places.items c.in-Ok-read_all.inputs.items c.in-Ok.ensures.told c.in-Ok.ensures.places c.in-Ok.ensures.clear all.inputs all.fit)
-    (sym (ap clash_of c.deref.ensures.value) ∙ c.in-Ok-refuse_clash.ensures.ok)
+    let all = c.in_ok-inputs.ensures in
+    let routes = c.in_ok-routes.ensures in
+    inputs_read run _ c.in_ok-inputs.inputs.items
+    (are_read run _ _ c.in_ok-routes.routes.items c.in_ok-inputs.inputs.items routes.told routes.routes routes.clear all.inputs all.fit)
+    (sym (ap clash_of c.deref.ensures.value) ∙ c.in_ok-refuse_clash.ensures.ok)
 
-pub returns-in-Err-refuse_clash-clause-err : goal.returns-in-Err-refuse_clash-clause-err
-returns-in-Err-refuse_clash-clause-err g c =
+pub returns-in_err-refuse_clash-clause-err : goal.returns-in_err-refuse_clash-clause-err
+returns-in_err-refuse_clash-clause-err g c =
     let run = run_of c.args.names.now c.args.ruled.now in
-    let all = c.in-Ok-read_all.ensures in
-    halts_clash run _ c.in-Ok-read_all.inputs.items _ _ c.in-Err-refuse_clash.halt
-    (are_read run _ _ c.in-Ok.places.items c.in-Ok-read_all.inputs.items c.in-Ok.ensures.told c.in-Ok.ensures.places c.in-Ok.ensures.clear all.inputs all.fit)
-    (subst (λ inputs. HaltsClashing inputs c.in-Err-refuse_clash.halt) c.deref.ensures.value c.in-Err-refuse_clash.ensures.err)
+    let all = c.in_ok-inputs.ensures in
+    let routes = c.in_ok-routes.ensures in
+    let p = err_from_is_err_and c.from_residual-in_err-refuse_clash.result c.from_residual-in_err-refuse_clash.ensures.1 in
+    rw (p.1, p.2)
+    (halts_clash run _ c.in_ok-inputs.inputs.items _ _ c.in_err-refuse_clash.field-0.0
+    (are_read run _ _ c.in_ok-routes.routes.items c.in_ok-inputs.inputs.items routes.told routes.routes routes.clear all.inputs all.fit)
+    (subst (λ inputs. HaltsClashing inputs c.in_err-refuse_clash.field-0.0) c.deref.ensures.value c.in_err-refuse_clash.ensures.err))

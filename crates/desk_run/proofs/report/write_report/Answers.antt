@@ -4,14 +4,15 @@ use Rattle.std.proofs.lemmas.Iterator.Consumers.{YieldsList-end, YieldsList-so_f
 use Rattle.std.proofs.lemmas.Result.{on_ok_weaker, on_err_weaker}
 use Rattle.desk_run.specs.Reports.{summary_of_works}
 use Rattle.desk_run.proofs.Reporting.{line_front, totals_told, totals_front}
+use Rattle.desk_run.proofs.Writing.{on_err}
 use Rattle.desk_run.proofs.report.write_report.Goals as goal
 
-pub returns-in-Err-clause-err : goal.returns-in-Err-clause-err
-returns-in-Err-clause-err g c =
+pub returns-in_err-write_work-clause-err : goal.returns-in_err-write_work-clause-err
+returns-in_err-write_work-clause-err g c =
     let road = YieldsList-from_vec {s = c.into_iter-work-iterator.result} c.args.works.items (cc) (cc) in
     let turn = YieldsList-turn road c.loop-work.yielded c.loop-work.work-iterator c.loop-work.yielded_by c.next.result c.next.new.self c.in-Some.work c.in-Some.is c.next.ensures.steps in
-    line_front c.args.works.items c.loop-work.yielded c.in-Some.work _ _ _ (YieldsList-so_far road c.loop-work.yielded c.loop-work.work-iterator c.loop-work.yielded_by) turn.0 turn.1
-    c.loop-work.invariant.told c.in-Err.ensures.err
+    on_err _ (line_front c.args.works.items c.loop-work.yielded c.in-Some.work _ _ _ (YieldsList-so_far road c.loop-work.yielded c.loop-work.work-iterator c.loop-work.yielded_by) turn.0 turn.1
+    c.loop-work.invariant.told c.in_err-write_work.ensures.err)
 
 pub returns-clause-ok : goal.returns-clause-ok
 returns-clause-ok g c =

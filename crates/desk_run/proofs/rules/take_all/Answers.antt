@@ -1,4 +1,5 @@
 use Rattle.std.proofs.Common.{rules, Some, ap, sym, ◌∙◌}
+use Rattle.std.proofs.lemmas.Result.{err_from_is_err_and}
 use Rattle.desk_folders.specs.Contents.{file_at}
 use Rattle.desk_run.specs.RuleFolders.{Takes}
 use Rattle.desk_run.proofs.Parts.{at_some, there_listed}
@@ -13,10 +14,12 @@ take_file-requires-clause-there g c =
 pub take_file-requires-clause-absent : goal.take_file-requires-clause-absent
 take_file-requires-clause-absent g c = name_free c.loop-path.taken.files c.args.paths.now c.loop-path.path-index c.path-item.result c.loop-path-test.true c.path-item.is c.loop-path.invariant.free
 
-pub returns-in-Err-clause-err : goal.returns-in-Err-clause-err
-returns-in-Err-clause-err g c =
-    halts_taking c.args.root.now c.args.paths.now c.loop-path.path-index c.path-item.result _ _ _ _ _ c.in-Err.halt c.loop-path.invariant.counts c.loop-path.invariant.told c.loop-path-test.true c.path-item.is
-    c.loop-path.invariant.small c.in-Err.ensures.err
+pub returns-in_err-take_file-clause-err : goal.returns-in_err-take_file-clause-err
+returns-in_err-take_file-clause-err g c =
+    let p = err_from_is_err_and c.from_residual.result c.from_residual.ensures.1 in
+    rw (p.1, p.2)
+    (halts_taking c.args.root.now c.args.paths.now c.loop-path.path-index c.path-item.result _ _ _ _ _ c.in_err-take_file.field-0.0 c.loop-path.invariant.counts c.loop-path.invariant.told c.loop-path-test.true c.path-item.is
+    c.loop-path.invariant.small c.in_err-take_file.ensures.err)
 
 pub loop-path-init : goal.loop-path-init
 loop-path-init g c = record {
@@ -30,12 +33,12 @@ loop-path-init g c = record {
 
 pub loop-path-preserved : goal.loop-path-preserved
 loop-path-preserved g c =
-    let takes = c.in_default.ensures.takes in
+    let takes = c.in_ok-take_file.ensures.takes in
     record {
       told = search rules;
       counts = search rules;
       free = free_more c.loop-path.taken.files _ c.args.paths.now c.loop-path.path-index c.path-item.result c.loop-path-test.true c.path-item.is (sorted_apart c.args.paths.now c.requires.rising)
-          c.in_default.ensures.others c.loop-path.invariant.free;
+          c.in_ok-take_file.ensures.others c.loop-path.invariant.free;
       files = λ m e. files_more c.args.root.now m c.args.paths.now c.loop-path.path-index c.path-item.result c.loop-path.taken _ _ c.loop-path-test.true c.path-item.is
           (at_some (λ m. Takes (file_at c.args.root.now m c.path-item.result) c.loop-path.taken _) (g.F.Folders.told c.loop-path.folders) m (c.loop-path.invariant.told ∙ e) takes) (c.loop-path.invariant.files m e);
       digest = λ m e. digest_more c.args.root.now m c.args.paths.now c.loop-path.path-index c.path-item.result c.loop-path.taken _ c.loop-path-test.true c.path-item.is

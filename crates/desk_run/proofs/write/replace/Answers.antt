@@ -3,4 +3,4 @@ use Rattle.desk_run.proofs.write.replace.Goals as goal
 
 pub returns-clause-ledger : goal.returns-clause-ledger
 returns-clause-ledger g c =
-    put_after_forget c.args.found c.args.row.now _ _ _ c.in_ok-forget_found.ensures.ok c.in_ok-put.ensures.ok
+    put_after_forget c.args.found c.args.row _ _ _ c.in_ok-forget_found.ensures.ok c.in_ok-put.ensures.ok

@@ -1,5 +1,5 @@
 use Rattle.std.proofs.Common.{ap, ◌∙◌}
-use Rattle.desk_format.specs.Servlet.{uses_in}
+use Rattle.desk_format.specs.Classes.{uses_in}
 use Rattle.desk_class.specs.Parts.{pool_in}
 use Rattle.desk_class.specs.Held.{Holds}
 use Rattle.desk_class.proofs.Sets.{on_names, names_held}

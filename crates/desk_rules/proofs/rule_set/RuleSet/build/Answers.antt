@@ -1,4 +1,3 @@
-use Rattle.std.proofs.Common.{◌≡◌, ◌∙◌, ap, sym}
 use Rattle.std.proofs.lemmas.Result.{err_from_is_err_and}
 use Rattle.desk_rules.specs.RuleSets.{rules_of}
 use Rattle.desk_rules.specs.RuleFiles.{rules_of_files, settled}

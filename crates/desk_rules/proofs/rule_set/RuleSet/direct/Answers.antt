@@ -1,4 +1,4 @@
-use Rattle.std.proofs.Common.{◌≡◌, ◌∙◌, ap, sym, Option, Some, None, List, ℕ, rules}
+use Rattle.std.proofs.Common.{◌∙◌, ap, sym, Some, None, List, ℕ}
 use Rattle.std.specs.FinMap as finite
 use Rattle.std.specs.List.{find}
 use Rattle.std.specs.Str.{bytes_eq}

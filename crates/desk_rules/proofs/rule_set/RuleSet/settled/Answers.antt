@@ -1,5 +1,5 @@
-use Rattle.std.proofs.Common.{◌≡◌, ◌∙◌, ap, sym, List, ℕ, Some}
-use Rattle.desk_rules.specs.Renames.{Renaming}
+use Rattle.std.proofs.Common.{◌∙◌, ap, sym, List, ℕ, Some}
+use Rattle.desk_packages.specs.Renames.{Renaming}
 use Rattle.desk_rules.specs.Settled.{Exchange, BundleUpdate, first_chain_in, chain_at}
 use Rattle.desk_rules.specs.RuleSets.{rules_of}
 use Rattle.desk_rules.specs.RuleFiles.{unless_chain}

@@ -1,0 +1,6 @@
+-- What the desk takes no more of.
+use Rattle.std.specs.Prelude.{ℕ}
+
+-- how many bytes a file may have
+abbrev pub file_size : ℕ
+file_size = 67108864

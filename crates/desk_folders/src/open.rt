@@ -1,0 +1,185 @@
+//! Files that are open.
+
+ghost use Rattle.std.specs.Prelude.{◌≡◌, ◌≢◌, ◌+◌, ◌-◌, ◌<◌, ◌≤◌, ◌↔◌, ◌^◌, length, min, IfErr, IfOk, IsTrue, OnOk};
+ghost use Rattle.std.specs.IoError.{error_kind};
+ghost use Rattle.std.specs.Str.{IsUtf8};
+
+use crate::FolderFault;
+use desk_base::Text;
+use std::alloc::Global;
+use std::fs::{self, File, OpenOptions};
+use std::io::{self, ErrorKind, Read, Seek, SeekFrom, Write};
+use std::path::Path;
+use std::str;
+
+/// The file that is open between two calls.
+#[derive(Drop)]
+pub(crate) enum Open {
+    Nothing,
+    Reading(Reading),
+    Writing(Writing),
+}
+
+/// A file that is open to be read: its path, how many bytes it had when it was opened, and the byte that is
+/// read next.
+#[derive(Drop)]
+pub(crate) struct Reading {
+    path: Text,
+    file: File,
+    len: u64,
+    at: u64,
+}
+
+/// A file that is open to be written at its end.
+#[derive(Drop)]
+pub(crate) struct Writing {
+    path: Text,
+    file: File,
+}
+
+/// What an error of the system means: want of memory is told apart from all others.
+pub(crate) fn fault_of(error: io::Error) -> FolderFault
+    ensures memory { error_kind error ≡ ErrorKind.OutOfMemory → result ≡ FolderFault.Memory }
+    ensures failed { error_kind error ≢ ErrorKind.OutOfMemory → result ≡ FolderFault.Failed }
+{
+    if error.kind() == ErrorKind::OutOfMemory {
+        FolderFault::Memory
+    } else {
+        FolderFault::Failed
+    }
+}
+
+/// A path as the system takes it, which is UTF-8.
+pub(crate) fn text_of(path: &Text) -> Result<&str, FolderFault>
+    ensures text { IfOk result (λ text. text.now ≡ path.now) }
+    ensures refused { IfErr result (λ fault. (fault ≡ FolderFault.Failed) × ¬ (IsUtf8 path.now)) }
+{
+    match str::from_utf8(path.as_bytes()) {
+        Ok(text) => Ok(text),
+        Err(_) => Err(FolderFault::Failed),
+    }
+}
+
+/// How many bytes a part of a file takes: those that the file has from a byte on, and at most `want`.
+fn part_size(len: u64, at: u64, want: u32) -> usize
+    ensures { result ≡ min (len - at) want }
+{
+    len.saturating_sub(at).min(want as u64) as usize
+}
+
+/// Reads so many bytes of a file, or those that are left where it got shorter.
+fn read_bytes(alloc: Global, file: &mut File, size: usize) -> Result<Text, FolderFault>
+    requires { size < 2 ^ 32 }
+    ensures { IfOk result (λ part. length part ≤ size) }
+{
+    let mut bytes = vec![in alloc; 0; size]?;
+    let mut filled = 0;
+    for _ in 0..size {
+        let taken = file.read(&mut bytes[filled..]).map_err(fault_of)?;
+        if taken == 0 {
+            break;
+        }
+        filled += taken;
+    }
+    bytes.truncate(filled);
+    Ok(Text::from(bytes))
+}
+
+/// Opens a file, and answers how many bytes it has.
+fn open_at(rt: &HostRuntime, path: &str, at: u64) -> io::Result<(File, u64)> {
+    let mut file = File::open(rt, path)?;
+    let len = file.metadata()?.len();
+    file.seek(SeekFrom::Start(at))?;
+    Ok((file, len))
+}
+
+impl Reading {
+    /// Opens the file at a path, to be read from a byte on.
+    pub(crate) fn open(rt: &HostRuntime, path: &Text, at: u64) -> Result<Reading, FolderFault>
+        ensures path { IfOk result (λ file. file.path ≡ path.now) }
+        ensures at { IfOk result (λ file. file.at ≡ at) }
+    {
+        let (file, len) = open_at(rt, text_of(path)?, at).map_err(fault_of)?;
+        let path = path.clone()?;
+        Ok(Reading {
+            path,
+            file,
+            len,
+            at,
+        })
+    }
+
+    /// Whether this is the file at a path, and this byte is read next.
+    pub(crate) fn stands_at(&self, path: &Text, at: u64) -> bool
+        ensures { IsTrue result ↔ ((self.now.path ≡ path.now) × (self.now.at ≡ at)) }
+    {
+        self.at == at && self.path == *path
+    }
+
+    /// The next part: as many bytes as the file has and are wanted, or fewer where it got shorter.
+    pub(crate) fn read(&mut self, alloc: Global, want: u32) -> Result<Text, FolderFault>
+        ensures few { IfOk result (λ part. length part ≤ min (self.old.len - self.old.at) want) }
+        ensures next { IfOk result (λ part. self.new.at ≡ self.old.at + length part) }
+        ensures path { self.new.path ≡ self.old.path }
+    {
+        let size = part_size(self.len, self.at, want);
+        let part = read_bytes(alloc, &mut self.file, size)?;
+        self.at += part.as_bytes().len() as u64;
+        Ok(part)
+    }
+}
+
+/// Makes the folders on the way to a path.
+fn make_parents(rt: &HostRuntime, path: &str) -> io::Result<()> {
+    match Path::new(path).parent() {
+        Some(parent) => fs::create_dir_all(rt, parent),
+        None => Ok(()),
+    }
+}
+
+/// Makes a file that wasn't there. Where something is, or a folder on the way isn't, the first try fails.
+fn create_anew(rt: &HostRuntime, path: &str) -> io::Result<File> {
+    match File::create_new(rt, path) {
+        Err(error) if error.kind() == ErrorKind::AlreadyExists => fs::remove_file(rt, path)?,
+        Err(error) if error.kind() == ErrorKind::NotFound => make_parents(rt, path)?,
+        made => return made,
+    }
+    File::create_new(rt, path)
+}
+
+impl Writing {
+    /// Opens the file at a path, to be written at its end.
+    pub(crate) fn open(rt: &HostRuntime, path: &Text) -> Result<Writing, FolderFault>
+        ensures { IfOk result (λ file. file.path ≡ path.now) }
+    {
+        let file = OpenOptions::new()
+            .append(true)
+            .open(rt, text_of(path)?)
+            .map_err(fault_of)?;
+        let path = path.clone()?;
+        Ok(Writing { path, file })
+    }
+
+    /// Makes the file at a path anew, in place of what stands there, and the folders on the way.
+    pub(crate) fn create(rt: &HostRuntime, path: &Text) -> Result<Writing, FolderFault>
+        ensures { IfOk result (λ file. file.path ≡ path.now) }
+    {
+        let file = create_anew(rt, text_of(path)?).map_err(fault_of)?;
+        let path = path.clone()?;
+        Ok(Writing { path, file })
+    }
+
+    /// Whether this is the file at a path.
+    pub(crate) fn is_of(&self, path: &Text) -> bool
+        ensures { IsTrue result ↔ (self.now.path ≡ path.now) }
+    {
+        self.path == *path
+    }
+
+    /// Writes bytes behind those that were written.
+    pub(crate) fn write(&mut self, bytes: &[u8]) -> Result<(), FolderFault>
+        ensures { self.new.path ≡ self.old.path }
+    {
+        self.file.write_all(bytes).map_err(fault_of)
+    }
+}

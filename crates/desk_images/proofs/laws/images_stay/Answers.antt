@@ -1,5 +1,0 @@
-use Rattle.desk_images.proofs.Forms.{images_settled}
-use Rattle.desk_images.proofs.laws.images_stay.Goals as goal
-
-pub returns : goal.returns
-returns c = images_settled

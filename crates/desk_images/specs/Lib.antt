@@ -1,2 +1,0 @@
-pub mod RuleImages
-pub mod Laws

@@ -1,0 +1,99 @@
+//! What a ledger holds.
+
+ghost use Rattle.std.specs.Prelude.{◌≡◌, IfOk, OnOk, OnErr, None, option_map};
+ghost use Rattle.std.specs.FinMap as fin;
+ghost use Rattle.desk_ledger.specs.Ledger.{row_at, with_header, with_row, without_row};
+
+use crate::{Header, Held, Row};
+use desk_base::{Memory, Text};
+use std::alloc::Global;
+use std::collections::BTreeMap;
+use std::marker::Model;
+
+/// What a ledger holds: a header, if there is one, and rows by their targets. Contracts see the ledger.
+#[derive(Drop)]
+pub struct Contents {
+    header: Option<Header>,
+    rows: BTreeMap<Text, Held>,
+}
+
+impl Model for Contents {
+    ghost use Rattle.std.specs.FinMap as map;
+    ghost use Rattle.desk_ledger.specs.Ledger.{Ledger};
+    ghost use Rattle.desk_ledger.specs.InMemory.{ledger_code};
+
+    ghost Value = { Ledger };
+
+    ghost coded = { ledger_code };
+
+    ghost view = { λ c. record { header = c.header; rows = map.from_entries c.rows.entries } };
+}
+
+/// The row of a target, from copies of what it holds.
+fn row_of(target: &Text, held: &Held) -> Result<Row, Memory>
+    ensures { IfOk result (λ row. row ≡ row_at target.now held.now) }
+{
+    Ok(Row {
+        target: target.clone()?,
+        source: held.source.clone()?,
+        digest: held.digest,
+    })
+}
+
+impl Contents {
+    /// No header, and no rows. It takes no memory.
+    pub fn new(alloc: Global) -> Contents
+        ensures { result ≡ record { header = None; rows = fin.empty } }
+    {
+        Contents {
+            header: None,
+            rows: BTreeMap::new(alloc),
+        }
+    }
+
+    /// A copy of the header, if there is one. The only error is want of memory.
+    pub fn header(&self) -> Result<Option<Header>, Memory>
+        ensures { IfOk result (λ header. header ≡ self.now.header) }
+    {
+        Ok(self.header.clone()?)
+    }
+
+    /// Makes this the header. It takes no memory.
+    pub fn set_header(&mut self, header: Header)
+        ensures { self.new ≡ with_header header self.old }
+    {
+        self.header = Some(header);
+    }
+
+    /// A copy of the row of a target, if there is one. The only error is want of memory.
+    pub fn find(&self, target: &Text) -> Result<Option<Row>, Memory>
+        ensures { IfOk result (λ row. row ≡ option_map (row_at target.now) (fin.get self.now.rows target.now)) }
+    {
+        match self.rows.get(target) {
+            Some(held) => Ok(Some(row_of(target, held)?)),
+            None => Ok(None),
+        }
+    }
+
+    /// Takes a row in place of its target's, and answers what its target held before. After want of memory,
+    /// the only error, the contents are as they were.
+    pub fn put(&mut self, row: Row) -> Result<Option<Held>, Memory>
+        ensures earlier { IfOk result (λ held. held ≡ fin.get self.old.rows row.target) }
+        ensures ok { OnOk result (self.new ≡ with_row row self.old) }
+        ensures err { OnErr result (self.new ≡ self.old) }
+    {
+        let Row {
+            target,
+            source,
+            digest,
+        } = row;
+        Ok(self.rows.insert(target, Held { source, digest })?)
+    }
+
+    /// Removes the row of a target, if there is one. It takes no memory.
+    pub fn forget(&mut self, target: &Text)
+        ensures { self.new ≡ without_row target.now self.old }
+    {
+        let _ = self.rows.remove(target);
+    }
+}

@@ -1,0 +1,4 @@
+pub mod LineLaws
+pub mod FirstEnds
+pub mod Cuts
+pub mod Trimming

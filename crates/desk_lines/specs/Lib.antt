@@ -1,0 +1,5 @@
+pub mod Cuts
+pub mod Blanks
+pub mod Lines
+pub mod FirstEnd
+pub mod Laws

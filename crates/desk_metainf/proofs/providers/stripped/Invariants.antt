@@ -1,9 +1,0 @@
-use Rattle.std.proofs.Common.{◌≡◌, ◌≤◌, length, take}
-use Rattle.desk_metainf.specs.Cuts.{stripped}
-use Rattle.desk_metainf.proofs.providers.stripped.Given as goal
-
-abbrev pub invariant-loop-end : goal.invariant-loop-end
-invariant-loop-end l = record { within : l.end ≤ length l.text; so_far : stripped (take l.end l.text) ≡ stripped l.text }
-
-abbrev pub decreases-loop-end : goal.decreases-loop-end
-decreases-loop-end l = l.end

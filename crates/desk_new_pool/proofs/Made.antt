@@ -1,0 +1,111 @@
+-- The texts of a new pool as the code makes them.
+use Rattle.std.proofs.Common.{◌≡◌, ℕ, suc, ◌+◌, ◌<◌, ◌≤◌, Bool, true, false, cond, List, [], ◌∷◌, ◌++◌, map, length, get_or, drop, Option, Some, None, refl, ap, sym, ◌∙◌, bytes_eq, All, ltb, arith}
+use denote.Ref.{Bor}
+use Rattle.std.specs.Option.{is_some, option_copied}
+use Rattle.std.specs.Ordering.{nat_cmp, is_lt}
+use Rattle.std.specs.Cmp.Lexicographic.{slice_cmp}
+use Rattle.std.specs.BTreeMap.{BTreeMap}
+use Rattle.std.proofs.lemmas.List.{append-nil, drop_at, get_or_append_left}
+use Rattle.std.proofs.lemmas.List.Elements.{All-head, All-tail}
+use Rattle.desk_base.specs.Names.{Text}
+use Rattle.desk_base.specs.Misfits.{or_else}
+use Rattle.std.proofs.lemmas.Bool.{le-ltb}
+use Rattle.desk_format.specs.Split.{add}
+use Rattle.desk_format.specs.NewClass.{Refusal, full_at}
+use Rattle.desk_new_pool.specs.Places.{is_slice, least, place_in, unless_kept, not_kept, with_missing, missing_among, index_by}
+use Rattle.desk_new_pool.specs.NewTexts.{Adds, new_index, Splits}
+use Rattle.desk_new_pool.specs.declared.wants.WantedText.{WantedText}
+use Rattle.desk_new_pool.specs.declared.new_texts.NewTexts.{NewTexts}
+
+pub map_same : {A B : Type 0} (f g : A → B) (xs : List A) → All (λ x. f x ≡ g x) xs → map f xs ≡ map g xs
+map_same f g [] h = refl
+map_same f g (x ∷ xs) h =
+    let here : f x ≡ g x = All-head (λ y. f y ≡ g y) x xs h in
+    ap (λ y. y ∷ map f xs) here ∙ ap (λ ys. g x ∷ ys) (map_same f g xs (All-tail (λ y. f y ≡ g y) x xs h))
+
+-- ---- where each entry keeps the images
+
+none_missing : (texts : List (Option (Bor Text))) (ws : List WantedText) → All (λ (w : WantedText). not_kept texts w ≡ None) ws → missing_among texts ws ≡ []
+none_missing texts [] h = refl
+none_missing texts (w ∷ ws) h =
+    let here : not_kept texts w ≡ None = All-head (λ (v : WantedText). not_kept texts v ≡ None) w ws h in
+    ap (λ (o : Option Text). with_missing texts o (missing_among texts ws)) here ∙ none_missing texts ws (All-tail (λ (v : WantedText). not_kept texts v ≡ None) w ws h)
+
+pub all_kept : (texts : List (Option (Bor Text))) (ws : List WantedText) (new : NewTexts) → All (λ (w : WantedText). not_kept texts w ≡ None) ws → new.texts.items ≡ texts → new.indices.items ≡ map (λ (w : WantedText). w.used.index) ws → Splits texts ws new
+all_kept texts ws new h is e = record {
+  adds = record { added = []; whole = is ∙ sym (append-nil texts); same = sym (none_missing texts ws h) };
+  indices = e ∙ map_same (λ (w : WantedText). w.used.index) (new_index texts new.texts.items) ws (λ k d lt. sym (ap (index_by (least 0 new.texts.items) (get_or ws k d).used.index) (h k d lt)));
+}
+
+pub none_full : (texts : List (Option (Bor Text))) (ws : List WantedText) → length texts ≤ 65535 → All (λ (w : WantedText). not_kept texts w ≡ None) ws → full_at (length texts) (length (missing_among texts ws)) ≡ None
+none_full texts ws le h =
+    let fits : ltb 65535 (length texts + 0) ≡ false = le-ltb 65535 (length texts + 0) (omega arith) in
+    ap (λ (ms : List Text). full_at (length texts) (length ms)) (none_missing texts ws h) ∙ ap (λ (b : Bool). cond b (Some (Refusal.pool_full (length texts) 0)) None) fits
+
+-- ---- where some are missing
+
+few_by : (same less : Bool) (t s : Text) (ss : List Text) → length (add t ss) ≤ suc (length ss) → length (cond same (s ∷ ss) (cond less (t ∷ (s ∷ ss)) (s ∷ add t ss))) ≤ suc (suc (length ss))
+few_by true less t s ss h = omega arith
+few_by false true t s ss h = omega arith
+few_by false false t s ss h = omega arith
+
+add_few : (t : Text) (ss : List Text) → length (add t ss) ≤ suc (length ss)
+add_few t [] = omega arith
+add_few t (s ∷ ss) = few_by (bytes_eq s t) (is_lt (slice_cmp nat_cmp t s)) t s ss (add_few t ss)
+
+few_with : (texts : List (Option (Bor Text))) (t : Text) (ms : List Text) (b : Bool) → length (cond b ms (add t ms)) ≤ suc (length ms)
+few_with texts t ms true = omega arith
+few_with texts t ms false = add_few t ms
+
+few_missing : (texts : List (Option (Bor Text))) (o : Option Text) (ms : List Text) → length (with_missing texts o ms) ≤ suc (length ms)
+few_missing texts None ms = omega arith
+few_missing texts (Some t) ms = few_with texts t ms (is_some (least 0 texts t))
+
+pub missing_few : (texts : List (Option (Bor Text))) (ws : List WantedText) → length (missing_among texts ws) ≤ length ws
+missing_few texts [] = omega arith
+missing_few texts (w ∷ ws) =
+    let a : length (with_missing texts (not_kept texts w) (missing_among texts ws)) ≤ suc (length (missing_among texts ws)) = few_missing texts (not_kept texts w) (missing_among texts ws) in
+    let b : length (missing_among texts ws) ≤ length ws = missing_few texts ws in
+    omega arith
+
+least_append_by : (b : Bool) (i : ℕ) (x y z : Option ℕ) → z ≡ or_else x y → cond b (Some i) z ≡ or_else (cond b (Some i) x) y
+least_append_by true i x y z h = refl
+least_append_by false i x y z h = h
+
+least-append : (i : ℕ) (a b : List (Option (Bor Text))) (t : Text) → least i (a ++ b) t ≡ or_else (least i a t) (least (i + length a) b t)
+least-append i [] b t = ap (λ (n : ℕ). least n b t) (omega arith)
+least-append i (x ∷ a) b t =
+    let next : suc i + length a ≡ i + suc (length a) = omega arith in
+    least_append_by (is_slice t x) i (least (suc i) a t) (least (i + suc (length a)) b t) (least (suc i) (a ++ b) t)
+    (least-append (suc i) a b t ∙ ap (λ (n : ℕ). or_else (least (suc i) a t) (least n b t)) next)
+
+index_same : (f g : Text → Option ℕ) (i : ℕ) (o : Option Text) → ((t : Text) → f t ≡ g t) → index_by f i o ≡ index_by g i o
+index_same f g i None h = refl
+index_same f g i (Some t) h = ap (λ (p : Option ℕ). index_by (λ u. p) i (Some t)) (h t)
+
+not_kept-append : (a b : List (Option (Bor Text))) (w : WantedText) → w.used.index < length a → not_kept (a ++ b) w ≡ not_kept a w
+not_kept-append a b w lt = ap (λ (x : Option (Bor Text)). unless_kept (option_copied x) (option_copied w.image)) (get_or_append_left a b None w.used.index lt)
+
+found_in : (old all more : List (Option (Bor Text))) (kept added : Text → Option ℕ) → all ≡ old ++ more → ((t : Text) → kept t ≡ least 0 old t) → ((t : Text) → added t ≡ least (length old) (drop (length old) all) t) → (t : Text) → or_else (kept t) (added t) ≡ least 0 all t
+found_in old all more kept added whole k a t =
+    let rest : drop (length old) all ≡ more = ap (drop (length old)) whole ∙ drop_at old more (length old) refl in
+    ap (λ (x : Option ℕ). or_else x (added t)) (k t)
+    ∙ ap (λ (x : Option ℕ). or_else (least 0 old t) x) (a t ∙ ap (λ (l : List (Option (Bor Text))). least (length old) l t) rest)
+    ∙ ap (λ (n : ℕ). or_else (least 0 old t) (least n more t)) (from_zero (length old))
+    ∙ sym (least-append 0 old more t) ∙ ap (λ (l : List (Option (Bor Text))). least 0 l t) (sym whole) where
+      from_zero : (n : ℕ) → n ≡ 0 + n
+      from_zero n = omega arith
+
+pub some_missing : (old all : List (Option (Bor Text))) (ws : List WantedText) (new : NewTexts) (kept added : BTreeMap (Bor Text) ℕ) (ms : List Text) → All (λ (w : WantedText). w.used.index < length old) ws
+    → ms ≡ missing_among old ws → Adds old ms all → ((t : Text) → place_in kept t ≡ least 0 old t) → ((t : Text) → place_in added t ≡ least (length old) (drop (length old) all) t)
+    → new.texts.items ≡ all → new.indices.items ≡ map (λ (w : WantedText). index_by (λ t. or_else (place_in kept t) (place_in added t)) w.used.index (not_kept all w)) ws → Splits old ws new
+some_missing old all ws new kept added ms small is adds k a texts e =
+    let found : (t : Text) → or_else (place_in kept t) (place_in added t) ≡ least 0 all t = found_in old all (map Some adds.added) (place_in kept) (place_in added) adds.whole k a in
+    let each : All (λ (w : WantedText). index_by (λ t. or_else (place_in kept t) (place_in added t)) w.used.index (not_kept all w) ≡ new_index old all w) ws =
+    λ i d lt. let w : WantedText = get_or ws i d in
+    ap (index_by (λ t. or_else (place_in kept t) (place_in added t)) w.used.index) (ap (λ (l : List (Option (Bor Text))). not_kept l w) adds.whole ∙ not_kept-append old (map Some adds.added) w (small i d lt))
+    ∙ index_same (λ t. or_else (place_in kept t) (place_in added t)) (least 0 all) w.used.index (not_kept old w) found in
+    record {
+      adds = record { added = adds.added; whole = texts ∙ adds.whole; same = adds.same ∙ is };
+      indices = e ∙ map_same (λ (w : WantedText). index_by (λ t. or_else (place_in kept t) (place_in added t)) w.used.index (not_kept all w)) (new_index old all) ws each ∙ ap (λ (l : List (Option (Bor Text))). map (new_index old l) ws) (sym texts);
+    }

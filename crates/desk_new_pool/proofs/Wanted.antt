@@ -1,0 +1,131 @@
+-- What is known of an entry's text, use by use.
+use Rattle.std.proofs.Common.{◌≡◌, ℕ, suc, ◌+◌, ◌<◌, ◌≢◌, Bool, true, false, cond, ◌||◌, List, [], ◌∷◌, ◌++◌, length, get_or, take, Option, Some, None, option_map, refl, ap, sym, ◌∙◌, subst, bytes_eq, nat_eq, set, zero, All, get_or-set_same, get_or-set_other, arith}
+use denote.Ref.{Bor}
+use Rattle.std.proofs.lemmas.Slice.Eq.{bytes_eq-Decides}
+use Rattle.desk_base.specs.Names.{Text}
+use Rattle.desk_base.specs.Entries.{Entry, utf8, Pool, utf8_at, utf8_in, text_at}
+use Rattle.desk_format.specs.Split.{Want, wanted, holds, keep, kept, kept_entry}
+use Rattle.desk_laws.proofs.Slots.{kept-at}
+use Rattle.desk_new_pool.specs.Keeps.{Keeps}
+use Rattle.desk_new_pool.specs.Wants.{image_or, Differs, IsWanted, want_of, wants_of}
+use Rattle.desk_new_pool.specs.declared.wants.WantedText.{WantedText}
+use Rattle.std.proofs.lemmas.List.{map_more}
+use Rattle.std.proofs.lemmas.Bool.{eqb-true, eqb-false}
+use Rattle.desk_new_pool.specs.declared.keeps.Keep.{Keep}
+use Rattle.desk_new_pool.specs.declared.keeps.Keep.TheVariants as keeps
+
+-- ---- one more use
+
+or_assoc : (a b c : Bool) → ((a || b) || c) ≡ (a || (b || c))
+or_assoc true b c = refl
+or_assoc false b c = refl
+
+or_true : (a : Bool) → (a || true) ≡ true
+or_true true = refl
+or_true false = refl
+
+or_end : (b : Bool) → (b || false) ≡ b
+or_end true = refl
+or_end false = refl
+
+or_false : (a b : Bool) → a ≡ false → b ≡ false → (a || b) ≡ false
+or_false true b p q = absurd cc
+or_false false b p q = q
+
+holds-push : (ts : List Text) (t own : Text) → holds (ts ++ t ∷ []) own ≡ (holds ts own || bytes_eq t own)
+holds-push [] t own = or_end (bytes_eq t own)
+holds-push (s ∷ ss) t own = ap (λ (b : Bool). bytes_eq s own || b) (holds-push ss t own) ∙ sym (or_assoc (bytes_eq s own) (holds ss own) (bytes_eq t own))
+
+itself : (t : Text) → bytes_eq t t ≡ true
+itself t = (bytes_eq-Decides t t).1 refl
+
+other_by : (b : Bool) (t own : Text) → bytes_eq t own ≡ b → t ≢ own → b ≡ false
+other_by true t own e ne = absurd (ne ((bytes_eq-Decides t own).0 e))
+other_by false t own e ne = refl
+
+pub other : (t own : Text) → t ≢ own → bytes_eq t own ≡ false
+other t own ne = other_by (bytes_eq t own) t own refl ne
+
+-- a use that wants the entry's own text
+pub own_wanted : (ts : List Text) (own : Text) → holds (ts ++ own ∷ []) own ≡ true
+own_wanted ts own = holds-push ts own own ∙ ap (λ (b : Bool). holds ts own || b) (itself own) ∙ or_true (holds ts own)
+
+-- an own text that was wanted before
+pub own_stays : (ts : List Text) (t own : Text) → holds ts own ≡ true → holds (ts ++ t ∷ []) own ≡ true
+own_stays ts t own h = holds-push ts t own ∙ ap (λ (b : Bool). b || bytes_eq t own) h
+
+-- the first use, which wants another text
+pub first_image : (ts : List Text) (own : Text) (t : Bor Text) → ts ≡ [] → t.now ≢ own → Keeps own (ts ++ t.now ∷ []) (keeps.Image t)
+first_image ts own t none ne = rw none (or_false (bytes_eq t.now own) false (other t.now own ne) refl, ([], refl))
+
+-- a later use, which wants another text too
+pub image_stays : (ts : List Text) (own t : Text) (s : Bor Text) → Keeps own ts (keeps.Image s) → t ≢ own → Keeps own (ts ++ t ∷ []) (keeps.Image s)
+image_stays ts own t s h ne =
+    (holds-push ts t own ∙ or_false (holds ts own) (bytes_eq t own) h.0 (other t own ne), (h.1.0 ++ t ∷ [], ap (λ (us : List Text). us ++ t ∷ []) h.1.1))
+
+-- ---- all uses
+
+wanted_by : (b : Bool) (x : Text) (xs ys : List Text) (c : Bool) (t : Text) → xs ≡ cond c (ys ++ t ∷ []) ys → cond b (x ∷ xs) xs ≡ cond c (cond b (x ∷ ys) ys ++ t ∷ []) (cond b (x ∷ ys) ys)
+wanted_by true x xs ys true t h = ap (λ (zs : List Text). x ∷ zs) h
+wanted_by true x xs ys false t h = ap (λ (zs : List Text). x ∷ zs) h
+wanted_by false x xs ys c t h = h
+
+pub wanted-push : (i : ℕ) (ws : List Want) (w : Want) → wanted i (ws ++ w ∷ []) ≡ cond (nat_eq w.index i) (wanted i ws ++ w.text ∷ []) (wanted i ws)
+wanted-push i [] w = refl
+wanted-push i (v ∷ vs) w = wanted_by (nat_eq v.index i) v.text (wanted i (vs ++ w ∷ [])) (wanted i vs) (nat_eq w.index i) w.text (wanted-push i vs w)
+
+-- ---- what is kept
+
+kept_text : (ws : List Want) (i : ℕ) (o : Option Entry) → utf8_in (option_map (kept_entry ws i) o) ≡ option_map (λ own. keep own (wanted i ws)) (utf8_in o)
+kept_text ws i None = refl
+kept_text ws i (Some (utf8 t)) = refl
+kept_text ws i (Some _) = refl
+
+text_at_slot : (ws : List Want) (pool : Pool) (i : ℕ) → utf8_at (kept ws 1 pool) (suc i) ≡ option_map (λ own. keep own (wanted (suc i) ws)) (utf8_at pool (suc i))
+text_at_slot ws pool i = ap utf8_in (kept-at ws 1 pool i) ∙ ap (λ (n : ℕ). utf8_in (option_map (kept_entry ws n) (get_or pool i None))) (one_more i) ∙ kept_text ws (suc i) (get_or pool i None) where
+  one_more : (n : ℕ) → 1 + n ≡ suc n
+  one_more n = omega arith
+
+pub kept_text_at : (ws : List Want) (pool : Pool) (i : ℕ) → utf8_at (kept ws 1 pool) i ≡ option_map (λ own. keep own (wanted i ws)) (utf8_at pool i)
+kept_text_at ws pool zero = refl
+kept_text_at ws pool (suc i) = text_at_slot ws pool i
+
+-- ---- the steps of the code
+
+pub after_none : (own : Text) (ts : List Text) (image : Option (Bor Text)) → image ≡ None → holds (ts ++ image_or own image ∷ []) own ≡ true
+after_none own ts image e = rw e (own_wanted ts own)
+
+pub after_unused : (own : Text) (ts : List Text) (image : Option (Bor Text)) (t : Bor Text) (k : Keep) → image ≡ Some t → k ≡ keeps.Unused → Differs own image → Keeps own ts k → Keeps own (ts ++ image_or own image ∷ []) (keeps.Image t)
+after_unused own ts image t k e is d h = rw e (first_image ts own t (rw is at h) (rw e at d))
+
+pub after_own : (own : Text) (ts : List Text) (image : Option (Bor Text)) (k : Keep) → k ≡ keeps.Own → Keeps own ts k → holds (ts ++ image_or own image ∷ []) own ≡ true
+after_own own ts image k is h = own_stays ts (image_or own image) own (rw is at h)
+
+pub after_image : (own : Text) (ts : List Text) (image : Option (Bor Text)) (t s : Bor Text) (k : Keep) → image ≡ Some t → k ≡ keeps.Image s → Differs own image → Keeps own ts k → Keeps own (ts ++ image_or own image ∷ []) k
+after_image own ts image t s k e is d h = rw (e, is) (image_stays ts own t.now s (rw is at h) (rw e at d))
+
+step_at : (pool : Pool) (w : WantedText) (ts : List Want) (xs : List Keep) (r : Keep) (i : ℕ) (b : Bool) → nat_eq w.used.index i ≡ b → w.used.index < length xs → Differs (text_at pool w.used.index) w.image
+    → ((own : Text) (us : List Text) → Differs own w.image → Keeps own us (get_or xs w.used.index keeps.Unused) → Keeps own (us ++ image_or own w.image ∷ []) r)
+    → Keeps (text_at pool i) (wanted i ts) (get_or xs i keeps.Unused)
+    → Keeps (text_at pool i) (cond b (wanted i ts ++ (want_of pool w).text ∷ []) (wanted i ts)) (get_or (set xs w.used.index r) i keeps.Unused)
+step_at pool w ts xs r i true e lt d f h =
+    let is : w.used.index ≡ i = eqb-true w.used.index i e in
+    let same : get_or (set xs w.used.index r) i keeps.Unused ≡ r = ap (λ (j : ℕ). get_or (set xs w.used.index r) j keeps.Unused) (sym is) ∙ get_or-set_same xs w.used.index r keeps.Unused lt in
+    let here : Keeps (text_at pool w.used.index) (wanted i ts) (get_or xs w.used.index keeps.Unused) = subst (λ (j : ℕ). Keeps (text_at pool j) (wanted i ts) (get_or xs j keeps.Unused)) (sym is) h in
+    let new : Keeps (text_at pool w.used.index) (wanted i ts ++ image_or (text_at pool w.used.index) w.image ∷ []) r = f (text_at pool w.used.index) (wanted i ts) d here in
+    let at_i : Keeps (text_at pool i) (wanted i ts ++ image_or (text_at pool w.used.index) w.image ∷ []) r = subst (λ (j : ℕ). Keeps (text_at pool j) (wanted i ts ++ image_or (text_at pool w.used.index) w.image ∷ []) r) is new in
+    subst (λ (k : Keep). Keeps (text_at pool i) (wanted i ts ++ image_or (text_at pool w.used.index) w.image ∷ []) k) (sym same) at_i
+step_at pool w ts xs r i false e lt d f h =
+    let ne : i ≢ w.used.index = λ is. eqb-false w.used.index i e (sym is) in
+    subst (λ (k : Keep). Keeps (text_at pool i) (wanted i ts) k) (sym (get_or-set_other xs w.used.index i r keeps.Unused ne)) h
+
+pub keeps_step : (pool : Pool) (ws : List WantedText) (k : ℕ) (d : WantedText) (xs : List Keep) (r : Keep) → k < length ws → (get_or ws k d).used.index < length xs → All (IsWanted pool) ws
+    → ((own : Text) (us : List Text) → Differs own (get_or ws k d).image → Keeps own us (get_or xs (get_or ws k d).used.index keeps.Unused) → Keeps own (us ++ image_or own (get_or ws k d).image ∷ []) r)
+    → (i : ℕ) → Keeps (text_at pool i) (wanted i (wants_of pool (take k ws))) (get_or xs i keeps.Unused)
+    → Keeps (text_at pool i) (wanted i (wants_of pool (take (k + 1) ws))) (get_or (set xs (get_or ws k d).used.index r) i keeps.Unused)
+keeps_step pool ws k d xs r lt small all f i h =
+    let w : WantedText = get_or ws k d in
+    let more : wants_of pool (take (k + 1) ws) ≡ wants_of pool (take k ws) ++ want_of pool w ∷ [] = map_more (want_of pool) ws k d lt in
+    let pushed : wanted i (wants_of pool (take (k + 1) ws)) ≡ cond (nat_eq w.used.index i) (wanted i (wants_of pool (take k ws)) ++ (want_of pool w).text ∷ []) (wanted i (wants_of pool (take k ws))) = ap (wanted i) more ∙ wanted-push i (wants_of pool (take k ws)) (want_of pool w) in
+    subst (λ (ts : List Text). Keeps (text_at pool i) ts (get_or (set xs w.used.index r) i keeps.Unused)) (sym pushed)
+    (step_at pool w (wants_of pool (take k ws)) xs r i (nat_eq w.used.index i) refl small (all k d lt).differs f h)

@@ -1,0 +1,7 @@
+pub mod Wants
+pub mod Keeps
+pub mod Places
+pub mod Refusals
+pub mod NewTexts
+pub mod Twins
+pub mod Printing

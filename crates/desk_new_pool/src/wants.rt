@@ -1,0 +1,12 @@
+//! What uses want.
+
+use desk_base::Used;
+
+/// A use of a text, and the image of that text.
+#[derive(Clone, Copy, Debug)]
+pub struct WantedText<'a> {
+    /// The use.
+    pub used: Used,
+    /// The image, and none where it is the text itself.
+    pub image: Option<&'a [u8]>,
+}

@@ -1,0 +1,12 @@
+pub mod Same
+pub mod Picks
+pub mod Cuts
+pub mod Bytes
+pub mod KeyLaws
+pub mod Searched
+pub mod Lookup
+pub mod Joined
+pub mod Sources
+pub mod Ranges
+pub mod Segments
+pub mod Changed

@@ -1,0 +1,12 @@
+use Rattle.std.proofs.Common.{◌≤◌, length}
+use Rattle.desk_packages.specs.Keys.{byte_of, IsNoneBeyond}
+use Rattle.desk_packages.proofs.picking.changing_below.Given as goal
+
+abbrev pub invariant-loop-end : goal.invariant-loop-end
+invariant-loop-end l = record {
+  within : l.end ≤ length l.path;
+  beyond : IsNoneBeyond l.renames (byte_of l.separator) l.path l.end;
+}
+
+abbrev pub decreases-loop-end : goal.decreases-loop-end
+decreases-loop-end l = l.end

@@ -1,0 +1,63 @@
+//! Renames of packages, and which of them is picked for a package.
+//!
+//! ```text
+//! // `renames` stand in byte order of their keys `javax.servlet.*` and `javax.servlet.old`
+//! let rename = pick(&renames, b"javax/servlet/http", Separator::Slash);
+//! assert!(rt; rename.is_some());
+//! ```
+#![tactic(auto)]
+
+mod fronts;
+mod keyed;
+mod picking;
+mod rename;
+
+pub use fronts::front_end;
+pub use keyed::{Keyed, rule_of, rules_under};
+pub use picking::{changing_for, pick};
+pub use rename::Rename;
+
+/// What stands between two segments of a package as it is written.
+#[derive(Clone, Copy, Debug, PartialEq, Eq)]
+pub enum Separator {
+    /// `.`, as in a source file (JLS 6.7).
+    Dot,
+    /// `/`, as in a class file (JVMS 4.2.1).
+    Slash,
+}
+
+/// Which packages a rename is for.
+#[derive(Clone, Copy, Debug, PartialEq, Eq)]
+pub enum Reach {
+    /// Its source alone.
+    Exact,
+    /// Its source, and all packages below it.
+    Below,
+}
+
+impl Separator {
+    ghost use Rattle.std.specs.Prelude.{◌≡◌};
+    ghost use Rattle.desk_packages.specs.Keys.{byte_of};
+
+    /// Its byte.
+    pub fn byte(self) -> u8
+        ensures { result ≡ byte_of self }
+    {
+        match self {
+            Separator::Dot => b'.',
+            Separator::Slash => b'/',
+        }
+    }
+}
+
+impl Reach {
+    ghost use Rattle.std.specs.Prelude.{◌≡◌};
+    ghost use Rattle.desk_packages.specs.Keys.{goes_below};
+
+    /// The reach of a rename that is for the packages below its source too, or of one that isn't.
+    pub fn of(below: bool) -> Reach
+        ensures { goes_below result ≡ below }
+    {
+        if below { Reach::Below } else { Reach::Exact }
+    }
+}

@@ -1,0 +1,178 @@
+//! Which rename is picked for a package.
+
+ghost use Rattle.std.specs.Prelude.{◌≡◌, ◌≤◌, None, Some, MatchOption, length};
+ghost use Rattle.std.specs.Cmp.Lexicographic.{slice_cmp};
+ghost use Rattle.std.specs.Ordering.{nat_cmp};
+ghost use Rattle.desk_base.specs.Names.{segments};
+ghost use Rattle.desk_packages.specs.Renames.{exact, longest, pick};
+ghost use Rattle.desk_packages.specs.Keys.{byte_of, goes_below, spelled, wanted, wanted_tail, IsTable, IsSource, NoSource, EndsBelow, NoneEnds, IsChanging, NoneChanging, IsNoneBeyond};
+
+use crate::keyed::Keyed;
+use crate::{Reach, Rename, Separator};
+use std::cmp::Ordering;
+
+/// A byte of a path as a key spells it: the separator and `.` change places.
+fn spelled(separator: Separator, byte: u8) -> u8
+    ensures { result ≡ spelled (byte_of separator) byte }
+{
+    if byte == separator.byte() {
+        b'.'
+    } else if byte == b'.' {
+        separator.byte()
+    } else {
+        byte
+    }
+}
+
+/// What a key ends with behind its source.
+fn tail(reach: Reach) -> &'static [u8]
+    ensures { result.now ≡ wanted_tail (goes_below reach) }
+{
+    match reach {
+        Reach::Exact => b"",
+        Reach::Below => b".*",
+    }
+}
+
+/// How a key compares with the key that a rename of this path would have.
+fn compare(key: &[u8], path: &[u8], separator: Separator, reach: Reach) -> Ordering
+    ensures { result ≡ slice_cmp nat_cmp key.now (wanted (byte_of separator) path.now (goes_below reach)) }
+{
+    for (at, byte) in path.iter().enumerate() {
+        if at >= key.len() {
+            return Ordering::Less;
+        }
+        match key[at].cmp(&spelled(separator, *byte)) {
+            Ordering::Equal => {}
+            Ordering::Less => return Ordering::Less,
+            Ordering::Greater => return Ordering::Greater,
+        }
+    }
+    key[path.len()..].cmp(&tail(reach))
+}
+
+/// The rename of this reach with the source that a separator writes so; none exactly where there is none.
+fn find<'r>(
+    renames: &'r [Rename],
+    path: &[u8],
+    separator: Separator,
+    reach: Reach,
+) -> Option<&'r Rename>
+    requires { IsTable renames.now }
+    ensures { MatchOption result
+        (NoSource renames.now (byte_of separator) path.now (goes_below reach))
+        (λ r. IsSource renames.now (byte_of separator) path.now (goes_below reach) r.now) }
+{
+    let mut low = 0;
+    let mut high = renames.len();
+    while low < high {
+        let middle = low + (high - low) / 2;
+        let rename = &renames[middle];
+        match compare(rename.key(), path, separator, reach) {
+            Ordering::Less => low = middle + 1,
+            Ordering::Greater => high = middle,
+            Ordering::Equal if rename.has(reach) => return Some(rename),
+            Ordering::Equal => return None,
+        }
+    }
+    None
+}
+
+/// The exact rename of a path's package.
+fn exact_of<'r>(renames: &'r [Rename], path: &[u8], separator: Separator) -> Option<&'r Rename>
+    requires { IsTable renames.now }
+    ensures { MatchOption result
+        (exact renames.now (segments (byte_of separator) path.now) ≡ None)
+        (λ r. exact renames.now (segments (byte_of separator) path.now) ≡ Some r.now) }
+{
+    find(renames, path, separator, Reach::Exact)
+}
+
+/// The below rename whose source is a path up to a place, where a segment ends there.
+fn below_at<'r>(
+    renames: &'r [Rename],
+    path: &[u8],
+    separator: Separator,
+    end: usize,
+) -> Option<&'r Rename>
+    requires table { IsTable renames.now }
+    requires within { end ≤ length path.now }
+    ensures { MatchOption result
+        (NoneEnds renames.now (byte_of separator) path.now end)
+        (λ r. EndsBelow renames.now (byte_of separator) path.now end r.now) }
+{
+    if end < path.len() && path[end] != separator.byte() {
+        return None;
+    }
+    find(renames, &path[..end], separator, Reach::Below)
+}
+
+/// The below rename with the longest source that fits a path's package.
+fn longest_of<'r>(renames: &'r [Rename], path: &[u8], separator: Separator) -> Option<&'r Rename>
+    requires { IsTable renames.now }
+    ensures { MatchOption result
+        (longest renames.now (segments (byte_of separator) path.now) ≡ None)
+        (λ r. longest renames.now (segments (byte_of separator) path.now) ≡ Some r.now) }
+{
+    let mut end = path.len();
+    while end > 0 {
+        if let Some(rename) = below_at(renames, path, separator, end) {
+            return Some(rename);
+        }
+        end -= 1;
+    }
+    None
+}
+
+/// The rename that is picked for a package that is written with a separator, among renames in byte order of their keys: the
+/// exact one, else the longest below one; none exactly where none fits. It takes no memory.
+pub fn pick<'r>(renames: &'r [Rename], path: &[u8], separator: Separator) -> Option<&'r Rename>
+    requires { IsTable renames.now }
+    ensures { MatchOption result
+        (pick renames.now (segments (byte_of separator) path.now) ≡ None)
+        (λ r. pick renames.now (segments (byte_of separator) path.now) ≡ Some r.now) }
+{
+    match exact_of(renames, path, separator) {
+        Some(rename) => Some(rename),
+        None => longest_of(renames, path, separator),
+    }
+}
+
+/// A changing below rename that fits a path's package.
+fn changing_below<'r>(
+    renames: &'r [Rename],
+    path: &[u8],
+    separator: Separator,
+) -> Option<&'r Rename>
+    requires { IsTable renames.now }
+    ensures { MatchOption result
+        (IsNoneBeyond renames.now (byte_of separator) path.now 0)
+        (λ r. IsChanging renames.now (segments (byte_of separator) path.now) r.now) }
+{
+    let mut end = path.len();
+    while end > 0 {
+        match below_at(renames, path, separator, end) {
+            Some(rename) if rename.changes() => return Some(rename),
+            _ => end -= 1,
+        }
+    }
+    None
+}
+
+/// A rename that changes and fits a package that is written with a separator, among renames in byte order of their keys;
+/// none exactly where there is none. It takes no memory.
+pub fn changing_for<'r>(
+    renames: &'r [Rename],
+    path: &[u8],
+    separator: Separator,
+) -> Option<&'r Rename>
+    requires { IsTable renames.now }
+    ensures { MatchOption result
+        (NoneChanging renames.now (segments (byte_of separator) path.now))
+        (λ r. IsChanging renames.now (segments (byte_of separator) path.now) r.now) }
+{
+    match exact_of(renames, path, separator) {
+        Some(rename) if rename.changes() => Some(rename),
+        _ => changing_below(renames, path, separator),
+    }
+}

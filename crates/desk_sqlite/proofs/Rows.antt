@@ -1,0 +1,33 @@
+-- Lists of rows: what the last one leaves, and their values.
+use Rattle.std.proofs.Common.{◌≡◌, ◌-◌, ◌+◌, ◌<◌, ℕ, List, [], ◌∷◌, ◌++◌, length, take, get_or, refl, ap, sym, ◌∙◌, arith, length-append}
+use Rattle.std.proofs.lemmas.List.{take_at, take_more}
+use Rattle.sqlite.specs.Value.{owned}
+use Rattle.sqlite.specs.Values.{bound, bound_value}
+use Rattle.sqlite.specs.declared.types.Value.TheVariants.{Blob}
+use Rattle.sqlite.specs.declared.types.ValueRef.{ValueRef}
+use Rattle.desk_ledger.specs.declared.keeper.Row.{Row}
+use Rattle.desk_sqlite.specs.Statements.{values_in}
+
+-- without its last, a list is what stood before that was added
+pub take_added : {X : Type 0} (xs : List X) (x : X) → take (length (xs ++ x ∷ []) - 1) (xs ++ x ∷ []) ≡ xs
+take_added xs x = take_at xs (x ∷ []) _ (let l = length-append xs (x ∷ []) in omega (arith, l))
+
+-- the values of a row behind others are behind theirs
+pub values_in-added : (rows : List Row) (row : Row) → values_in (rows ++ row ∷ []) ≡ values_in rows ++ (Blob row.target ∷ (Blob row.source ∷ (Blob row.digest.0 ∷ [])))
+values_in-added [] row = refl
+values_in-added (r ∷ rows) row = ap (λ vs. Blob r.target ∷ (Blob r.source ∷ (Blob r.digest.0 ∷ vs))) (values_in-added rows row)
+
+-- the values of one row more
+pub values_more : (rows : List Row) (i : ℕ) (row : Row) → i < length rows → row ≡ get_or rows i row
+    → values_in (take (i + 1) rows) ≡ values_in (take i rows) ++ (Blob row.target ∷ (Blob row.source ∷ (Blob row.digest.0 ∷ [])))
+values_more rows i row below is = ap values_in (take_more rows i row below) ∙ ap (λ r. values_in (take i rows ++ r ∷ [])) (sym is) ∙ values_in-added (take i rows) row
+
+bound_added : (vs : List ValueRef) (a b d : ValueRef)
+    → bound (((vs ++ a ∷ []) ++ b ∷ []) ++ d ∷ []) ≡ bound vs ++ (bound_value (owned a) ∷ (bound_value (owned b) ∷ (bound_value (owned d) ∷ [])))
+bound_added [] a b d = refl
+bound_added (v ∷ vs) a b d = ap (λ x. bound_value (owned v) ∷ x) (bound_added vs a b d)
+
+-- what three values more are bound to
+pub bound_more : (vs : List ValueRef) (v1 : List ValueRef) (v2 : List ValueRef) (v3 : List ValueRef) (a b d : ValueRef) → v1 ≡ vs ++ a ∷ [] → v2 ≡ v1 ++ b ∷ [] → v3 ≡ v2 ++ d ∷ []
+    → bound v3 ≡ bound vs ++ (bound_value (owned a) ∷ (bound_value (owned b) ∷ (bound_value (owned d) ∷ [])))
+bound_more vs v1 v2 v3 a b d e f g = ap bound (g ∙ ap (λ v. v ++ d ∷ []) (f ∙ ap (λ v. v ++ b ∷ []) e)) ∙ bound_added vs a b d

@@ -1,0 +1,146 @@
+//! Digests, and a keeper in memory call by call.
+
+ghost use Rattle.std.specs.Prelude.{IfOk, IsSome};
+
+use desk_base::Text;
+use desk_ledger::{Digest, Digester, Header, Keeper, KeeperFault, MemoryKeeper, Row, digest_of};
+use std::alloc::Global;
+use std::test::Fail;
+
+/// The digest of `abc` (FIPS 180-4).
+const ABC: [u8; 32] = [
+    0xba, 0x78, 0x16, 0xbf, 0x8f, 0x01, 0xcf, 0xea, 0x41, 0x41, 0x40, 0xde, 0x5d, 0xae, 0x22, 0x23,
+    0xb0, 0x03, 0x61, 0xa3, 0x96, 0x17, 0x7a, 0x9c, 0xb4, 0x10, 0xff, 0x61, 0xf2, 0x00, 0x15, 0xad,
+];
+
+#[test]
+fn digests_abc_whole_and_in_parts(rt: HostRuntime) {
+    let mut digester = Digester::new();
+    digester.update(b"a");
+    digester.update(b"");
+    digester.update(b"bc");
+    assert_eq!(rt; digest_of(b"abc"), Digest(ABC));
+    assert_eq!(rt; digester.finish(), Digest(ABC));
+}
+
+/// An attached keeper of which these calls fail.
+fn attached(alloc: Global, failing: Vec<u64>) -> Result<Box<MemoryKeeper>, Fail>
+    ensures { IfOk result (λ keeper. IsSome keeper.value.attached) }
+{
+    let mut keeper = MemoryKeeper::new(alloc, failing)?;
+    keeper.attach(&Text::from_bytes(alloc, b"ledger")?)?;
+    Ok(Box::new(alloc, keeper)?)
+}
+
+/// Puts a copy of a row.
+fn put(keeper: &mut MemoryKeeper, row: &Row) -> Result<Option<KeeperFault>, Fail>
+    requires { IsSome keeper.old.attached }
+    ensures { IsSome keeper.new.attached }
+{
+    Ok(keeper.put(row.clone()?).err())
+}
+
+fn forget(keeper: &mut MemoryKeeper, target: &Text) -> Option<KeeperFault>
+    requires { IsSome keeper.old.attached }
+    ensures { IsSome keeper.new.attached }
+{
+    keeper.forget(target).err()
+}
+
+fn commit(keeper: &mut MemoryKeeper) -> Option<KeeperFault>
+    requires { IsSome keeper.old.attached }
+    ensures { IsSome keeper.new.attached }
+{
+    keeper.commit().err()
+}
+
+fn set_header(keeper: &mut MemoryKeeper, header: &Header) -> Option<KeeperFault>
+    requires { IsSome keeper.old.attached }
+    ensures { IsSome keeper.new.attached }
+{
+    keeper.set_header(header).err()
+}
+
+/// Whether the keeper answers this header.
+fn has_header(keeper: &mut MemoryKeeper, header: &Header) -> bool
+    requires { IsSome keeper.old.attached }
+    ensures { IsSome keeper.new.attached }
+{
+    match keeper.header() {
+        Ok(Some(kept)) => {
+            kept.from == header.from && kept.to == header.to && kept.rules == header.rules
+        }
+        _ => false,
+    }
+}
+
+/// Whether the keeper answers this row at its target.
+fn has(keeper: &mut MemoryKeeper, row: &Row) -> bool
+    requires { IsSome keeper.old.attached }
+    ensures { IsSome keeper.new.attached }
+{
+    match keeper.find(&row.target) {
+        Ok(Some(kept)) => {
+            kept.target == row.target && kept.source == row.source && kept.digest == row.digest
+        }
+        _ => false,
+    }
+}
+
+fn row(alloc: Global, target: &[u8], source: &[u8], byte: u8) -> Result<Row, Fail> {
+    Ok(Row {
+        target: Text::from_bytes(alloc, target)?,
+        source: Text::from_bytes(alloc, source)?,
+        digest: Digest([byte; 32]),
+    })
+}
+
+#[test]
+fn keeps_a_header(rt: HostRuntime) -> Result<(), Fail> {
+    let alloc = rt.alloc();
+    let header = Header {
+        from: Text::from_bytes(alloc, b"in")?,
+        to: Text::from_bytes(alloc, b"out")?,
+        rules: Digest([7; 32]),
+    };
+    let mut keeper = attached(alloc, vec![in alloc; 2u64]?)?;
+    assert!(rt; !has_header(&mut keeper, &header));
+    assert_eq!(rt; set_header(&mut keeper, &header), Some(KeeperFault::Failed));
+    assert!(rt; !has_header(&mut keeper, &header));
+    assert_eq!(rt; set_header(&mut keeper, &header), None);
+    assert!(rt; has_header(&mut keeper, &header));
+    Ok(())
+}
+
+#[test]
+fn keeps_rows_by_targets(rt: HostRuntime) -> Result<(), Fail> {
+    let alloc = rt.alloc();
+    let old = row(alloc, b"one", b"a", 1)?;
+    let new = row(alloc, b"one", b"c", 3)?;
+    let other = row(alloc, b"two", b"b", 2)?;
+    let mut keeper = attached(alloc, vec![in alloc; 6u64]?)?;
+    assert_eq!(rt; put(&mut keeper, &old)?, None);
+    assert_eq!(rt; put(&mut keeper, &other)?, None);
+    assert_eq!(rt; put(&mut keeper, &new)?, None);
+    assert!(rt; has(&mut keeper, &new));
+    assert!(rt; !has(&mut keeper, &old));
+    assert_eq!(rt; forget(&mut keeper, &new.target), Some(KeeperFault::Failed));
+    assert!(rt; has(&mut keeper, &new));
+    assert_eq!(rt; forget(&mut keeper, &new.target), None);
+    assert!(rt; !has(&mut keeper, &new));
+    assert!(rt; has(&mut keeper, &other));
+    Ok(())
+}
+
+#[test]
+fn a_commit_is_no_call_that_fails(rt: HostRuntime) -> Result<(), Fail> {
+    let alloc = rt.alloc();
+    let one = row(alloc, b"one", b"a", 1)?;
+    let mut keeper = attached(alloc, vec![in alloc; 1u64]?)?;
+    assert_eq!(rt; commit(&mut keeper), None);
+    assert_eq!(rt; put(&mut keeper, &one)?, Some(KeeperFault::Failed));
+    assert_eq!(rt; put(&mut keeper, &one)?, None);
+    assert_eq!(rt; commit(&mut keeper), None);
+    assert!(rt; has(&mut keeper, &one));
+    Ok(())
+}

@@ -1,0 +1,145 @@
+//! Folders, ledgers and outputs in memory, and what a run over them wrote. Each owner is boxed.
+
+ghost use Rattle.std.specs.Prelude.{◌≡◌};
+ghost use Rattle.std.specs.List.{list_all};
+ghost use Rattle.desk_base.specs.Paths.{is_full_path};
+
+use desk_base::{Memory, Text};
+use desk_folders::{Folders, GenFile, MemoryFolders, is_full};
+use desk_ledger::{Keeper, MemoryKeeper};
+use desk_report::MemorySink;
+use desk_run::desk;
+use std::alloc::Global;
+use std::process::Abort;
+use std::str;
+use std::test::Fail;
+
+/// The words of a run from `in` to `out`, by the rules in `r` and the ledger `l`.
+pub const WORDS: &[&[u8]] = &[
+    b"run",
+    b"--rules",
+    b"r",
+    b"--from",
+    b"in",
+    b"--to",
+    b"out",
+    b"--ledger",
+    b"l",
+];
+
+/// The rule of a package.
+pub const RULE: &[u8] = b"javax.servlet=jakarta.servlet";
+
+/// The rule of a package and those below it.
+pub const BELOW: &[u8] = b"javax.servlet.*=jakarta.servlet";
+
+/// How many bytes an output has room for, where it isn't to fail.
+pub const ROOM: u32 = 10_000;
+
+/// How a run ended, and what it wrote.
+#[derive(Drop)]
+pub struct Ended {
+    code: u8,
+    text: Text,
+}
+
+impl Ended {
+    /// The exit status.
+    pub fn code(&self) -> u8 {
+        self.code
+    }
+
+    /// What was written.
+    pub fn text(&self) -> &str {
+        str::from_utf8(self.text.as_bytes()).unwrap_or("no text")
+    }
+}
+
+/// A file of this path and content.
+pub fn file_of(alloc: Global, path: &[u8], content: &[u8]) -> Result<GenFile, Memory> {
+    let path = Text::from_bytes(alloc, path)?;
+    let content = Text::from_bytes(alloc, content)?;
+    Ok(GenFile { path, content })
+}
+
+/// Whether each file has a full path.
+fn have_full_paths(files: &[GenFile]) -> bool
+    ensures { result ≡ list_all (λ file. is_full_path file.path) files.now }
+{
+    files.iter().all(|file| is_full(file.path.as_bytes()))
+}
+
+/// Folders with these files, of which these calls fail.
+pub fn folders_with(
+    alloc: Global,
+    files: Vec<GenFile>,
+    failing: &[u64],
+) -> Result<Box<MemoryFolders>, Fail> {
+    if !have_full_paths(&files) {
+        return Err(Fail::from("a path is no full path"));
+    }
+    let folders = MemoryFolders::new(alloc, files, failing.to_vec(alloc)?)?;
+    Ok(Box::new(alloc, folders)?)
+}
+
+/// Folders with files of these paths and contents, of which these calls fail.
+pub fn folders_of(
+    alloc: Global,
+    rows: &[(&[u8], &[u8])],
+    failing: &[u64],
+) -> Result<Box<MemoryFolders>, Fail> {
+    let mut files = Vec::new(alloc);
+    for (path, content) in rows {
+        files.push(file_of(alloc, path, content)?)?;
+    }
+    folders_with(alloc, files, failing)
+}
+
+/// An empty ledger, of which these calls fail.
+pub fn keeper_of(alloc: Global, failing: &[u64]) -> Result<Box<MemoryKeeper>, Fail> {
+    let keeper = MemoryKeeper::new(alloc, failing.to_vec(alloc)?)?;
+    Ok(Box::new(alloc, keeper)?)
+}
+
+fn words_of(alloc: Global, words: &[&[u8]]) -> Result<Vec<Text>, Fail> {
+    let mut list = Vec::new(alloc);
+    for word in words {
+        list.push(Text::from_bytes(alloc, word)?)?;
+    }
+    Ok(list)
+}
+
+/// Runs the desk with these words over folders and a ledger that go on, and an output with room for so many bytes.
+pub fn run<F: Folders, K: Keeper>(
+    alloc: Global,
+    words: &[&[u8]],
+    folders: &mut F,
+    keeper: &mut K,
+    room: u32,
+) -> Result<Ended, Fail> {
+    let words = words_of(alloc, words)?;
+    let mut out = Box::new(alloc, MemorySink::with_room(alloc, room)?)?;
+    let code = desk(alloc, &words, folders, keeper, &mut *out).code();
+    let text = Text::from_bytes(alloc, out.written())?;
+    Ok(Ended { code, text })
+}
+
+/// How the first run of the usual words ends over files of these paths and contents.
+pub fn first_run(alloc: Global, rows: &[(&[u8], &[u8])]) -> Result<Ended, Fail> {
+    let mut folders = folders_of(alloc, rows, &[])?;
+    let mut keeper = keeper_of(alloc, &[])?;
+    run(alloc, WORDS, &mut *folders, &mut *keeper, ROOM)
+}
+
+/// A run ended with this status, and wrote this.
+pub fn expect(rt: &impl Abort, ended: &Ended, code: u8, text: &str) {
+    assert_eq!(rt; ended.text(), text);
+    assert_eq!(rt; ended.code(), code);
+}
+
+/// Folders hold this at each of these paths, or nothing.
+pub fn expect_files(rt: &impl Abort, folders: &MemoryFolders, rows: &[(&[u8], Option<&[u8]>)]) {
+    for (path, content) in rows {
+        assert_eq!(rt; folders.content(path), *content);
+    }
+}

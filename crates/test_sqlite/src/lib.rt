@@ -1,0 +1,5 @@
+//! Tests of the ledger in an SQLite file.
+#![tactic(auto)]
+
+#[cfg(test)]
+mod ledger;

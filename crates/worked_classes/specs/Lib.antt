@@ -1,0 +1,4 @@
+pub mod Samples
+pub mod Servlet
+pub mod Renames
+pub mod Compiled
