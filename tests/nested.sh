@@ -33,7 +33,7 @@ put app/shop.war/WEB-INF/web.xml '<listener-class>javax.servlet.L</listener-clas
 put app/x/javax/servlet/readme.txt 'stays'
 
 cat >wanted <<'TXT'
-refused META-INF/MANIFEST.MF not-built
+written META-INF/MANIFEST.MF META-INF/MANIFEST.MF manifest changed=0
 written META-INF/services/javax.servlet.ServletContainerInitializer META-INF/services/jakarta.servlet.ServletContainerInitializer service changed=1
 refused META-INF/versions/11/javax/servlet/F.class malformed magic at=0
 written legacy/javax/servlet/Old.class legacy/javax/servlet/Old.class copy
@@ -43,9 +43,9 @@ written lib/javax.servlet.jar/javax/servlet/notes.txt lib/javax.servlet.jar/jaka
 refused shop.war/WEB-INF/classes/javax/servlet/F.class malformed magic at=0
 written shop.war/WEB-INF/classes/javax/servlet/messages.properties shop.war/WEB-INF/classes/jakarta/servlet/messages.properties copy
 written shop.war/WEB-INF/lib/a.jar shop.war/WEB-INF/lib/a.jar copy
-refused shop.war/WEB-INF/web.xml not-built
+written shop.war/WEB-INF/web.xml shop.war/WEB-INF/web.xml text changed=1
 written x/javax/servlet/readme.txt x/javax/servlet/readme.txt copy
-total files=12 written=7 kept=0 refused=5 renamed=0 added=0
+total files=12 written=9 kept=0 refused=3 renamed=0 added=0
 status 2
 TXT
 "$program" run --ledger=l --workers 4 --to out --from=app --rules rules >got
@@ -62,6 +62,8 @@ mkdir -p wanted_out
   put shop.war/WEB-INF/classes/jakarta/servlet/messages.properties 'a=b'
   put shop.war/WEB-INF/lib/a.jar 'PK'
   put x/javax/servlet/readme.txt 'stays'
+  put META-INF/MANIFEST.MF 'Manifest-Version: 1.0\r\n'
+  put shop.war/WEB-INF/web.xml '<listener-class>jakarta.servlet.L</listener-class>'
 )
 diff -r wanted_out out >differences 2>&1
 : >nothing
@@ -90,7 +92,7 @@ faulty() {
   ends "$name" 22 "$line" run --rules r --from app --to out --ledger l2
 }
 
-usage='migrate: 20 usage: migrate run --rules R --from A --to B --ledger L [--workers N]'
+usage='migrate: 20 usage: migrate run --rules R --from A --to B --ledger L [--workers N] or migrate generate --count N [--workers N]'
 ends "no words" 20 "$usage"
 ends "an option twice" 20 "$usage" run --rules rules --from app --to out --ledger l2 --rules rules
 ends "an option without its value" 20 "$usage" run --rules rules --from app --to out --ledger
@@ -139,7 +141,7 @@ rm -rf long
 mkdir empty
 ends "a source without files" 0 'total files=0 written=0 kept=0 refused=0 renamed=0 added=0' run --rules rules --from empty --to out --ledger l3
 
-ends "another first word" 20 "$usage" generate --count 0
+ends "a count of 0" 20 "$usage" generate --count 0
 
 echo "$passed passed, $failed failed"
 [ "$failed" = 0 ]

@@ -28,14 +28,14 @@ fn read_number(cursor: &mut Cursor<'_>) -> Result<u16, Malformed>
     Ok(cursor.u2()?)
 }
 
-/// The minor and the major version. Major 45 to 61 is accepted; from 56 on the minor must be 0 or 65,535.
+/// The minor and the major version. Major 45 to 65 is accepted, that of Java SE 21; from 56 on the minor must be 0 or 65,535.
 fn read_version(cursor: &mut Cursor<'_>) -> Result<Version, Malformed>
     ensures version { Reads result version_of (version_read cursor.old.at cursor.old.left) cursor.new }
     ensures moved { OnOk result (cursor.new.at ≡ cursor.old.at + 4) }
 {
     let minor = read_number(cursor)?;
     let major = read_number(cursor)?;
-    if major < 45 || 61 < major {
+    if major < 45 || 65 < major {
         fault(FaultKind::Version, 6)
     } else if 56 <= major && !(minor == 0 || minor == 65535) {
         fault(FaultKind::Version, 4)

@@ -3,7 +3,7 @@ use Rattle.std.specs.Prelude.{◌≡◌, ⊤, Bool, not, ◌&&◌, ◌||◌, ◌
 use Rattle.std.specs.List.{list_any, before_first, after_first}
 use Rattle.desk_base.specs.Names.{Text, segments, dot, is_dotted, is_empty}
 use Rattle.desk_lines.specs.Blanks.{trimmed_end}
-use Rattle.desk_entries.specs.Forms.{is_semicolon, is_below, source_text, is_symbolic_name, is_version, is_plain, is_stored}
+use Rattle.desk_entries.specs.Forms.{is_semicolon, reach_of, source_text, is_symbolic_name, is_version, is_plain, is_stored}
 use Rattle.desk_entries.specs.declared.faults.EntryFault.{EntryFault}
 use Rattle.desk_entries.specs.declared.faults.EntryFault.TheVariants.{Key, Value}
 use Rattle.desk_entries.specs.declared.faults.EntryError.{EntryError}
@@ -11,8 +11,9 @@ use Rattle.desk_entries.specs.declared.faults.EntryError.TheVariants.{Fault, Mem
 use Rattle.desk_entries.specs.declared.renames.Rename.{Rename}
 use Rattle.desk_entries.specs.declared.versions.Versions.{Versions}
 use Rattle.desk_entries.specs.declared.bundles.Update.{Update}
-use Rattle.desk_entries.specs.declared.patterns.Mark.{Mark}
-use Rattle.desk_entries.specs.declared.patterns.Mark.TheVariants.{Include, Exclude}
+use Rattle.desk_packages.specs.declared.Reach.{Reach}
+use Rattle.desk_patterns.specs.declared.selections.Mark.{Mark}
+use Rattle.desk_patterns.specs.declared.selections.Mark.TheVariants.{Include, Exclude}
 
 -- the fault of an entry; want of memory comes freely
 abbrev pub IsError : {A : Type 0} → Result A EntryFault → EntryError → Type 0
@@ -22,14 +23,14 @@ IsError read Memory = ⊤
 -- ---- renames.properties: a package, or `a.b.*` for those below it too; and the new package, which is modified UTF-8, as a
 -- ---- class file stores texts (JVMS 4.4.7)
 
-abbrev pub rename_between : Bool → Text → Text → Result Rename EntryFault
-rename_between below source target =
+abbrev pub rename_between : Reach → Text → Text → Result Rename EntryFault
+rename_between reach source target =
     if not (is_dotted source) then Err Key
     else if not (is_dotted target) || not (is_stored target) then Err Value
-    else Ok (record { source = segments dot source; target = segments dot target; below = below })
+    else Ok (record { source = segments dot source; target = segments dot target; reach = reach })
 
 abbrev pub rename_of : Text → Text → Result Rename EntryFault
-rename_of key value = rename_between (is_below key) (source_text key) (trimmed_end value)
+rename_of key value = rename_between (reach_of key) (source_text key) (trimmed_end value)
 
 -- ---- versions.properties: a package; and a version, or one for imports, `;` and one for exports
 

@@ -4,6 +4,8 @@ use Rattle.std.specs.List.{list_all, ends_with}
 use Rattle.desk_base.specs.Limits.{file_size}
 use Rattle.desk_base.specs.Names.{Text, is_empty, is_letter, is_digit}
 use Rattle.desk_base.specs.Utf8.{bad_form}
+use Rattle.desk_packages.specs.declared.Reach.{Reach}
+use Rattle.desk_packages.specs.declared.Reach.TheVariants.{Exact, Below}
 
 -- `;`, which stands between the two parts of a value
 abbrev pub is_semicolon : ℕ → Bool
@@ -12,6 +14,10 @@ is_semicolon b = b == 59
 -- a key that ends in `.*` means the packages below too
 abbrev pub is_below : Text → Bool
 is_below key = ends_with ◌==◌ key (46 ∷ 42 ∷ [])
+
+-- which packages a key means
+abbrev pub reach_of : Text → Reach
+reach_of key = if is_below key then Below else Exact
 
 -- the package of a key, without that end
 abbrev pub source_text : Text → Text

@@ -19,7 +19,7 @@ mod versions;
 
 pub use bundles::{Update, read_update};
 pub use faults::{EntryError, EntryFault};
-pub use patterns::{Mark, read_mark, read_text_name};
+pub use patterns::{read_mark, read_text_name};
 pub use renames::{Rename, read_rename};
 pub use strings::{check_string, check_text_rule};
 pub use versions::{Versions, read_versions};

@@ -5,13 +5,7 @@ ghost use Rattle.desk_entries.specs.Entries.{mark_of, text_name_of};
 
 use crate::faults::EntryFault;
 use desk_lines::trim_trailing_blanks;
-
-/// What a pattern of `selection.properties` says of the paths that it fits.
-#[derive(Clone, Copy, Debug, PartialEq, Eq)]
-pub enum Mark {
-    Include,
-    Exclude,
-}
+use desk_patterns::Mark;
 
 /// The mark of an entry of `selection.properties`: the key is a pattern, which isn't empty; the value, without blanks at its
 /// end, is empty for `Include` or `!` for `Exclude`. The fault is `Key` where the key is empty, else `Value` at any other

@@ -2,7 +2,7 @@
 
 ghost use Rattle.std.specs.Prelude.{◌≡◌, Ok, IfOk, IfErr};
 ghost use Rattle.desk_base.specs.Names.{segments, dot};
-ghost use Rattle.desk_entries.specs.Forms.{is_below, source_text};
+ghost use Rattle.desk_entries.specs.Forms.{reach_of, source_text};
 ghost use Rattle.desk_entries.specs.Entries.{rename_of, IsError};
 
 use crate::dots::split_at_dots;
@@ -11,6 +11,7 @@ use crate::values::is_stored;
 use desk_base::{Memory, TextList};
 use desk_lines::trim_trailing_blanks;
 use desk_names::is_dotted;
+use desk_packages::Reach;
 use std::alloc::Global;
 
 /// A rename of packages.
@@ -20,19 +21,19 @@ pub struct Rename {
     pub source: TextList,
     /// The segments of the package that takes its place.
     pub target: TextList,
-    /// Whether the packages below the source are renamed too.
-    pub below: bool,
+    /// Which packages it renames: the source alone, or those below it too.
+    pub reach: Reach,
 }
 
-/// The package of a key, and whether the packages below it are meant too.
-fn cut_key(key: &[u8]) -> (&[u8], bool)
+/// The package of a key, and which packages the key means.
+fn cut_key(key: &[u8]) -> (&[u8], Reach)
     ensures source { result.0.now ≡ source_text key.now }
-    ensures below { result.1 ≡ is_below key.now }
+    ensures reach { result.1 ≡ reach_of key.now }
 {
     if key.ends_with(b".*") {
-        (&key[..key.len() - 2], true)
+        (&key[..key.len() - 2], Reach::Below)
     } else {
-        (key, false)
+        (key, Reach::Exact)
     }
 }
 
@@ -55,7 +56,7 @@ pub fn read_rename(alloc: Global, key: &[u8], value: &[u8]) -> Result<Rename, En
     ensures read { IfOk result (λ rename. rename_of key.now value.now ≡ Ok rename) }
     ensures refused { IfErr result (IsError (rename_of key.now value.now)) }
 {
-    let (source, below) = cut_key(key);
+    let (source, reach) = cut_key(key);
     let target = trim_trailing_blanks(value);
     if !is_dotted(source) {
         return Err(EntryError::Fault(EntryFault::Key));
@@ -66,6 +67,6 @@ pub fn read_rename(alloc: Global, key: &[u8], value: &[u8]) -> Result<Rename, En
     Ok(Rename {
         source: read_package(alloc, source)?,
         target: read_package(alloc, target)?,
-        below,
+        reach,
     })
 }

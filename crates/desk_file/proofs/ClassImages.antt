@@ -12,8 +12,7 @@ use Rattle.desk_rules.specs.Rules.{Rules}
 use Rattle.desk_patterns.specs.Selections.{selects}
 use Rattle.desk_paths.specs.declared.Kind.TheVariants as kinds
 use Rattle.desk_paths.specs.Kinds.{kind_of}
-use Rattle.desk_file.specs.Images.{image as image_at, image_by, treatment, treatment_by}
-use Rattle.desk_file.specs.declared.treatments.Treatment.TheVariants.{Names, Copy}
+use Rattle.desk_file.specs.Images.{image as image_at, image_by, copied}
 use Rattle.desk_file.specs.Classes.{renamed_image, unless_refused, image_of_read, class_image}
 use Rattle.desk_file.specs.Faults.{IsClassFault, file_fault}
 use Rattle.desk_file.specs.declared.images.Image.{Image}
@@ -79,7 +78,7 @@ made rules bytes image h = elim (read_class bytes) as (λ (r : Result Class Malf
 
 -- the image of a selected class that is accepted
 pub class_made : (rules : Rules) (path bytes : Text) (image : Image) → selects rules.selection path ≡ true → kind_of path ≡ kinds.Class → image_at rules path bytes ≡ Ok image → Made rules bytes image
-unfolding image_at treatment
+unfolding image_at
 class_made rules path bytes image selected class h =
-    let treated : treatment rules path ≡ Names = ap (λ (b : Bool). cond b (treatment_by rules path (kind_of path)) Copy) selected ∙ ap (treatment_by rules path) class in
-    made rules bytes image (sym (ap (image_by rules bytes) treated) ∙ h)
+    let is : image_at rules path bytes ≡ class_image rules bytes = ap (λ (b : Bool). cond b (image_by rules path bytes (kind_of path)) (Ok (copied bytes))) selected ∙ ap (image_by rules path bytes) class in
+    made rules bytes image (sym is ∙ h)

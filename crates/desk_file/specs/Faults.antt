@@ -10,8 +10,10 @@ use Rattle.desk_report.specs.declared.lines.Reason.TheVariants as reason
 use Rattle.desk_rewrite.specs.declared.rewriting.RewriteFault.{RewriteFault}
 use Rattle.desk_rewrite.specs.declared.rewriting.RewriteFault.TheVariants as rewrite
 use Rattle.desk_rules.specs.Rules.{Rules}
+use Rattle.desk_textrules.specs.declared.TextFault.{TextFault}
+use Rattle.desk_textrules.specs.declared.TextFault.TheVariants as text
 use Rattle.desk_file.specs.Classes.{class_image}
-use Rattle.desk_file.specs.Images.{image, service_image}
+use Rattle.desk_file.specs.Images.{image, service_image, manifest_image, other_image}
 use Rattle.desk_file.specs.declared.images.Image.{Image}
 use Rattle.desk_file.specs.declared.images.FileFault.{FileFault}
 use Rattle.desk_file.specs.declared.images.FileFault.TheVariants.{Refused, Memory}
@@ -25,10 +27,23 @@ IsFaultOf made Memory = ⊤
 abbrev pub IsServiceFault : Rules → Text → FileFault → Type 0
 IsServiceFault rules bytes fault = IsFaultOf (service_image rules bytes) fault
 
--- why a service file has none
-abbrev pub service_fault : MetaFault → FileFault
-service_fault (meta.BadLine at) = Refused (reason.BadLine at)
-service_fault meta.Memory = Memory
+-- a manifest has none for this reason
+abbrev pub IsManifestFault : Rules → Text → FileFault → Type 0
+IsManifestFault rules bytes fault = IsFaultOf (manifest_image rules bytes) fault
+
+-- a file that is no class, service file or manifest has none for this reason
+abbrev pub IsOtherFault : Rules → Text → Text → FileFault → Type 0
+IsOtherFault rules path bytes fault = IsFaultOf (other_image rules path bytes) fault
+
+-- why a service file or a manifest has none
+abbrev pub line_fault : MetaFault → FileFault
+line_fault (meta.BadLine at) = Refused (reason.BadLine at)
+line_fault meta.Memory = Memory
+
+-- why a text has none
+abbrev pub text_fault : TextFault → FileFault
+text_fault (text.Unsettled at) = Refused (reason.Unsettled at)
+text_fault text.Memory = Memory
 
 -- why a class that reads has none
 abbrev pub file_fault : RewriteFault → FileFault

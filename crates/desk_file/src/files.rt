@@ -5,7 +5,7 @@ ghost use Rattle.desk_base.specs.Limits.{file_size};
 ghost use Rattle.desk_file.specs.Outcomes.{outcome};
 
 use crate::images::{FileFault, Image, image_of_bytes};
-use crate::treatments::target_of;
+use crate::targets::target_of;
 use desk_base::{Memory, Text};
 use desk_report::{Detail, Reason};
 use desk_rules::RuleSet;

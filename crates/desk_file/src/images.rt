@@ -2,15 +2,19 @@
 
 ghost use Rattle.std.specs.Prelude.{◌≡◌, ◌≤◌, Ok, IfOk, IfErr, length, unwrap_or};
 ghost use Rattle.desk_base.specs.Limits.{file_size};
-ghost use Rattle.desk_file.specs.Faults.{IsFaultOf, IsFileFault, IsServiceFault};
-ghost use Rattle.desk_file.specs.Images.{copied, image, image_by, service_image};
+ghost use Rattle.desk_paths.specs.Kinds.{kind_of};
+ghost use Rattle.desk_file.specs.Faults.{IsFaultOf, IsFileFault, IsManifestFault, IsOtherFault, IsServiceFault};
+ghost use Rattle.desk_file.specs.Images.{copied, image, image_by, manifest_image, other_image, service_image};
 
 use crate::classes::class_image;
-use crate::treatments::{Treatment, treatment_of};
+use crate::targets::target_of;
 use desk_base::{Changed, Memory, Text};
+use desk_manifest::migrate_manifest;
 use desk_metainf::{MetaFault, migrate_service};
+use desk_paths::{Kind, place};
 use desk_report::{Detail, Reason};
 use desk_rules::RuleSet;
+use desk_textrules::{TextFault, migrate_text};
 use std::alloc::Global;
 
 /// What a file becomes: its new bytes, and what they are made of.
@@ -40,14 +44,28 @@ impl From<Memory> for FileFault {
 
 impl From<MetaFault> for FileFault {
     ghost use Rattle.std.specs.Prelude.{◌≡◌};
-    ghost use Rattle.desk_file.specs.Faults.{service_fault};
+    ghost use Rattle.desk_file.specs.Faults.{line_fault};
 
-    ghost from_gives = { λ why fault. fault ≡ service_fault why };
+    ghost from_gives = { λ why fault. fault ≡ line_fault why };
 
     fn from(why: MetaFault) -> FileFault {
         match why {
             MetaFault::BadLine { at } => FileFault::Refused(Reason::BadLine { at }),
             MetaFault::Memory => FileFault::Memory,
+        }
+    }
+}
+
+impl From<TextFault> for FileFault {
+    ghost use Rattle.std.specs.Prelude.{◌≡◌};
+    ghost use Rattle.desk_file.specs.Faults.{text_fault};
+
+    ghost from_gives = { λ why fault. fault ≡ text_fault why };
+
+    fn from(why: TextFault) -> FileFault {
+        match why {
+            TextFault::Unsettled { at } => FileFault::Refused(Reason::Unsettled { at }),
+            TextFault::Memory => FileFault::Memory,
         }
     }
 }
@@ -65,22 +83,58 @@ fn service_image(alloc: Global, rules: &RuleSet, bytes: &[u8]) -> Result<Image, 
     })
 }
 
-/// The image of a file by its treatment, and none where the file is copied.
-fn changed_image(
+/// The image of a manifest.
+fn manifest_image(alloc: Global, rules: &RuleSet, bytes: &[u8]) -> Result<Image, FileFault>
+    requires { length bytes.now ≤ file_size }
+    ensures ok { IfOk result (λ found. manifest_image rules.now bytes.now ≡ Ok found) }
+    ensures err { IfErr result (IsManifestFault rules.now bytes.now) }
+{
+    let Changed { bytes, changed } = migrate_manifest(alloc, rules, bytes)?;
+    Ok(Image {
+        bytes,
+        detail: Detail::Manifest { changed },
+    })
+}
+
+/// The image of a selected file that is no class, service file or manifest, and none where it is copied.
+#[tactic(auto, unfolding(crate::specs::Images::target))]
+fn other_image(
     alloc: Global,
     rules: &RuleSet,
-    treatment: Treatment,
+    path: &Text,
     bytes: &[u8],
 ) -> Result<Option<Image>, FileFault>
     requires { length bytes.now ≤ file_size }
-    ensures ok { IfOk result (λ found. image_by rules.now bytes.now treatment ≡ Ok (unwrap_or found (copied bytes.now))) }
-    ensures err { IfErr result (IsFaultOf (image_by rules.now bytes.now treatment)) }
+    ensures ok { IfOk result (λ found. other_image rules.now path.now bytes.now ≡ Ok (unwrap_or found (copied bytes.now))) }
+    ensures err { IfErr result (IsOtherFault rules.now path.now bytes.now) }
 {
-    match treatment {
-        Treatment::Providers => Ok(Some(service_image(alloc, rules, bytes)?)),
-        Treatment::Names => Ok(Some(class_image(alloc, rules, bytes)?)),
-        Treatment::Copy => Ok(None),
-        Treatment::NotBuilt => Err(FileFault::Refused(Reason::NotBuilt)),
+    let target = target_of(alloc, rules, path)?;
+    let Some(texts) = rules.texts_for(path.as_bytes(), target.as_bytes()) else {
+        return Ok(None);
+    };
+    let Changed { bytes, changed } = migrate_text(alloc, bytes, texts.here, texts.there)?;
+    Ok(Some(Image {
+        bytes,
+        detail: Detail::Texts { changed },
+    }))
+}
+
+/// The image of a selected file, and none where it is copied.
+fn changed_image(
+    alloc: Global,
+    rules: &RuleSet,
+    path: &Text,
+    bytes: &[u8],
+) -> Result<Option<Image>, FileFault>
+    requires { length bytes.now ≤ file_size }
+    ensures ok { IfOk result (λ found. image_by rules.now path.now bytes.now (kind_of path.now) ≡ Ok (unwrap_or found (copied bytes.now))) }
+    ensures err { IfErr result (IsFaultOf (image_by rules.now path.now bytes.now (kind_of path.now))) }
+{
+    match place(path.as_bytes()).kind {
+        Kind::Service => Ok(Some(service_image(alloc, rules, bytes)?)),
+        Kind::Manifest => Ok(Some(manifest_image(alloc, rules, bytes)?)),
+        Kind::Class => Ok(Some(class_image(alloc, rules, bytes)?)),
+        Kind::Other => other_image(alloc, rules, path, bytes),
     }
 }
 
@@ -96,15 +150,20 @@ fn image_at(
     ensures ok { IfOk result (λ found. image rules.now path.now bytes.now ≡ Ok (unwrap_or found (copied bytes.now))) }
     ensures err { IfErr result (IsFileFault rules.now path.now bytes.now) }
 {
-    let treatment = treatment_of(alloc, rules, path)?;
-    changed_image(alloc, rules, treatment, bytes)
+    if rules.selected(path.as_bytes()) {
+        changed_image(alloc, rules, path, bytes)
+    } else {
+        Ok(None)
+    }
 }
 
 /// The image of a file of at most 67,108,864 bytes, by its path. A file that is copied keeps its bytes,
 /// and no others are made. `Refused` comes exactly where the file has no image: `Malformed`, `Overlong`,
 /// `PoolFull` or `Twins` for a selected class; `BadLine` for a selected service file with a provider that
-/// holds a blank, with the offset of the first byte of the first such line; `NotBuilt` for a selected file
-/// whose kind isn't built. The only other error is want of memory.
+/// holds a blank, or a selected manifest with a line that is none of a manifest, with the offset of the first
+/// byte of the first such line; `Unsettled` for a selected file of another kind whose image the text rules of
+/// its target would change again, with the first such place in the image. The only other error is want of
+/// memory.
 pub fn image_of(
     alloc: Global,
     rules: &RuleSet,

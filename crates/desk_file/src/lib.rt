@@ -14,8 +14,8 @@
 mod classes;
 mod files;
 mod images;
-mod treatments;
+mod targets;
 
 pub use files::{Outcome, migrate_file};
 pub use images::{FileFault, Image, image_of};
-pub use treatments::{Treatment, target_of, treatment_of};
+pub use targets::target_of;

@@ -35,7 +35,7 @@ abbrev pub first_major : ℕ
 first_major = 45
 
 abbrev pub last_major : ℕ
-last_major = 61
+last_major = 65
 
 -- From major 56 on the minor is 0, or 65,535 for a class that uses preview features.
 abbrev pub checked_version : ℕ → ℕ → Reader Version

@@ -1,9 +1,12 @@
 -- The text that each index keeps.
-use Rattle.std.specs.Prelude.{◌≡◌, ℕ, suc, true, false, List, [], ◌∷◌, length, get_or, Option, None, option_copied}
+use Rattle.std.specs.Prelude.{◌≡◌, ℕ, suc, true, false, List, [], ◌∷◌, ◌++◌, length, map, get_or, Option, None, option_map, option_copied}
 use denote.Ref.{Bor}
 use Rattle.desk_base.specs.Names.{Text}
 use Rattle.desk_base.specs.Entries.{Pool, utf8_at}
-use Rattle.desk_format.specs.Split.{holds}
+use Rattle.desk_base.specs.declared.kinds.Used.{Used}
+use Rattle.desk_format.specs.NewPool.{Choice, with_texts}
+use Rattle.desk_format.specs.PoolBytes.{print_pool, pool_uses}
+use Rattle.desk_format.specs.Split.{Want, split, holds}
 use Rattle.desk_new_pool.specs.declared.keeps.Keep.{Keep}
 use Rattle.desk_new_pool.specs.declared.keeps.Keep.TheVariants as keeps
 
@@ -17,3 +20,10 @@ Keeps own ts (keeps.Image t) = (holds ts own ≡ false) × ((rest : List Text) �
 pub record TextsAre (pool : Pool) (texts : List (Option (Bor Text))) : Type 0 where
   pub count : length texts ≡ suc (length pool)
   pub each : (i : ℕ) → option_copied (get_or texts i None) ≡ utf8_at pool i
+
+-- what is said of the new pool's bytes, whatever the texts that are wanted and the new index of each use
+abbrev pub ForNewPool : Pool → List (Option (Bor Text)) → List ℕ → (List ℕ → Type 0) → Type 0
+ForNewPool pool texts indices Says =
+    (ws : List Want) (g : Choice) (rest : List ℕ)
+    → TextsAre (split ws pool) texts → indices ≡ map (λ (u : Used). g u.role u.index) (pool_uses 10 pool) ++ rest
+    → Says (print_pool (map (option_map (with_texts g)) (split ws pool)))

@@ -7,7 +7,7 @@ ghost use Rattle.desk_format.specs.PoolBytes.{two, print_entry, print_slots, pri
 ghost use Rattle.desk_format.specs.Split.{Want, split};
 ghost use Rattle.desk_format.specs.NewPool.{Choice, with_texts};
 ghost use Rattle.desk_laws.specs.Sound.{IsShaped};
-ghost use Rattle.desk_new_pool.specs.Keeps.{TextsAre};
+ghost use Rattle.desk_new_pool.specs.Keeps.{TextsAre, ForNewPool};
 ghost use Rattle.desk_new_pool.specs.Printing.{named_texts, entry_size, renewed, all_named, renewed_bytes, print_texts, IsShortText, SameTexts};
 
 use crate::new_texts::NewTexts;
@@ -145,7 +145,7 @@ pub fn append_pool<P: PoolView>(
     requires limit { length new.now.texts.items ≤ 65535 }
     requires short { All IsShortText new.now.texts.items }
     requires indices { length (pool_uses 10 (P.pool view.now)) ≤ length new.now.indices.items }
-    ensures { (ws : List Want) (g : Choice) (rest : List ℕ) → TextsAre (split ws (P.pool view.now)) new.now.texts.items → new.now.indices.items ≡ map (λ (u : Used). g u.role u.index) (pool_uses 10 (P.pool view.now)) ++ rest → OnOk result (out.new ≡ out.old ++ print_pool (map (option_map (with_texts g)) (split ws (P.pool view.now)))) }
+    ensures { ForNewPool (P.pool view.now) new.now.texts.items new.now.indices.items (λ printed. OnOk result (out.new ≡ out.old ++ printed)) }
 {
     let texts = new.texts.as_slice();
     let (kept, missing) = texts.split_at(count as usize);

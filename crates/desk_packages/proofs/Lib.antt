@@ -10,3 +10,4 @@ pub mod Sources
 pub mod Ranges
 pub mod Segments
 pub mod Changed
+pub mod HasSource

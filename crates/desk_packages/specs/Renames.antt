@@ -1,7 +1,7 @@
 -- Renames of packages, and which of them is picked for a package.
 use Rattle.std.specs.Prelude.{Bool, true, false, not, ◌&&◌, nat_lt, List, [], ◌∷◌, ◌++◌, length, drop, Option, Some, None, if◌then◌else◌, refl}
 use Rattle.std.specs.Coded.{Coded, code_by, coded×, coded_list, coded_ℕ, coded_bool}
-use Rattle.std.specs.List.{find}
+use Rattle.std.specs.List.{find, list_any}
 use Rattle.desk_base.specs.Names.{Text, Package, same, begins_with, written, dot, is_package}
 
 -- a rename of packages: of the source alone, or of all that is below it too
@@ -64,6 +64,10 @@ renamed_by (Some r) p = r.target ++ drop (length r.source) p
 -- the image of a package
 abbrev pub pkg : List Renaming → Package → Package
 pkg rs p = renamed_by (pick rs p) p
+
+-- whether a package is the source of one of the renames, an exception included
+abbrev pub has_source : List Renaming → Package → Bool
+has_source rs p = list_any (λ r. same r.source p) rs
 
 -- source and target have segments, each an identifier
 abbrev pub is_rename : Renaming → Bool

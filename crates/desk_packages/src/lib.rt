@@ -14,7 +14,7 @@ mod rename;
 
 pub use fronts::front_end;
 pub use keyed::{Keyed, rule_of, rules_under};
-pub use picking::{changing_for, pick};
+pub use picking::{changing_for, is_source, pick};
 pub use rename::Rename;
 
 /// What stands between two segments of a package as it is written.
@@ -47,17 +47,5 @@ impl Separator {
             Separator::Dot => b'.',
             Separator::Slash => b'/',
         }
-    }
-}
-
-impl Reach {
-    ghost use Rattle.std.specs.Prelude.{◌≡◌};
-    ghost use Rattle.desk_packages.specs.Keys.{goes_below};
-
-    /// The reach of a rename that is for the packages below its source too, or of one that isn't.
-    pub fn of(below: bool) -> Reach
-        ensures { goes_below result ≡ below }
-    {
-        if below { Reach::Below } else { Reach::Exact }
     }
 }

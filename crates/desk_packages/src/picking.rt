@@ -4,7 +4,7 @@ ghost use Rattle.std.specs.Prelude.{◌≡◌, ◌≤◌, None, Some, MatchOptio
 ghost use Rattle.std.specs.Cmp.Lexicographic.{slice_cmp};
 ghost use Rattle.std.specs.Ordering.{nat_cmp};
 ghost use Rattle.desk_base.specs.Names.{segments};
-ghost use Rattle.desk_packages.specs.Renames.{exact, longest, pick};
+ghost use Rattle.desk_packages.specs.Renames.{exact, has_source, longest, pick};
 ghost use Rattle.desk_packages.specs.Keys.{byte_of, goes_below, spelled, wanted, wanted_tail, IsTable, IsSource, NoSource, EndsBelow, NoneEnds, IsChanging, NoneChanging, IsNoneBeyond};
 
 use crate::keyed::Keyed;
@@ -12,13 +12,13 @@ use crate::{Reach, Rename, Separator};
 use std::cmp::Ordering;
 
 /// A byte of a path as a key spells it: the separator and `.` change places.
-fn spelled(separator: Separator, byte: u8) -> u8
-    ensures { result ≡ spelled (byte_of separator) byte }
+fn spelled(separator: u8, byte: u8) -> u8
+    ensures { result ≡ spelled separator byte }
 {
-    if byte == separator.byte() {
+    if byte == separator {
         b'.'
     } else if byte == b'.' {
-        separator.byte()
+        separator
     } else {
         byte
     }
@@ -35,8 +35,8 @@ fn tail(reach: Reach) -> &'static [u8]
 }
 
 /// How a key compares with the key that a rename of this path would have.
-fn compare(key: &[u8], path: &[u8], separator: Separator, reach: Reach) -> Ordering
-    ensures { result ≡ slice_cmp nat_cmp key.now (wanted (byte_of separator) path.now (goes_below reach)) }
+fn compare(key: &[u8], path: &[u8], separator: u8, reach: Reach) -> Ordering
+    ensures { result ≡ slice_cmp nat_cmp key.now (wanted separator path.now (goes_below reach)) }
 {
     for (at, byte) in path.iter().enumerate() {
         if at >= key.len() {
@@ -68,7 +68,7 @@ fn find<'r>(
     while low < high {
         let middle = low + (high - low) / 2;
         let rename = &renames[middle];
-        match compare(rename.key(), path, separator, reach) {
+        match compare(rename.key(), path, separator.byte(), reach) {
             Ordering::Less => low = middle + 1,
             Ordering::Greater => high = middle,
             Ordering::Equal if rename.has(reach) => return Some(rename),
@@ -86,6 +86,18 @@ fn exact_of<'r>(renames: &'r [Rename], path: &[u8], separator: Separator) -> Opt
         (λ r. exact renames.now (segments (byte_of separator) path.now) ≡ Some r.now) }
 {
     find(renames, path, separator, Reach::Exact)
+}
+
+/// Whether a package that is written with a separator is the source of a rename, of an exception too, among renames in byte
+/// order of their keys. It takes no memory.
+pub fn is_source(renames: &[Rename], path: &[u8], separator: Separator) -> bool
+    requires { IsTable renames.now }
+    ensures { result ≡ has_source renames.now (segments (byte_of separator) path.now) }
+{
+    match find(renames, path, separator, Reach::Exact) {
+        Some(_) => true,
+        None => find(renames, path, separator, Reach::Below).is_some(),
+    }
 }
 
 /// The below rename whose source is a path up to a place, where a segment ends there.

@@ -9,9 +9,9 @@ use Rattle.desk_patterns.specs.SeenChoices.{choices_seen}
 use Rattle.desk_patterns.specs.declared.selections.Choice.{Choice as KeptChoice}
 use Rattle.desk_patterns.specs.TextRules.{TextRule}
 use Rattle.desk_patterns.specs.PatternTexts.{PatternText, texts_of}
-use Rattle.desk_patterns.specs.SeenTexts.{texts_seen}
-use Rattle.desk_patterns.specs.declared.pattern_texts.PatternText.{PatternText as KeptText}
-use Rattle.desk_patterns.proofs.Chains.{item_there, map_length}
+use Rattle.desk_patterns.specs.SeenTexts.{text_seen, texts_seen, ArePlaces}
+use Rattle.desk_patterns.specs.declared.pattern_texts.PatternPlace.{PatternPlace}
+use Rattle.desk_patterns.proofs.Lists.{item_there, seen_there, map_length}
 
 any_seen : (p : Choice → Bool) (items : List KeptChoice) → list_any p (choices_seen items) ≡ list_any (λ choice. p (choice.pattern, choice.excludes)) items
 any_seen p [] = refl
@@ -43,14 +43,18 @@ select_included items path some fitting excluded a b c e s = sym (parts items pa
 pub select_all : (items : List KeptChoice) (path : Text) (some excluded : Bool) → some ≡ list_any (λ choice. not choice.excludes) items → excluded ≡ list_any (λ choice. choice.excludes && fits choice.pattern path) items → excluded ≡ false → some ≡ false → true ≡ selects (choices_seen items) path
 select_all items path some excluded a c e s = sym (parts items path some _ excluded a refl c ∙ ap (selected some (list_any (λ choice. not choice.excludes && fits choice.pattern path) items)) e ∙ ap (λ (x : Bool). selected x (list_any (λ choice. not choice.excludes && fits choice.pattern path) items) false) s)
 
-text_there : (items : List KeptText) (n : ℕ) (x : KeptText) → n < length items → x ≡ get_or items n x → drop n (texts_seen items) ≡ (x.pattern, x.rules) ∷ drop (n + 1) (texts_seen items)
-text_there items n x h e = item_there {B = PatternText} (λ (t : KeptText). (t.pattern, t.rules)) items n x h e ∙ ap (λ (m : ℕ). (x.pattern, x.rules) ∷ drop m (texts_seen items)) (sym (add-one n))
+text_there : (files : List (List TextRule)) (items : List PatternPlace) (n : ℕ) (x : PatternPlace) → n < length items → x ≡ get_or items n x → drop n (texts_seen files items) ≡ text_seen files x ∷ drop (n + 1) (texts_seen files items)
+text_there files items n x h e = item_there {B = PatternText} (text_seen files) items n x h e ∙ ap (λ (m : ℕ). text_seen files x ∷ drop m (texts_seen files items)) (sym (add-one n))
 
-pub texts_more : (items : List KeptText) (path : Text) (n : ℕ) (x : KeptText) → n < length items → x ≡ get_or items n x → fits x.pattern path ≡ false → texts_of (drop n (texts_seen items)) path ≡ texts_of (texts_seen items) path → texts_of (drop (n + 1) (texts_seen items)) path ≡ texts_of (texts_seen items) path
-texts_more items path n x h e miss so = sym (ap (λ (ts : List PatternText). texts_of ts path) (text_there items n x h e) ∙ ap (λ (y : Bool). cond y (Some x.rules) (texts_of (drop (n + 1) (texts_seen items)) path)) miss) ∙ so
+pub texts_more : (files : List (List TextRule)) (items : List PatternPlace) (path : Text) (n : ℕ) (x : PatternPlace) → n < length items → x ≡ get_or items n x → fits x.pattern path ≡ false → texts_of (drop n (texts_seen files items)) path ≡ texts_of (texts_seen files items) path → texts_of (drop (n + 1) (texts_seen files items)) path ≡ texts_of (texts_seen files items) path
+texts_more files items path n x h e miss so = sym (ap (λ (ts : List PatternText). texts_of ts path) (text_there files items n x h e) ∙ ap (λ (y : Bool). cond y (Some (get_or files x.file [])) (texts_of (drop (n + 1) (texts_seen files items)) path)) miss) ∙ so
 
-pub texts_found : (items : List KeptText) (path : Text) (n : ℕ) (x : KeptText) → n < length items → x ≡ get_or items n x → fits x.pattern path ≡ true → texts_of (drop n (texts_seen items)) path ≡ texts_of (texts_seen items) path → Some x.rules ≡ texts_of (texts_seen items) path
-texts_found items path n x h e hit so = sym (ap (λ (ts : List PatternText). texts_of ts path) (text_there items n x h e) ∙ ap (λ (y : Bool). cond y (Some x.rules) (texts_of (drop (n + 1) (texts_seen items)) path)) hit) ∙ so
+pub texts_found : (files : List (List TextRule)) (items : List PatternPlace) (path : Text) (n : ℕ) (x : PatternPlace) → n < length items → x ≡ get_or items n x → fits x.pattern path ≡ true → texts_of (drop n (texts_seen files items)) path ≡ texts_of (texts_seen files items) path → Some (get_or files x.file []) ≡ texts_of (texts_seen files items) path
+texts_found files items path n x h e hit so = sym (ap (λ (ts : List PatternText). texts_of ts path) (text_there files items n x h e) ∙ ap (λ (y : Bool). cond y (Some (get_or files x.file [])) (texts_of (drop (n + 1) (texts_seen files items)) path)) hit) ∙ so
 
-pub texts_none : (items : List KeptText) (path : Text) (n : ℕ) → length items ≤ n → texts_of (drop n (texts_seen items)) path ≡ texts_of (texts_seen items) path → None ≡ texts_of (texts_seen items) path
-texts_none items path n h so = sym (ap (λ (ts : List PatternText). texts_of ts path) (drop_all n (texts_seen items) (omega (arith, map_length {B = PatternText} (λ (t : KeptText). (t.pattern, t.rules)) items)))) ∙ so
+pub texts_none : (files : List (List TextRule)) (items : List PatternPlace) (path : Text) (n : ℕ) → length items ≤ n → texts_of (drop n (texts_seen files items)) path ≡ texts_of (texts_seen files items) path → None ≡ texts_of (texts_seen files items) path
+texts_none files items path n h so = sym (ap (λ (ts : List PatternText). texts_of ts path) (drop_all n (texts_seen files items) (omega (arith, map_length {B = PatternText} (text_seen files) items)))) ∙ so
+
+-- the place that a pattern names
+pub place_there : (files : List (List TextRule)) (items : List PatternPlace) (n : ℕ) (x : PatternPlace) → ArePlaces files items → n < length items → x ≡ get_or items n x → x.file < length files
+place_there files items n x places h e = omega (arith, places n h, seen_there (λ (p : PatternPlace). p.file) items n x 0 h e)

@@ -2,6 +2,8 @@ pub mod Patterns
 pub mod Tries
 pub mod Selections
 pub mod TextRules
+pub mod FirstBytes
+pub mod Tables
 pub mod PatternTexts
 pub mod Seen
 pub mod SeenTexts

@@ -1,8 +1,15 @@
 -- Which paths a selection takes.
-use Rattle.std.specs.Prelude.{ℕ, Bool, not, ◌&&◌, ◌||◌, List, refl}
+use Rattle.std.specs.Prelude.{ℕ, Bool, true, false, not, ◌&&◌, ◌||◌, List, refl}
 use Rattle.std.specs.List.{list_any}
 use Rattle.desk_base.specs.Names.{Text}
 use Rattle.desk_patterns.specs.Patterns.{fits}
+use Rattle.desk_patterns.specs.declared.selections.Mark.{Mark}
+use Rattle.desk_patterns.specs.declared.selections.Mark.TheVariants.{Include, Exclude}
+
+-- whether a mark excludes
+abbrev pub is_exclude : Mark → Bool
+is_exclude Include = false
+is_exclude Exclude = true
 
 -- a pattern, and whether it excludes
 abbrev pub Choice : Type 0

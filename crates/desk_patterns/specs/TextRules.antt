@@ -1,6 +1,9 @@
 -- Rules that exchange texts.
-use Rattle.std.specs.Prelude.{◌≡◌, ◌<◌, ℕ, Bool, true, false, not, ◌==◌, nat_eq, nat_lt, zero, suc, List, [], ◌∷◌, length, drop, slice_index, Option, Some, None, if◌then◌else◌}
-use Rattle.std.specs.List.{starts_with, list_all}
+use Rattle.std.specs.Prelude.{◌≡◌, ◌<◌, ℕ, false, nat_eq, nat_lt, zero, suc, List, [], ◌∷◌, length, Option, Some, None, if◌then◌else◌}
+use Rattle.std.specs.List.{starts_with}
+use Rattle.std.specs.Cmp.Lexicographic.{slice_cmp}
+use Rattle.std.specs.Ordering.{nat_cmp}
+use Rattle.std.specs.declared.cmp.Ordering.TheVariants.{Less}
 use Rattle.desk_base.specs.Names.{Text, is_empty}
 
 -- a source, and its target
@@ -27,38 +30,16 @@ abbrev pub longest : List TextRule → Text → Option Hit
 longest [] text = None
 longest (rule ∷ rules) text = longer (hit_of rule text) (longest rules text)
 
--- whether the first byte of a text is this
-abbrev pub leads_with : ℕ → Text → Bool
-leads_with byte [] = false
-leads_with byte (b ∷ t) = b == byte
+-- the source of the rule at a place
+abbrev pub source_at : List TextRule → ℕ → Text
+source_at [] place = []
+source_at (rule ∷ rules) zero = rule.0
+source_at (rule ∷ rules) (suc place) = source_at rules place
 
--- whether the first of some rules has a source with this first byte
-abbrev pub leads_first : ℕ → List TextRule → Bool
-leads_first byte [] = false
-leads_first byte (rule ∷ rules) = leads_with byte rule.0
+-- each rule has a source
+abbrev pub HaveSources : List TextRule → Type 0
+HaveSources rules = (place : ℕ) → place < length rules → is_empty (source_at rules place) ≡ false
 
--- one more than the place of the last of so many rules whose source has this first byte; 0 where there is none
-abbrev pub last_with : ℕ → List TextRule → ℕ → ℕ
-last_with byte rules zero = 0
-last_with byte rules (suc count) = if leads_first byte (drop count rules) then suc count else last_with byte rules count
-
--- the first byte of a text that has one
-abbrev pub first_byte : Text → ℕ
-first_byte [] = 0
-first_byte (b ∷ t) = b
-
-abbrev pub first_source : List TextRule → Text
-first_source [] = []
-first_source (rule ∷ rules) = rule.0
-
--- each rule has a source, and `earlier` says for each where the last rule before it stands that has the same first byte
-pub record IsLinked (rules : List TextRule) (earlier : List ℕ) : Type 0 where
-  pub sources : list_all (λ rule. not (is_empty rule.0)) rules ≡ true
-  pub earlier_count : length earlier ≡ length rules
-  pub earlier_are : (place : ℕ) → place < length rules → slice_index earlier place ≡ last_with (first_byte (first_source (drop place rules))) rules place
-
--- `heads` says for each byte where the last rule stands that begins with it
-pub record IsChained (rules : List TextRule) (heads earlier : List ℕ) : Type 0 where
-  pub linked : IsLinked rules earlier
-  pub heads_count : length heads ≡ 256
-  pub heads_are : (byte : ℕ) → byte < 256 → slice_index heads byte ≡ last_with byte rules (length rules)
+-- a source stands behind those of rules in byte order
+abbrev pub StandsBehind : List TextRule → Text → Type 0
+StandsBehind rules source = (place : ℕ) → place < length rules → slice_cmp nat_cmp (source_at rules place) source ≡ Less

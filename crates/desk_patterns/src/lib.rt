@@ -6,12 +6,14 @@
 //! ```
 #![tactic(auto)]
 
+mod first_bytes;
 mod pattern_texts;
 mod patterns;
 mod selections;
+mod sources;
 mod text_rules;
 
-pub use pattern_texts::PatternTexts;
+pub use pattern_texts::{PathTexts, PatternPlace, PatternTexts};
 pub use patterns::fits;
-pub use selections::Selection;
-pub use text_rules::{TextHit, TextRules};
+pub use selections::{Mark, Selection};
+pub use text_rules::{TextHit, TextPlace, TextRules};

@@ -2,13 +2,22 @@
 
 ghost use Rattle.std.specs.Prelude.{◌≡◌, ◌∷◌, ◌++◌, ◌&&◌, [], not, OnOk, OnErr};
 ghost use Rattle.std.specs.List.{list_any};
-ghost use Rattle.desk_patterns.specs.Selections.{selects};
+ghost use Rattle.desk_patterns.specs.Selections.{selects, is_exclude};
 ghost use Rattle.desk_patterns.specs.Patterns.{fits};
 
 use crate::patterns::fits;
 use desk_base::{Memory, Text};
 use std::alloc::Global;
 use std::marker::Model;
+
+/// What a pattern says of the paths that it fits.
+#[derive(Clone, Copy, Debug, PartialEq, Eq)]
+pub enum Mark {
+    /// They are selected.
+    Include,
+    /// They aren't.
+    Exclude,
+}
 
 /// A pattern of a selection.
 #[derive(Debug, Drop)]
@@ -69,10 +78,11 @@ impl Selection {
 
     /// Adds a pattern that includes or excludes the paths that it fits. After want of memory, the only error, the selection
     /// is as it was.
-    pub fn push(&mut self, pattern: Text, excludes: bool) -> Result<(), Memory>
-        ensures ok { OnOk result (self.new ≡ self.old ++ (pattern, excludes) ∷ []) }
+    pub fn push(&mut self, pattern: Text, mark: Mark) -> Result<(), Memory>
+        ensures ok { OnOk result (self.new ≡ self.old ++ (pattern, is_exclude mark) ∷ []) }
         ensures err { OnErr result (self.new ≡ self.old) }
     {
+        let excludes = mark == Mark::Exclude;
         self.choices.push(Choice { pattern, excludes })?;
         Ok(())
     }

@@ -1,20 +1,23 @@
 //! Rules that exchange texts.
 
-ghost use Rattle.std.specs.Prelude.{◌≡◌, ◌≢◌, ◌≤◌, ◌<◌, ◌∷◌, ◌++◌, [], None, Some, nat_eq, length, drop, slice_index, replicate, OnOk, OnErr};
-ghost use Rattle.desk_patterns.specs.TextRules.{longest, longer, hit_of, last_with, first_byte, IsLinked};
-ghost use Rattle.desk_patterns.specs.Seen.{hit_seen, rules_seen, earlier_seen};
+ghost use Rattle.std.specs.Prelude.{◌≡◌, ◌≢◌, ◌≤◌, ◌<◌, ◌∷◌, ◌++◌, [], length, drop, IfSome, MatchOption, OnOk, OnErr};
+ghost use Rattle.desk_patterns.specs.TextRules.{longest, StandsBehind, HaveSources};
+ghost use Rattle.desk_patterns.specs.Tables.{last_start, IsTable, NotBehind};
+ghost use Rattle.desk_patterns.specs.Seen.{hit_seen, rules_seen, shorter_seen, NoHits, IsPlaceFrom};
 
+use crate::first_bytes::FirstBytes;
+use crate::sources::{count_not_behind, count_shared};
 use desk_base::{Memory, Text};
 use std::alloc::Global;
 use std::marker::Model;
 
 /// A rule.
 #[derive(Debug, Drop)]
-struct TextRule {
-    source: Text,
+pub(crate) struct TextRule {
+    pub(crate) source: Text,
     target: Text,
-    /// One more than the place of the last rule before this whose source has the same first byte; 0 where there is none.
-    earlier: usize,
+    /// One more than the place of the longest other source that starts this one; 0 where there is none.
+    shorter: usize,
 }
 
 /// What stands at a place of a text: a source of so many bytes, and the target that takes their place.
@@ -26,19 +29,29 @@ pub struct TextHit<'r> {
     pub target: &'r [u8],
 }
 
-/// Rules that exchange texts. Contracts see the list of the rules, each a source and its target.
+/// A place of a text, counted from 0, and what stands there.
+#[derive(Clone, Copy, Debug)]
+pub struct TextPlace<'r> {
+    /// The place of the source's first byte.
+    pub at: usize,
+    /// The source's length, and the target.
+    pub hit: TextHit<'r>,
+}
+
+/// Rules that exchange texts, in byte order of their sources. Contracts see the list of the rules, each a source and its
+/// target.
 #[derive(Debug, Drop)]
 pub struct TextRules {
     rules: Vec<TextRule>,
-    /// For each byte, one more than the place of the last rule whose source begins with it; 0 where there is none.
-    heads: [usize; 256],
+    firsts: FirstBytes,
 }
 
 impl Model for TextRules {
     ghost use Rattle.std.specs.Prelude.{List};
     ghost use Rattle.std.specs.Coded.{coded_list, coded×, coded_ℕ};
-    ghost use Rattle.desk_patterns.specs.TextRules.{TextRule as Rule, IsChained};
-    ghost use Rattle.desk_patterns.specs.Seen.{rules_seen, earlier_seen};
+    ghost use Rattle.desk_patterns.specs.TextRules.{TextRule as Rule};
+    ghost use Rattle.desk_patterns.specs.Tables.{IsTextTable};
+    ghost use Rattle.desk_patterns.specs.Seen.{rules_seen, shorter_seen};
 
     ghost Value = { List Rule };
 
@@ -46,75 +59,47 @@ impl Model for TextRules {
 
     ghost view = { λ t. rules_seen t.rules.items };
 
-    ghost invariant = { λ t. IsChained (rules_seen t.rules.items) t.heads (earlier_seen t.rules.items) };
+    ghost invariant = { λ t. IsTextTable (rules_seen t.rules.items) (shorter_seen t.rules.items) t.firsts };
 }
 
-/// For each byte no rule.
-fn no_heads() -> [usize; 256]
-    ensures { result ≡ replicate 256 0 }
+/// One more than the place of the last of so many rules whose source starts a text; 0 where there is none. None of these
+/// sources stands behind the text in byte order.
+fn last_start(rules: &[TextRule], count: usize, text: &[u8]) -> usize
+    requires table { IsTable (rules_seen rules.now) (shorter_seen rules.now) }
+    requires within { count ≤ length rules.now }
+    requires not_behind { NotBehind (rules_seen rules.now) text.now count }
+    ensures last { result ≡ last_start text.now (rules_seen rules.now) count }
+    ensures inside { result ≤ count }
 {
-    [0; 256]
-}
-
-/// The first byte of a text that isn't empty.
-fn first_of(text: &[u8]) -> usize
-    requires { text.now ≢ [] }
-    ensures first { result ≡ first_byte text.now }
-    ensures small { result < 256 }
-{
-    usize::from(text[0])
-}
-
-/// What a rule exchanges at the front of a text.
-fn hit_of<'r>(rule: &'r TextRule, text: &[u8]) -> Option<TextHit<'r>>
-    ensures { hit_seen result ≡ hit_of (rule.now.source, rule.now.target) text.now }
-{
-    let source = rule.source.as_bytes();
-    if text.starts_with(source) {
-        Some(TextHit {
-            taken: source.len(),
-            target: rule.target.as_bytes(),
-        })
-    } else {
-        None
+    if count == 0 {
+        return 0;
     }
-}
-
-/// The hit that takes more bytes.
-fn longer<'r>(hit: Option<TextHit<'r>>, other: Option<TextHit<'r>>) -> Option<TextHit<'r>>
-    ensures { hit_seen result ≡ longer (hit_seen hit.entry) (hit_seen other.entry) }
-{
-    match hit {
-        None => other,
-        Some(first) => match other {
-            None => Some(first),
-            Some(second) => {
-                if first.taken < second.taken {
-                    Some(second)
-                } else {
-                    Some(first)
-                }
-            }
-        },
-    }
-}
-
-/// The longest source at the front of a text, where the last rule is given whose source begins with the text's first
-/// byte.
-fn longest_from<'r>(rules: &'r [TextRule], head: usize, text: &[u8]) -> Option<TextHit<'r>>
-    requires linked { IsLinked (rules_seen rules.now) (earlier_seen rules.now) }
-    requires some { text.now ≢ [] }
-    requires last { head ≡ last_with (first_byte text.now) (rules_seen rules.now) (length (rules_seen rules.now)) }
-    ensures { hit_seen result ≡ longest (rules_seen rules.now) text.now }
-{
-    let mut best = None;
-    let mut place = head;
+    let shared = count_shared(rules[count - 1].source.as_bytes(), text);
+    let mut place = count;
     while place > 0 {
         let rule = &rules[place - 1];
-        best = longer(hit_of(rule, text), best);
-        place = rule.earlier;
+        if rule.source.as_bytes().len() <= shared {
+            return place;
+        }
+        place = rule.shorter;
     }
-    best
+    0
+}
+
+/// The longest source at the front of a text, and its target.
+fn longest_of<'r>(rules: &'r [TextRule], text: &[u8]) -> Option<TextHit<'r>>
+    requires { IsTable (rules_seen rules.now) (shorter_seen rules.now) }
+    ensures { hit_seen result ≡ longest (rules_seen rules.now) text.now }
+{
+    let place = last_start(rules, count_not_behind(rules, text), text);
+    if place == 0 {
+        return None;
+    }
+    let rule = &rules[place - 1];
+    Some(TextHit {
+        taken: rule.source.as_bytes().len(),
+        target: rule.target.as_bytes(),
+    })
 }
 
 impl TextRules {
@@ -124,42 +109,53 @@ impl TextRules {
     {
         TextRules {
             rules: Vec::new(alloc),
-            heads: no_heads(),
+            firsts: FirstBytes::none(),
         }
     }
 
-    /// Adds a rule, whose source isn't empty. After want of memory, the only error, the rules are as they were.
+    /// Adds a rule, whose source isn't empty and stands behind all others in byte order. After want of memory, the only
+    /// error, the rules are as they were.
     pub fn push(&mut self, source: Text, target: Text) -> Result<(), Memory>
-        requires { source ≢ [] }
+        requires some { source ≢ [] }
+        requires behind { StandsBehind self.old source }
         ensures ok { OnOk result (self.new ≡ self.old ++ (source, target) ∷ []) }
         ensures err { OnErr result (self.new ≡ self.old) }
     {
-        let first = first_of(source.as_bytes());
-        let earlier = self.heads[first];
+        let first = source.as_bytes()[0];
+        let shorter = last_start(&self.rules, self.rules.len(), source.as_bytes());
         self.rules.push(TextRule {
             source,
             target,
-            earlier,
+            shorter,
         })?;
-        self.heads[first] = self.rules.len();
+        self.firsts.add(first);
         Ok(())
     }
 
     /// The longest source that stands at a place of a text, with its target; none exactly where none stands there. The
-    /// place is at most the text's length. Of two equal sources the first counts. It takes no memory, and looks at the
-    /// sources alone that share their first byte with the text there.
+    /// place is at most the text's length. It takes no memory, and compares as many sources with the text as a binary search
+    /// of them does.
     pub fn longest(&self, text: &[u8], at: usize) -> Option<TextHit<'_>>
         requires { at ≤ length text.now }
         ensures { hit_seen result ≡ longest self.now (drop at text.now) }
     {
-        let rest = &text[at..];
-        match rest.first() {
-            None => None,
-            Some(first) => longest_from(
-                self.rules.as_slice(),
-                self.heads[usize::from(*first)],
-                rest,
-            ),
+        longest_of(&self.rules, &text[at..])
+    }
+
+    /// The first place of a text, from one on, at which a source stands, with the longest such source; none exactly where
+    /// none stands there or behind. It takes no memory, and passes over bytes with which no source begins.
+    pub fn next_place(&self, text: &[u8], from: usize) -> Option<TextPlace<'_>>
+        requires { from ≤ length text.now }
+        ensures place { MatchOption result (NoHits self.now text.now from (length text.now)) (IsPlaceFrom self.now text.now from) }
+        ensures sources { HaveSources self.now }
+    {
+        let mut at = self.firsts.next_in(text, from);
+        while at < text.len() {
+            if let Some(hit) = self.longest(text, at) {
+                return Some(TextPlace { at, hit });
+            }
+            at = self.firsts.next_in(text, at + 1);
         }
+        None
     }
 }

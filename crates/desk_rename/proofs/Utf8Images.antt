@@ -22,12 +22,12 @@ use Rattle.desk_names.specs.ClassNames.{package_of, simple_of, class_name}
 use Rattle.desk_names.specs.Pieces.{Piece, class_piece, last_piece, cut, joined}
 use Rattle.desk_names.specs.SignatureScan.{ref_behind, in_class, ref_step, after, at_place, has_bound, first_bound, body_step, sig_step, sig_start, is_sound_signature}
 use Rattle.desk_names.specs.SignaturePieces.{is_naming, ends_name, named, sig_cut}
-use Rattle.desk_packages.specs.Renames.{Renaming, pkg, pick, renamed_by, in_scope}
-use Rattle.desk_rules.specs.Images.{refronted, name_image}
+use Rattle.desk_packages.specs.Renames.{Renaming, has_source, pkg, pick, renamed_by, in_scope}
+use Rattle.desk_rules.specs.Images.{refronted, name_image, dotted, package_written, renamed_string}
 use Rattle.desk_packages.proofs.Picks.{In, Found, pick_Some}
 use Rattle.desk_packages.proofs.Same.{covers_is}
 use Rattle.desk_packages.proofs.Cuts.{written-segments}
-use Rattle.desk_rename.specs.Images.{package_image, repackaged, is_any_descriptor, desc, cls, sig}
+use Rattle.desk_rename.specs.Images.{repackaged, is_any_descriptor, desc, cls, sig}
 use Rattle.desk_rules.specs.RuleSets.{HaveUtf8Targets}
 use Rattle.desk_rename.specs.Laws.{Utf8Images}
 use Rattle.desk_rename.proofs.Finished.{desc_is, desc_other, sig_is, sig_other, cls_array, cls_name}
@@ -108,8 +108,15 @@ name_whole rs targets part s plain t h =
 repackaged_whole : (rs : List Renaming) → HaveUtf8Targets rs → (t : Text) → IsWhole t → IsWhole (repackaged rs t)
 repackaged_whole rs targets t h = written_whole slash slash_plain (refronted rs (segments slash t)) (refronted_whole rs targets (segments slash t) (cut_whole slash slash_plain t h))
 
-package_whole : (rs : List Renaming) → HaveUtf8Targets rs → (t : Text) → IsWhole t → IsWhole (package_image rs t)
-package_whole rs targets t h = written_whole slash slash_plain (pkg rs (segments slash t)) (pkg_whole rs targets (segments slash t) (cut_whole slash slash_plain t h))
+package_whole : (rs : List Renaming) → HaveUtf8Targets rs → (s : ℕ) → IsPlain s → (t : Text) → IsWhole t → IsWhole (package_written s rs t)
+package_whole rs targets s plain t h = written_whole s plain (pkg rs (segments s t)) (pkg_whole rs targets (segments s t) (cut_whole s plain t h))
+
+string_whole : (rs : List Renaming) → HaveUtf8Targets rs → (t : Text) → IsWhole t → IsWhole (renamed_string rs t)
+string_whole rs targets t h =
+    elim (has_source rs (segments dot t)) as (λ (b : Bool). IsWhole (cond b (package_written dot rs t) (dotted rs t))) [
+      | true ↦ package_whole rs targets dot dot_plain t h
+      | false ↦ name_whole rs targets is_identifier dot dot_plain t h
+    ]
 
 -- ---- parts
 
@@ -343,9 +350,10 @@ sig_whole rs targets kind t h =
 
 pub utf8_laws : (rs : List Renaming) → HaveUtf8Targets rs → Utf8Images rs
 utf8_laws rs targets = record {
-  packages = λ t h. good_from _ (package_whole rs targets t (whole_from t h));
+  packages = λ t h. good_from _ (package_whole rs targets slash slash_plain t (whole_from t h));
   classes = λ t h. good_from _ (cls_whole rs targets t (whole_from t h));
   dotted_names = λ t h. good_from _ (name_whole rs targets is_identifier dot dot_plain t (whole_from t h));
+  strings = λ t h. good_from _ (string_whole rs targets t (whole_from t h));
   descriptors = λ t h. good_from _ (desc_whole rs targets t (whole_from t h));
   signatures = λ kind t h. good_from _ (sig_whole rs targets kind t (whole_from t h));
 }

@@ -2,7 +2,7 @@
 use Rattle.std.specs.Prelude.{◌≡◌, List, None, true, IsTrue}
 use Rattle.std.specs.List.{list_all}
 use Rattle.desk_base.specs.Utf8.{bad_form}
-use Rattle.desk_rules.specs.Images.{dotted}
+use Rattle.desk_rules.specs.Images.{dotted, renamed_string}
 use Rattle.desk_base.specs.Names.{Text, segments, front, simple, is_class_name, slash}
 use Rattle.desk_base.specs.Descriptors.{Descriptor, DescriptorKind, IsDescriptor, is_descriptor, print, renamed}
 use Rattle.desk_base.specs.Signatures.{Signature, SignatureKind, IsSignature, print_signature, map_signature}
@@ -67,6 +67,7 @@ pub record Utf8Images (renames : List Renaming) : Type 0 where
   pub packages : (text : Text) → bad_form text ≡ None → bad_form (package_image renames text) ≡ None
   pub classes : (text : Text) → bad_form text ≡ None → bad_form (cls renames text) ≡ None
   pub dotted_names : (text : Text) → bad_form text ≡ None → bad_form (dotted renames text) ≡ None
+  pub strings : (text : Text) → bad_form text ≡ None → bad_form (renamed_string renames text) ≡ None
   pub descriptors : (text : Text) → bad_form text ≡ None → bad_form (desc renames text) ≡ None
   pub signatures : (kind : SignatureKind) (text : Text) → bad_form text ≡ None → bad_form (sig renames kind text) ≡ None
 

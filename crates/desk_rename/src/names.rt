@@ -2,7 +2,8 @@
 
 ghost use Rattle.std.specs.Prelude.{◌≡◌, ◌++◌, IfOk, OnOk, MatchOption};
 ghost use Rattle.desk_base.specs.Names.{dot, slash};
-ghost use Rattle.desk_rules.specs.Images.{IsImage, dotted};
+ghost use Rattle.desk_packages.specs.Keys.{byte_of};
+ghost use Rattle.desk_rules.specs.Images.{IsImage, dotted, package_written};
 ghost use Rattle.desk_rules.specs.RuleSets.{IsRuleSet, PackagesStay, DottedStay, DottedKeepForm};
 ghost use Rattle.desk_rename.specs.Fronts.{IsExchange};
 ghost use Rattle.desk_rename.specs.Images.{package_image, class_image};
@@ -14,18 +15,18 @@ use desk_packages::front_end;
 use desk_rules::{Front, RuleSet, Separator};
 use std::alloc::Global;
 
-/// What is exchanged of a package that is written with `/`; none where its image is the package
-/// itself.
-fn package_front<'r>(rules: &'r RuleSet, text: &[u8]) -> Option<Front<'r>>
+/// What is exchanged of a package that is written with a separator; none where its image is the
+/// package itself.
+pub fn package_front<'r>(rules: &'r RuleSet, text: &[u8], separator: Separator) -> Option<Front<'r>>
     ensures front { MatchOption result
-        (package_image rules.now.renames text.now ≡ text.now)
-        (λ front. IsExchange slash text.now (package_image rules.now.renames text.now) front.taken front.segments.now) }
+        (package_written (byte_of separator) rules.now.renames text.now ≡ text.now)
+        (λ front. IsExchange (byte_of separator) text.now (package_written (byte_of separator) rules.now.renames text.now) front.taken front.segments.now) }
     ensures settled { IsRuleSet rules.now }
     ensures packages_stay { PackagesStay rules.now.renames }
     ensures dotted_stay { DottedStay rules.now.renames }
     ensures dotted_keep_form { DottedKeepForm rules.now.renames }
 {
-    rules.package(text, Separator::Slash)
+    rules.package(text, separator)
 }
 
 /// What is exchanged of a dotted name; none where its image is the text itself.
@@ -70,7 +71,7 @@ pub fn rename_package(alloc: Global, rules: &RuleSet, text: &[u8]) -> Result<Opt
     ensures image { IfOk result (IsImage text.now (package_image rules.now.renames text.now)) }
     ensures settled { IsRuleSet rules.now }
 {
-    match package_front(rules, text) {
+    match package_front(rules, text, Separator::Slash) {
         None => Ok(None),
         Some(front) => Ok(Some(exchanged(alloc, text, &front, b'/')?)),
     }
@@ -100,7 +101,7 @@ pub fn append_package(out: &mut Text, rules: &RuleSet, text: &[u8]) -> Result<()
     ensures dotted_stay { DottedStay rules.now.renames }
     ensures dotted_keep_form { DottedKeepForm rules.now.renames }
 {
-    match package_front(rules, text) {
+    match package_front(rules, text, Separator::Slash) {
         None => out.append(text),
         Some(front) => append_exchanged(out, text, &front, b'/'),
     }

@@ -9,9 +9,9 @@ use Rattle.desk_properties.specs.declared.PropFault.TheVariants.{NotUtf8, Escape
 use Rattle.desk_rules.specs.declared.ChainKind.TheVariants.{RenameThenRename}
 use Rattle.desk_rules.specs.declared.RuleFault.TheVariants.{NoRenames, Properties, BadKey, BadValue, MissingText, Chain}
 use Rattle.desk_ledger.specs.declared.keeper.Header.{Header}
-use Rattle.desk_report.specs.declared.lines.Detail.TheVariants.{Class, Service, Copy}
+use Rattle.desk_report.specs.declared.lines.Detail.TheVariants.{Class, Service, Manifest, Texts, Copy}
 use Rattle.desk_report.specs.declared.lines.Line.TheVariants.{Written, Kept, Refused}
-use Rattle.desk_report.specs.declared.lines.Reason.TheVariants.{Malformed, Overlong, PoolFull, Twins, BadLine, NotBuilt}
+use Rattle.desk_report.specs.declared.lines.Reason.TheVariants.{Malformed, Overlong, PoolFull, Twins, BadLine, Unsettled}
 use Rattle.desk_base.specs.declared.faults.FaultKind.TheVariants as kinds
 use Rattle.desk_report.specs.declared.status.LimitKind.TheVariants.{Files, PathLength, FileSize, Sum, RuleFiles, RuleSize}
 use Rattle.desk_report.specs.declared.status.Status.TheVariants.{Done, Refusals, Memory, FolderFault, LedgerFault, OutputFault, Usage, NestedRoots, BadRules, Limit, PathClash, OtherRun}
@@ -65,8 +65,17 @@ twins_line : line_text (Refused (codes "A.class") (Twins 95 103)) ≡ codes "ref
 unfolding digits
 twins_line = refl
 
-not_built_line : line_text (Refused (codes "A.class") NotBuilt) ≡ codes "refused A.class not-built\n"
-not_built_line = refl
+unsettled_line : line_text (Refused (codes "web.xml") (Unsettled 0)) ≡ codes "refused web.xml unsettled at=0\n"
+unfolding digits
+unsettled_line = refl
+
+written_manifest : line_text (Written (codes "META-INF/MANIFEST.MF") (codes "META-INF/MANIFEST.MF") (Manifest 4)) ≡ codes "written META-INF/MANIFEST.MF META-INF/MANIFEST.MF manifest changed=4\n"
+unfolding digits
+written_manifest = refl
+
+written_text : line_text (Written (codes "web.xml") (codes "web.xml") (Texts 2)) ≡ codes "written web.xml web.xml text changed=2\n"
+unfolding digits
+written_text = refl
 
 total_line : summary_text (record { files = 5001; written = 5000; kept = 1; refused = 0; renamed = 25000; added = 18446744073709551615 })
     ≡ codes "total files=5001 written=5000 kept=1 refused=0 renamed=25000 added=18446744073709551615\n"
@@ -93,7 +102,7 @@ fault_12 = refl
 fault_13 : fault_text OutputFault ≡ codes "migrate: 13 output fault\n"
 fault_13 = refl
 
-fault_20 : fault_text Usage ≡ codes "migrate: 20 usage: migrate run --rules R --from A --to B --ledger L [--workers N]\n"
+fault_20 : fault_text Usage ≡ codes "migrate: 20 usage: migrate run --rules R --from A --to B --ledger L [--workers N] or migrate generate --count N [--workers N]\n"
 fault_20 = refl
 
 fault_21 : fault_text (NestedRoots (codes "in") (codes "in/x")) ≡ codes "migrate: 21 nested roots in in/x\n"

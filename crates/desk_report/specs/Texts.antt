@@ -5,11 +5,11 @@ use Rattle.desk_base.specs.Shown.{shown}
 use Rattle.hex.specs.Hex.{encode_lower}
 use Rattle.desk_ledger.specs.declared.keeper.Header.{Header}
 use Rattle.desk_report.specs.declared.lines.Detail.{Detail}
-use Rattle.desk_report.specs.declared.lines.Detail.TheVariants.{Class, Service, Copy}
+use Rattle.desk_report.specs.declared.lines.Detail.TheVariants.{Class, Service, Manifest, Texts, Copy}
 use Rattle.desk_report.specs.declared.lines.Line.{Line}
 use Rattle.desk_report.specs.declared.lines.Line.TheVariants.{Written, Kept, Refused}
 use Rattle.desk_report.specs.declared.lines.Reason.{Reason}
-use Rattle.desk_report.specs.declared.lines.Reason.TheVariants.{Malformed, Overlong, PoolFull, Twins, BadLine, NotBuilt}
+use Rattle.desk_report.specs.declared.lines.Reason.TheVariants.{Malformed, Overlong, PoolFull, Twins, BadLine, Unsettled}
 use Rattle.desk_report.specs.declared.lines.Summary.{Summary}
 use Rattle.desk_report.specs.declared.status.Status.{Status}
 use Rattle.desk_report.specs.declared.status.Status.TheVariants.{Done, Refusals, Memory, FolderFault, LedgerFault, OutputFault, Usage, NestedRoots, BadRules, Limit, PathClash, OtherRun}
@@ -24,6 +24,8 @@ abbrev pub detail_pieces : Detail → List Text
 detail_pieces (Class renamed added odd links) =
     codes " class renamed=" ∷ decimal renamed ∷ codes " added=" ∷ decimal added ∷ codes " odd=" ∷ decimal odd ∷ codes " links=" ∷ decimal links ∷ codes "\n" ∷ []
 detail_pieces (Service changed) = codes " service changed=" ∷ decimal changed ∷ codes "\n" ∷ []
+detail_pieces (Manifest changed) = codes " manifest changed=" ∷ decimal changed ∷ codes "\n" ∷ []
+detail_pieces (Texts changed) = codes " text changed=" ∷ decimal changed ∷ codes "\n" ∷ []
 detail_pieces Copy = codes " copy\n" ∷ []
 
 -- why a file was refused
@@ -33,7 +35,7 @@ reason_pieces (Overlong index length) = codes " overlong index=" ∷ decimal ind
 reason_pieces (PoolFull count needed) = codes " pool-full count=" ∷ decimal count ∷ codes " needed=" ∷ decimal needed ∷ codes "\n" ∷ []
 reason_pieces (Twins first second) = codes " twins first=" ∷ decimal first ∷ codes " second=" ∷ decimal second ∷ codes "\n" ∷ []
 reason_pieces (BadLine at) = codes " bad-line at=" ∷ decimal at ∷ codes "\n" ∷ []
-reason_pieces NotBuilt = codes " not-built\n" ∷ []
+reason_pieces (Unsettled at) = codes " unsettled at=" ∷ decimal at ∷ codes "\n" ∷ []
 
 abbrev pub line_pieces : Line → List Text
 line_pieces (Written path target detail) = codes "written " ∷ shown path ∷ codes " " ∷ shown target ∷ detail_pieces detail
@@ -75,7 +77,7 @@ fault_pieces Memory = codes "migrate: 10 out of memory\n" ∷ []
 fault_pieces (FolderFault done) = codes "migrate: 11 folder fault done=" ∷ decimal done ∷ codes "\n" ∷ []
 fault_pieces (LedgerFault done) = codes "migrate: 12 ledger fault done=" ∷ decimal done ∷ codes "\n" ∷ []
 fault_pieces OutputFault = codes "migrate: 13 output fault\n" ∷ []
-fault_pieces Usage = codes "migrate: 20 usage: migrate run --rules R --from A --to B --ledger L [--workers N]\n" ∷ []
+fault_pieces Usage = codes "migrate: 20 usage: migrate run --rules R --from A --to B --ledger L [--workers N] or migrate generate --count N [--workers N]\n" ∷ []
 fault_pieces (NestedRoots first second) = pair_pieces (codes "migrate: 21 nested roots ") first second
 fault_pieces (BadRules fault) = rule_fault_pieces fault
 fault_pieces (Limit kind path) = codes "migrate: 23 limit " ∷ limit_name kind ∷ codes " " ∷ shown path ∷ codes "\n" ∷ []

@@ -1,6 +1,6 @@
 //! The lines of the report.
 
-ghost use Rattle.std.specs.Prelude.{◌≡◌, ◌≤◌, length, OnOk, OnErr};
+ghost use Rattle.std.specs.Prelude.{◌≡◌, ◌≤◌, ◌∷◌, [], codes, decimal, length, OnOk, OnErr};
 ghost use Rattle.desk_base.specs.Counts.{Rose};
 ghost use Rattle.desk_report.specs.Written.{writing, WritesFront};
 ghost use Rattle.desk_report.specs.Joined.{joined};
@@ -27,8 +27,28 @@ pub enum Detail {
     Service {
         changed: u32,
     },
+    /// A manifest, and how many of its headers changed.
+    Manifest {
+        changed: u32,
+    },
+    /// A file with text rules, and how many places of it changed.
+    Texts {
+        changed: u32,
+    },
     /// The source's bytes as they are.
     Copy,
+}
+
+/// The pieces of how many parts of a file changed, behind what it is.
+fn changed_pieces<'a>(front: &'a [u8], changed: u32) -> Pieces<'a>
+    ensures text { pieces_text result ≡ joined (front.now ∷ decimal changed ∷ codes "\n" ∷ []) }
+    ensures few { length result ≤ 3 }
+{
+    Pieces::of(&[
+        Piece::Plain(front),
+        Piece::Number(changed as u64),
+        Piece::Plain(b"\n"),
+    ])
 }
 
 impl Detail {
@@ -54,11 +74,9 @@ impl Detail {
                 Piece::Number(links as u64),
                 Piece::Plain(b"\n"),
             ]),
-            Detail::Service { changed } => Pieces::of(&[
-                Piece::Plain(b" service changed="),
-                Piece::Number(changed as u64),
-                Piece::Plain(b"\n"),
-            ]),
+            Detail::Service { changed } => changed_pieces(b" service changed=", changed),
+            Detail::Manifest { changed } => changed_pieces(b" manifest changed=", changed),
+            Detail::Texts { changed } => changed_pieces(b" text changed=", changed),
             Detail::Copy => Pieces::plain(b" copy\n"),
         }
     }
@@ -78,8 +96,9 @@ pub enum Reason {
     Twins { first: u32, second: u32 },
     /// A line that isn't of the file's form; `at` is the offset of its first byte from the start.
     BadLine { at: u32 },
-    /// The file is of a kind that isn't built.
-    NotBuilt,
+    /// A text that a second migration would change again; `at` is the offset, from the start of the image, of the first
+    /// place at which it would.
+    Unsettled { at: u64 },
 }
 
 /// The line of one file of the source, by its relative path and its target.

@@ -85,7 +85,11 @@ impl Reason {
                 Piece::Number(at as u64),
                 Piece::Plain(b"\n"),
             ]),
-            Reason::NotBuilt => Pieces::plain(b" not-built\n"),
+            Reason::Unsettled { at } => Pieces::of(&[
+                Piece::Plain(b" unsettled at="),
+                Piece::Number(at),
+                Piece::Plain(b"\n"),
+            ]),
         }
     }
 }

@@ -15,7 +15,7 @@ use Rattle.desk_base.specs.declared.referents.Form.TheVariants as forms
 use Rattle.desk_format.specs.Resolved.{image}
 use Rattle.desk_laws.specs.Classes.{IsSettled}
 use Rattle.desk_laws.specs.NewPools.{KeepsForms}
-use Rattle.desk_rules.specs.Images.{dotted, str}
+use Rattle.desk_rules.specs.Images.{renamed_string, str}
 use Rattle.desk_rules.specs.Rules.{Rules}
 use Rattle.desk_rules.specs.RuleSets.{IsRuleSet}
 use Rattle.desk_rules.proofs.Laws.{packages_stay, strings_stay}
@@ -67,8 +67,8 @@ keeps rules is _ _ t g h = absurd cc
 
 string_utf8 : (rules : Rules) → IsRuleSet rules → (t : Text) → bad_form t ≡ None → bad_form (str rules t) ≡ None
 string_utf8 rules is t h =
-    elim (finite.get rules.direct t) as (λ (o : Option Text). finite.get rules.direct t ≡ o → bad_form (unwrap_or o (dotted rules.renames t)) ≡ None) [
-      | None ↦ λ q. (utf8_laws rules.renames is.utf8).dotted_names t h
+    elim (finite.get rules.direct t) as (λ (o : Option Text). finite.get rules.direct t ≡ o → bad_form (unwrap_or o (renamed_string rules.renames t)) ≡ None) [
+      | None ↦ λ q. (utf8_laws rules.renames is.utf8).strings t h
       | Some value ↦ λ q. is.direct_utf8 t value q
     ] refl
 

@@ -14,6 +14,7 @@ pub mod Updates
 pub mod FrontLaws
 pub mod DottedBytes
 pub mod TextTurns
+pub mod LoadedTexts
 pub mod TextBuilds
 pub mod Utf8Rules
 pub mod Chains

@@ -5,16 +5,17 @@ use Rattle.std.proofs.lemmas.Bool.{and_from, cases_Bool}
 use Rattle.std.proofs.lemmas.Bool.Decides.{Decides-eqb}
 use Rattle.std.proofs.lemmas.List.{append-nil}
 use Rattle.std.proofs.lemmas.Slice.Eq.{ends_is}
-use Rattle.desk_base.specs.Names.{Text, segments, dot, is_dotted}
+use Rattle.desk_base.specs.Names.{Text, segments, written, dot, is_dotted}
 use Rattle.desk_properties.specs.Properties.{Entry}
 use Rattle.desk_lines.specs.Blanks.{trimmed_end}
-use Rattle.desk_entries.specs.Forms.{is_below, source_text, is_stored}
+use Rattle.desk_entries.specs.Forms.{is_below, reach_of, source_text, is_stored}
 use Rattle.desk_entries.specs.Entries.{rename_of}
 use Rattle.desk_entries.specs.declared.faults.EntryFault.{EntryFault}
 use Rattle.desk_entries.specs.declared.faults.EntryFault.TheVariants.{Key, Value}
 use Rattle.desk_entries.specs.declared.renames.Rename.{Rename}
+use Rattle.desk_packages.specs.declared.Reach.TheVariants.{Exact, Below}
 use Rattle.desk_packages.specs.Renames.{Renaming, key_of, is_rename}
-use Rattle.desk_packages.specs.Keys.{renaming, wanted_tail}
+use Rattle.desk_packages.specs.Keys.{renaming, wanted_tail, goes_below}
 use Rattle.desk_rules.specs.RuleFiles.{each, with_first, rename_entry, renaming_from, renames_of, in_order}
 use Rattle.desk_rules.specs.Files.{renames_name}
 use Rattle.desk_rules.specs.declared.RuleFault.{RuleFault}
@@ -36,11 +37,11 @@ pub record Read (key value : Text) (r : Rename) : Type 0 where
   pub source : is_dotted (source_text key) ≡ true
   pub target : is_dotted (trimmed_end value) ≡ true
   pub stored : is_stored (trimmed_end value) ≡ true
-  pub is : record { source = segments dot (source_text key); target = segments dot (trimmed_end value); below = is_below key } ≡ r
+  pub is : record { source = segments dot (source_text key); target = segments dot (trimmed_end value); reach = reach_of key } ≡ r
 
 pub read_parts : (key value : Text) (r : Rename) → rename_of key value ≡ Ok r → Read key value r
 read_parts key value r h =
-    let R : Rename = record { source = segments dot (source_text key); target = segments dot (trimmed_end value); below = is_below key } in
+    let R : Rename = record { source = segments dot (source_text key); target = segments dot (trimmed_end value); reach = reach_of key } in
     elim (is_dotted (source_text key)) as (λ (a : Bool). is_dotted (source_text key) ≡ a → cond (not a) (Err Key) (cond (not (is_dotted (trimmed_end value)) || not (is_stored (trimmed_end value))) (Err Value) (Ok R)) ≡ Ok r → Read key value r) [
       | false ↦ λ p k. absurd cc
       | true ↦ λ p k.
@@ -48,10 +49,15 @@ read_parts key value r h =
           record { source = p; target = fine.first; stored = fine.second; is = fine.same }
     ] refl h
 
-pub entry_formed : (key value : Text) (r : Rename) → rename_of key value ≡ Ok r → is_rename (renaming r.source r.target r.below) ≡ true
+pub entry_formed : (key value : Text) (r : Rename) → rename_of key value ≡ Ok r → is_rename (renaming r.source r.target (goes_below r.reach)) ≡ true
 entry_formed key value r h =
     let read = read_parts key value r h in
-    ap (λ (x : Rename). is_rename (renaming x.source x.target x.below)) (sym read.is) ∙ and_from _ _ read.source read.target
+    ap (λ (x : Rename). is_rename (renaming x.source x.target (goes_below x.reach))) (sym read.is) ∙ and_from _ _ read.source read.target
+
+-- what a reach says of the packages below
+reach_told : (below : Bool) → goes_below (cond below Below Exact) ≡ below
+reach_told true = refl
+reach_told false = refl
 
 -- a key is its package, and what stands behind it
 key_whole : (key : Text) → source_text key ++ wanted_tail (is_below key) ≡ key
@@ -60,15 +66,16 @@ key_whole key = elim (cases_Bool (is_below key)) [
   | inr e ↦ ap (λ (b : Bool). cond b (take (length key - 2) key) key ++ wanted_tail b) e ∙ append-nil key
 ]
 
-pub entry_key : (key value : Text) (r : Rename) → rename_of key value ≡ Ok r → key_of (renaming r.source r.target r.below) ≡ key
+pub entry_key : (key value : Text) (r : Rename) → rename_of key value ≡ Ok r → key_of (renaming r.source r.target (goes_below r.reach)) ≡ key
 entry_key key value r h =
     let read = read_parts key value r h in
-    ap (λ (x : Rename). key_of (renaming x.source x.target x.below)) (sym read.is)
+    ap (λ (x : Rename). key_of (renaming x.source x.target (goes_below x.reach))) (sym read.is)
+    ∙ ap (λ (b : Bool). written dot (segments dot (source_text key)) ++ wanted_tail b) (reach_told (is_below key))
     ∙ ap (λ (t : Text). t ++ wanted_tail (is_below key)) (written-segments dot (source_text key)) ∙ key_whole key
 
 renaming_formed : (key value : Text) (o : Result Rename EntryFault) (r : Renaming) → rename_of key value ≡ o → renaming_from o ≡ Ok r → is_rename r ≡ true
 renaming_formed key value (Ok x) r q h =
-    let same : renaming x.source x.target x.below ≡ r = cc in
+    let same : renaming x.source x.target (goes_below x.reach) ≡ r = cc in
     ap is_rename (sym same) ∙ entry_formed key value x q
 renaming_formed key value (Err fault) r q h = absurd cc
 

@@ -18,7 +18,7 @@ use Rattle.desk_entries.specs.declared.renames.Rename.{Rename}
 use Rattle.desk_rules.specs.Files.{Files, renames_name, direct_name}
 use Rattle.desk_packages.specs.Renames.{Renaming}
 use Rattle.desk_rules.specs.Settled.{Exchange}
-use Rattle.desk_packages.specs.Keys.{renaming}
+use Rattle.desk_packages.specs.Keys.{renaming, goes_below}
 use Rattle.desk_rules.specs.RuleSets.{HaveUtf8Targets, HaveUtf8Texts}
 use Rattle.desk_rules.specs.RuleFiles.{◌>>=◌, entries_in, in_order, each, with_first, all_in, renames_in, renames_of, rename_entry, renaming_from, direct_entry, where_ok}
 use Rattle.desk_rules.specs.declared.RuleFault.{RuleFault}
@@ -63,7 +63,7 @@ entry_utf8 key value r h =
 
 renaming_utf8 : (key value : Text) (o : Result Rename EntryFault) (r : Renaming) → rename_of key value ≡ o → renaming_from o ≡ Ok r → bad_form (written dot r.target) ≡ None
 renaming_utf8 key value (Ok x) r q h =
-    let same : renaming x.source x.target x.below ≡ r = cc in
+    let same : renaming x.source x.target (goes_below x.reach) ≡ r = cc in
     ap (λ (s : Renaming). bad_form (written dot s.target)) (sym same) ∙ entry_utf8 key value x q
 renaming_utf8 key value (Err fault) r q h = absurd cc
 

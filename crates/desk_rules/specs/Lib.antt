@@ -7,4 +7,5 @@ pub mod Builds
 pub mod Reads
 pub mod RuleFiles
 pub mod TextFiles
+pub mod LoadedTexts
 pub mod Sides

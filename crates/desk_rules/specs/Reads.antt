@@ -10,12 +10,11 @@ use Rattle.desk_entries.specs.Entries.{rename_of, versions_of, update_of, string
 use Rattle.desk_entries.specs.declared.faults.EntryFault.{EntryFault}
 use Rattle.desk_entries.specs.declared.faults.EntryFault.TheVariants.{Key, Value}
 use Rattle.desk_entries.specs.declared.renames.Rename.{Rename}
-use Rattle.desk_entries.specs.declared.patterns.Mark.{Mark}
-use Rattle.desk_entries.specs.declared.patterns.Mark.TheVariants.{Include, Exclude}
-use Rattle.desk_patterns.specs.Selections.{Choice}
+use Rattle.desk_patterns.specs.Selections.{Choice, is_exclude}
+use Rattle.desk_patterns.specs.declared.selections.Mark.{Mark}
 use Rattle.desk_rules.specs.Files.{Files, renames_name}
 use Rattle.desk_packages.specs.Renames.{Renaming}
-use Rattle.desk_packages.specs.Keys.{renaming}
+use Rattle.desk_packages.specs.Keys.{renaming, goes_below}
 use Rattle.desk_rules.specs.Rules.{Rules, Versions}
 use Rattle.desk_rules.specs.Settled.{Exchange, BundleUpdate, Chain as FoundChain, first_chain}
 use Rattle.desk_rules.specs.declared.RuleFault.{RuleFault}
@@ -60,7 +59,7 @@ each file read (e ∷ es) = with_first file e.0 (read e.0 e.1) (each file read e
 
 -- what an entry says, in the terms of rules
 abbrev pub renaming_from : Result Rename EntryFault → Result Renaming EntryFault
-renaming_from (Ok r) = Ok (renaming r.source r.target r.below)
+renaming_from (Ok r) = Ok (renaming r.source r.target (goes_below r.reach))
 renaming_from (Err fault) = Err fault
 
 abbrev pub rename_entry : Text → Text → Result Renaming EntryFault
@@ -87,8 +86,7 @@ direct_entry key value = where_ok (string_check key value) (key, value)
 
 -- a pattern of the selection, and whether it excludes
 abbrev pub choice_from : Text → Result Mark EntryFault → Result Choice EntryFault
-choice_from key (Ok Include) = Ok (key, false)
-choice_from key (Ok Exclude) = Ok (key, true)
+choice_from key (Ok mark) = Ok (key, is_exclude mark)
 choice_from key (Err fault) = Err fault
 
 abbrev pub selection_entry : Text → Text → Result Choice EntryFault

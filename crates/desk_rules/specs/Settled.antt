@@ -1,13 +1,13 @@
--- No image is changed again: the five kinds of chain.
+-- No image is changed again: the nine kinds of chain.
 use Rattle.std.specs.Prelude.{◌≡◌, ℕ, Bool, not, ◌&&◌, ◌||◌, List, [], ◌∷◌, Option, Some, None}
 use Rattle.std.specs.List.{find}
 use Rattle.std.specs.Str.{bytes_eq}
 use Rattle.std.specs.FinMap as finite
-use Rattle.desk_base.specs.Names.{Text, same, begins_with, segments, dot, is_dotted, front}
+use Rattle.desk_base.specs.Names.{Text, same, begins_with, segments, written, dot, is_dotted, front}
 use Rattle.desk_packages.specs.Renames.{Renaming, changes, in_scope, in_reach, key_of}
 use Rattle.desk_rules.specs.Rules.{Rules, Update}
 use Rattle.desk_rules.specs.declared.ChainKind.{ChainKind}
-use Rattle.desk_rules.specs.declared.ChainKind.TheVariants.{RenameThenRename, RenameThenDirect, DirectThenDirect, DirectThenRename, BundleThenBundle}
+use Rattle.desk_rules.specs.declared.ChainKind.TheVariants.{RenameThenRename, RenameThenDirect, DirectThenDirect, DirectThenRename, BundleThenBundle, PackageThenName, NameThenPackage, PackageThenDirect, DirectThenPackage}
 
 -- whether a package lies in the reach of the first and in the scope of the second
 abbrev pub meets : Renaming → Renaming → Bool
@@ -56,6 +56,24 @@ direct_then_rename e r = alters e && changes r && front_in_scope r e.1
 abbrev pub update_then_update : BundleUpdate → BundleUpdate → Bool
 update_then_update u v = renames_bundle u && renames_bundle v && bytes_eq u.1.name v.0
 
+-- A string that is the source of a rename changes as a package, and is looked at as a dotted name or as a direct source then.
+
+-- kind 6: a changing rename gives a package that, as a dotted name, a changing rename changes
+abbrev pub package_then_name : Renaming → Renaming → Bool
+package_then_name r s = changes r && changes s && in_scope s (front r.target)
+
+-- kind 7: a changing rename gives a dotted name that is the source of a changing rename
+abbrev pub name_then_package : Renaming → Renaming → Bool
+name_then_package r s = changes r && changes s && in_reach r (front s.source)
+
+-- kind 8: a changing rename gives a package that, written with dots, a changing direct rule changes
+abbrev pub package_then_direct : Renaming → Exchange → Bool
+package_then_direct r e = changes r && alters e && bytes_eq (written dot r.target) e.0
+
+-- kind 9: a changing direct rule gives the source of a changing rename, written with dots
+abbrev pub direct_then_package : Exchange → Renaming → Bool
+direct_then_package e r = alters e && changes r && bytes_eq e.1 (written dot r.source)
+
 -- the first pair of which a relation holds: by the place of its first part, then of its second
 abbrev pub first_pair : {A B : Type 0} → (A → B → Bool) → List A → List B → Option (A × B)
 first_pair R [] ys = None
@@ -89,6 +107,10 @@ chain_number RenameThenDirect = 2
 chain_number DirectThenDirect = 3
 chain_number DirectThenRename = 4
 chain_number BundleThenBundle = 5
+chain_number PackageThenName = 6
+chain_number NameThenPackage = 7
+chain_number PackageThenDirect = 8
+chain_number DirectThenPackage = 9
 
 -- the first chain of a kind: by the first key, then by the second
 abbrev pub first_chain_of : ChainKind → List Renaming → List Exchange → List BundleUpdate → Option Chain
@@ -97,6 +119,18 @@ first_chain_of RenameThenDirect renames direct bundles = chain_of RenameThenDire
 first_chain_of DirectThenDirect renames direct bundles = chain_of DirectThenDirect old_text old_text (first_pair one_then_another direct direct)
 first_chain_of DirectThenRename renames direct bundles = chain_of DirectThenRename old_text key_of (first_pair direct_then_rename direct renames)
 first_chain_of BundleThenBundle renames direct bundles = chain_of BundleThenBundle old_name old_name (first_pair update_then_update bundles bundles)
+first_chain_of PackageThenName renames direct bundles = chain_of PackageThenName key_of key_of (first_pair package_then_name renames renames)
+first_chain_of NameThenPackage renames direct bundles = chain_of NameThenPackage key_of key_of (first_pair name_then_package renames renames)
+first_chain_of PackageThenDirect renames direct bundles = chain_of PackageThenDirect key_of old_text (first_pair package_then_direct renames direct)
+first_chain_of DirectThenPackage renames direct bundles = chain_of DirectThenPackage old_text key_of (first_pair direct_then_package direct renames)
+
+-- the first chain of the kinds in which a string is a package
+abbrev pub first_package_chain : List Renaming → List Exchange → List BundleUpdate → Option Chain
+first_package_chain renames direct bundles =
+    or_chain (first_chain_of PackageThenName renames direct bundles)
+    (or_chain (first_chain_of NameThenPackage renames direct bundles)
+    (or_chain (first_chain_of PackageThenDirect renames direct bundles)
+    (first_chain_of DirectThenPackage renames direct bundles)))
 
 -- the first chain among renames, direct rules and bundle updates: by its kind, then by the first key, then by the second
 abbrev pub first_chain_in : List Renaming → List Exchange → List BundleUpdate → Option Chain
@@ -105,7 +139,8 @@ first_chain_in renames direct bundles =
     (or_chain (first_chain_of RenameThenDirect renames direct bundles)
     (or_chain (first_chain_of DirectThenDirect renames direct bundles)
     (or_chain (first_chain_of DirectThenRename renames direct bundles)
-    (first_chain_of BundleThenBundle renames direct bundles))))
+    (or_chain (first_chain_of BundleThenBundle renames direct bundles)
+    (first_package_chain renames direct bundles)))))
 
 abbrev pub chain_at : ChainKind → Text → Text → Chain
 chain_at kind first second = record { kind = kind; first = first; second = second }

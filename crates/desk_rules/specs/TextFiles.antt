@@ -85,3 +85,7 @@ texts_in files = do
   names ← named_all files (in_order entries)
   checked ← checked_texts files (by_name names)
   pattern_texts files entries
+
+-- the files that the patterns name have no fault, and what is left is to put their rules beside the patterns
+pub record AfterCheck (files : Files) : Type 0 where
+  pub read : (entries : List Entry) → entries_in files text_name ≡ Ok entries → texts_in files ≡ pattern_texts files entries

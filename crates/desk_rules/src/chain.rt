@@ -3,10 +3,10 @@
 ghost use Rattle.std.specs.Prelude.{◌≡◌, ◌==◌, ◌&&◌, ◌++◌, ◌∷◌, [], None, Some, MatchOption};
 ghost use Rattle.std.specs.Option.{option_copied};
 ghost use Rattle.std.specs.List.{find, filter, list_any, starts_with};
-ghost use Rattle.desk_base.specs.Names.{is_whole, written, dot};
-ghost use Rattle.desk_packages.specs.Renames.{changes, key_of};
+ghost use Rattle.desk_base.specs.Names.{is_whole, written, dot, front};
+ghost use Rattle.desk_packages.specs.Renames.{changes, in_reach, in_scope, key_of};
 ghost use Rattle.desk_packages.specs.Keys.{goes_on, IsTable, RiseBy};
-ghost use Rattle.desk_rules.specs.Settled.{meets, rename_then_rename, rename_then_direct, direct_then_rename, one_then_another, update_then_update, first_pair, front_in_reach, front_in_scope, chain_of, first_chain_of, first_chain_in, chain_at};
+ghost use Rattle.desk_rules.specs.Settled.{meets, rename_then_rename, rename_then_direct, direct_then_rename, one_then_another, update_then_update, package_then_name, name_then_package, package_then_direct, direct_then_package, first_pair, front_in_reach, front_in_scope, chain_of, first_chain_of, first_package_chain, first_chain_in, chain_at};
 
 use crate::ChainKind;
 use crate::keyed::{BundleRule, DirectRule};
@@ -60,6 +60,22 @@ fn front_in_scope(rename: &Rename, text: &[u8]) -> bool
     is_dotted(text) && goes_on(rename.dotted_source(), rename.is_below(), text)
 }
 
+/// Whether the front of another rename's target lies in the scope of a rename.
+fn target_in_scope(rename: &Rename, other: &Rename) -> bool
+    ensures { result ≡ in_scope rename.now (front other.now.target) }
+{
+    let _ = other.is_formed();
+    front_in_scope(rename, other.dotted_target())
+}
+
+/// Whether the front of another rename's source lies in the reach of a rename.
+fn source_in_reach(rename: &Rename, other: &Rename) -> bool
+    ensures { result ≡ in_reach rename.now (front other.now.source) }
+{
+    let _ = other.is_formed();
+    front_in_reach(rename, other.dotted_source())
+}
+
 fn rename_and_direct(first: &Rename, second: &DirectRule) -> bool
     ensures { result ≡ rename_then_direct first.now second.now }
 {
@@ -84,8 +100,41 @@ fn bundle_and_bundle(first: &BundleRule, second: &BundleRule) -> bool
     first.changes() && second.changes() && first.name() == second.key()
 }
 
-/// What may come first in a chain: what it gives may be changed by a second rule.
-trait LeadsTo<B: Keyed>: Keyed {
+fn package_and_name(first: &Rename, second: &Rename) -> bool
+    ensures { result ≡ package_then_name first.now second.now }
+{
+    first.changes() && second.changes() && target_in_scope(second, first)
+}
+
+fn name_and_package(first: &Rename, second: &Rename) -> bool
+    ensures { result ≡ name_then_package first.now second.now }
+{
+    first.changes() && second.changes() && source_in_reach(first, second)
+}
+
+fn package_and_direct(first: &Rename, second: &DirectRule) -> bool
+    ensures { result ≡ package_then_direct first.now second.now }
+{
+    first.changes() && second.changes() && first.dotted_target() == second.key()
+}
+
+fn direct_and_package(first: &DirectRule, second: &Rename) -> bool
+    ensures { result ≡ direct_then_package first.now second.now }
+{
+    first.changes() && second.changes() && first.target() == second.dotted_source()
+}
+
+/// What the first of two rules gives is changed as what it is: a package as a package, a name as a name.
+struct AsGiven;
+
+/// The package that a rename gives is a dotted name or a text for the second rule.
+struct PackageAsText;
+
+/// A text that the first rule gives is a package for the second.
+struct TextAsPackage;
+
+/// What may come first in a chain: what it gives may be changed by a second rule, which takes it for a package or for a text.
+trait LeadsTo<B: Keyed, Taken>: Keyed {
     ghost use Rattle.std.specs.Prelude.{Bool, List};
 
     ghost leads: { Self → B → Bool };
@@ -138,7 +187,34 @@ fn rename_after_direct<'r>(first: &DirectRule, renames: &'r [Rename]) -> Option<
         .find(|second| direct_and_rename(first, second))
 }
 
-impl LeadsTo<Rename> for Rename {
+/// The first rename that changes, as a dotted name, the package that this one gives.
+fn rename_after_package<'r>(first: &Rename, renames: &'r [Rename]) -> Option<&'r Rename>
+    ensures { option_copied result ≡ find (package_then_name first.now) renames.now }
+{
+    renames
+        .iter()
+        .find(|second| package_and_name(first, second))
+}
+
+/// The first rename whose source is a dotted name that this one gives.
+fn rename_after_name<'r>(first: &Rename, renames: &'r [Rename]) -> Option<&'r Rename>
+    ensures { option_copied result ≡ find (name_then_package first.now) renames.now }
+{
+    renames
+        .iter()
+        .find(|second| name_and_package(first, second))
+}
+
+/// The first rename of the package that this direct rule gives.
+fn package_after_direct<'r>(first: &DirectRule, renames: &'r [Rename]) -> Option<&'r Rename>
+    ensures { option_copied result ≡ find (direct_then_package first.now) renames.now }
+{
+    renames
+        .iter()
+        .find(|second| direct_and_package(first, second))
+}
+
+impl LeadsTo<Rename, AsGiven> for Rename {
     ghost use Rattle.desk_packages.specs.Keys.{IsTable};
     ghost use Rattle.desk_rules.specs.Settled.{rename_then_rename};
 
@@ -159,7 +235,7 @@ impl LeadsTo<Rename> for Rename {
     }
 }
 
-impl LeadsTo<DirectRule> for Rename {
+impl LeadsTo<DirectRule, AsGiven> for Rename {
     ghost use Rattle.desk_packages.specs.Keys.{RiseBy};
     ghost use Rattle.desk_rules.specs.Settled.{rename_then_direct, old_text};
 
@@ -173,7 +249,7 @@ impl LeadsTo<DirectRule> for Rename {
     }
 }
 
-impl LeadsTo<DirectRule> for DirectRule {
+impl LeadsTo<DirectRule, AsGiven> for DirectRule {
     ghost use Rattle.desk_packages.specs.Keys.{RiseBy};
     ghost use Rattle.desk_rules.specs.Settled.{one_then_another, old_text};
 
@@ -189,7 +265,7 @@ impl LeadsTo<DirectRule> for DirectRule {
     }
 }
 
-impl LeadsTo<Rename> for DirectRule {
+impl LeadsTo<Rename, AsGiven> for DirectRule {
     ghost use Rattle.desk_packages.specs.Keys.{IsTable};
     ghost use Rattle.desk_rules.specs.Settled.{direct_then_rename};
 
@@ -212,7 +288,7 @@ impl LeadsTo<Rename> for DirectRule {
     }
 }
 
-impl LeadsTo<BundleRule> for BundleRule {
+impl LeadsTo<BundleRule, AsGiven> for BundleRule {
     ghost use Rattle.desk_packages.specs.Keys.{RiseBy};
     ghost use Rattle.desk_rules.specs.Settled.{update_then_update, old_name};
 
@@ -228,6 +304,80 @@ impl LeadsTo<BundleRule> for BundleRule {
     }
 }
 
+impl LeadsTo<Rename, PackageAsText> for Rename {
+    ghost use Rattle.desk_packages.specs.Keys.{IsTable};
+    ghost use Rattle.desk_rules.specs.Settled.{package_then_name};
+
+    ghost leads = { package_then_name };
+
+    ghost in_order = { IsTable };
+
+    fn second<'r>(&self, rules: &'r [Rename]) -> Option<&'r Rename> {
+        if !self.changes() {
+            return None;
+        }
+        let _ = self.is_formed();
+        let target = self.dotted_target();
+        match changing_for(rules, &target[..front_end(target, b'.')], Separator::Dot) {
+            Some(_) => rename_after_package(self, rules),
+            None => None,
+        }
+    }
+}
+
+impl LeadsTo<Rename, TextAsPackage> for Rename {
+    ghost use Rattle.desk_packages.specs.Keys.{IsTable};
+    ghost use Rattle.desk_rules.specs.Settled.{name_then_package};
+
+    ghost leads = { name_then_package };
+
+    ghost in_order = { IsTable };
+
+    fn second<'r>(&self, rules: &'r [Rename]) -> Option<&'r Rename> {
+        let _ = self.is_formed();
+        rename_after_name(self, rules_under(rules, self.target_start()))
+    }
+}
+
+impl LeadsTo<DirectRule, PackageAsText> for Rename {
+    ghost use Rattle.desk_packages.specs.Keys.{RiseBy};
+    ghost use Rattle.desk_rules.specs.Settled.{package_then_direct, old_text};
+
+    ghost leads = { package_then_direct };
+
+    ghost in_order = { RiseBy old_text };
+
+    fn second<'r>(&self, rules: &'r [DirectRule]) -> Option<&'r DirectRule> {
+        match rule_of(rules, self.dotted_target()) {
+            Some(second) if package_and_direct(self, second) => Some(second),
+            _ => None,
+        }
+    }
+}
+
+impl LeadsTo<Rename, TextAsPackage> for DirectRule {
+    ghost use Rattle.desk_packages.specs.Keys.{IsTable};
+    ghost use Rattle.desk_rules.specs.Settled.{direct_then_package};
+
+    ghost leads = { direct_then_package };
+
+    ghost in_order = { IsTable };
+
+    fn second<'r>(&self, rules: &'r [Rename]) -> Option<&'r Rename> {
+        let text = self.target();
+        if !self.changes() {
+            return None;
+        }
+        if !is_dotted(text) {
+            return None;
+        }
+        match changing_for(rules, text, Separator::Dot) {
+            Some(_) => package_after_direct(self, rules),
+            None => None,
+        }
+    }
+}
+
 /// Two rules, by their keys, of which the second changes what the first gives.
 #[derive(Clone, Copy, Debug)]
 pub(crate) struct Chained<'r> {
@@ -237,7 +387,7 @@ pub(crate) struct Chained<'r> {
 }
 
 /// The first chain of a kind: by the first key, then by the second.
-fn first_between<'r, A: LeadsTo<B>, B: Keyed>(
+fn first_between<'r, Taken, A: LeadsTo<B, Taken>, B: Keyed>(
     kind: ChainKind,
     firsts: &'r [A],
     seconds: &'r [B],
@@ -274,12 +424,44 @@ fn first_of<'r>(
         (λ f. first_chain_of kind renames.now direct.now bundles.now ≡ Some (chain_at f.kind f.first.now f.second.now)) }
 {
     match kind {
-        ChainKind::RenameThenRename => first_between(kind, renames, renames),
-        ChainKind::RenameThenDirect => first_between(kind, renames, direct),
-        ChainKind::DirectThenDirect => first_between(kind, direct, direct),
-        ChainKind::DirectThenRename => first_between(kind, direct, renames),
-        ChainKind::BundleThenBundle => first_between(kind, bundles, bundles),
+        ChainKind::RenameThenRename => first_between::<AsGiven, _, _>(kind, renames, renames),
+        ChainKind::RenameThenDirect => first_between::<AsGiven, _, _>(kind, renames, direct),
+        ChainKind::DirectThenDirect => first_between::<AsGiven, _, _>(kind, direct, direct),
+        ChainKind::DirectThenRename => first_between::<AsGiven, _, _>(kind, direct, renames),
+        ChainKind::BundleThenBundle => first_between::<AsGiven, _, _>(kind, bundles, bundles),
+        ChainKind::PackageThenName => first_between::<PackageAsText, _, _>(kind, renames, renames),
+        ChainKind::NameThenPackage => first_between::<TextAsPackage, _, _>(kind, renames, renames),
+        ChainKind::PackageThenDirect => first_between::<PackageAsText, _, _>(kind, renames, direct),
+        ChainKind::DirectThenPackage => first_between::<TextAsPackage, _, _>(kind, direct, renames),
     }
+}
+
+/// The first chain of the kinds in which a string is a package. It takes no memory.
+fn first_with_packages<'r>(
+    renames: &'r [Rename],
+    direct: &'r [DirectRule],
+    bundles: &'r [BundleRule],
+) -> Option<Chained<'r>>
+    requires renames { IsTable renames.now }
+    requires direct { RiseBy (λ d. d.0) direct.now }
+    requires bundles { RiseBy (λ b. b.0) bundles.now }
+    ensures { MatchOption result
+        (first_package_chain renames.now direct.now bundles.now ≡ None)
+        (λ f. first_package_chain renames.now direct.now bundles.now ≡ Some (chain_at f.kind f.first.now f.second.now)) }
+{
+    let found = first_of(ChainKind::PackageThenName, renames, direct, bundles);
+    if found.is_some() {
+        return found;
+    }
+    let found = first_of(ChainKind::NameThenPackage, renames, direct, bundles);
+    if found.is_some() {
+        return found;
+    }
+    let found = first_of(ChainKind::PackageThenDirect, renames, direct, bundles);
+    if found.is_some() {
+        return found;
+    }
+    first_of(ChainKind::DirectThenPackage, renames, direct, bundles)
 }
 
 /// The first chain by kind, then by the first key, then by the second. It takes no memory.
@@ -311,5 +493,9 @@ pub(crate) fn first_chain<'r>(
     if found.is_some() {
         return found;
     }
-    first_of(ChainKind::BundleThenBundle, renames, direct, bundles)
+    let found = first_of(ChainKind::BundleThenBundle, renames, direct, bundles);
+    if found.is_some() {
+        return found;
+    }
+    first_with_packages(renames, direct, bundles)
 }

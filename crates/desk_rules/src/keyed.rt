@@ -2,12 +2,14 @@
 
 ghost use Rattle.std.specs.Prelude.{◌≡◌, if◌then◌else◌};
 ghost use Rattle.desk_rules.specs.Settled.{alters, renames_bundle};
+ghost use Rattle.desk_patterns.specs.Selections.{is_exclude};
 ghost use Rattle.desk_rules.specs.Sides.{exports};
 
 use crate::Side;
 use desk_base::Text;
 use desk_entries::{Update, Versions};
 use desk_packages::Keyed;
+use desk_patterns::Mark;
 use std::marker::Model;
 
 /// The versions of a new package, where it is imported and where it is exported.
@@ -135,23 +137,23 @@ impl BundleRule {
     }
 }
 
-/// A pattern of paths, and whether it excludes them.
+/// A pattern of paths, and what it says of them.
 #[derive(Debug, Drop)]
 pub(crate) struct SelectionRule {
     pub(crate) pattern: Text,
-    pub(crate) excludes: bool,
+    pub(crate) mark: Mark,
 }
 
 impl Model for SelectionRule {
     ghost use Rattle.std.specs.Coded.{coded×, coded_bool};
-    ghost use Rattle.desk_patterns.specs.Selections.{Choice};
+    ghost use Rattle.desk_patterns.specs.Selections.{Choice, is_exclude};
     ghost use Rattle.desk_rules.specs.Rules.{text_code};
 
     ghost Value = { Choice };
 
     ghost coded = { coded× text_code coded_bool };
 
-    ghost view = { λ r. (r.pattern, r.excludes) };
+    ghost view = { λ r. (r.pattern, is_exclude r.mark) };
 }
 
 impl Keyed for SelectionRule {
@@ -163,10 +165,10 @@ impl Keyed for SelectionRule {
 }
 
 impl SelectionRule {
-    /// Whether the pattern excludes.
-    pub(crate) fn is_exclude(&self) -> bool
-        ensures { result ≡ self.now.1 }
+    /// What the pattern says of the paths that it fits.
+    pub(crate) fn mark(&self) -> Mark
+        ensures { is_exclude result ≡ self.now.1 }
     {
-        self.excludes
+        self.mark
     }
 }

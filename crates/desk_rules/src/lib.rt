@@ -19,7 +19,7 @@ mod texts;
 
 use desk_base::{Memory, Text};
 pub use desk_packages::Separator;
-pub use desk_patterns::{TextHit, TextRules};
+pub use desk_patterns::{PathTexts, TextHit, TextPlace, TextRules};
 pub use desk_properties::PropFault;
 pub use files::RuleFiles;
 pub use rule_set::{BundleUpdate, Front, RuleSet};
@@ -47,6 +47,14 @@ pub enum ChainKind {
     DirectThenRename,
     /// Two bundle updates.
     BundleThenBundle,
+    /// Two renames: the package that the first gives is changed as a dotted name.
+    PackageThenName,
+    /// Two renames: a dotted name that the first gives is changed as a package.
+    NameThenPackage,
+    /// A rename, and a direct string that is the package that it gives.
+    PackageThenDirect,
+    /// A direct string, and a rename of the package that it gives.
+    DirectThenPackage,
 }
 
 impl ChainKind {
@@ -62,6 +70,10 @@ impl ChainKind {
             ChainKind::DirectThenDirect => 3,
             ChainKind::DirectThenRename => 4,
             ChainKind::BundleThenBundle => 5,
+            ChainKind::PackageThenName => 6,
+            ChainKind::NameThenPackage => 7,
+            ChainKind::PackageThenDirect => 8,
+            ChainKind::DirectThenPackage => 9,
         }
     }
 }

@@ -12,9 +12,9 @@ use crate::keyed::{BundleRule, DirectRule, SelectionRule, VersionRule};
 use crate::{BuildFault, RuleFault, RuleFiles};
 use desk_base::{Memory, Text};
 use desk_entries::{
-    EntryError, EntryFault, Mark, check_string, read_mark, read_rename, read_update, read_versions,
+    EntryError, EntryFault, check_string, read_mark, read_rename, read_update, read_versions,
 };
-use desk_packages::{Keyed, Reach, Rename};
+use desk_packages::{Keyed, Rename};
 use desk_patterns::Selection;
 use desk_properties::{PropError, read_properties};
 use indexmap::IndexMap;
@@ -164,7 +164,7 @@ fn selection_from(alloc: Global, rules: &[SelectionRule]) -> Result<Selection, M
     let mut selection = Selection::new(alloc);
     for rule in rules {
         let pattern = Text::from_bytes(alloc, rule.key())?;
-        selection.push(pattern, rule.is_exclude())?;
+        selection.push(pattern, rule.mark())?;
     }
     Ok(selection)
 }
@@ -185,8 +185,7 @@ impl FromEntry for Rename {
 
     fn from_entry(alloc: Global, key: &[u8], value: &[u8]) -> Result<Rename, EntryError> {
         let entry = read_rename(alloc, key, value)?;
-        let reach = Reach::of(entry.below);
-        Ok(Rename::new(alloc, entry.source, entry.target, reach)?)
+        Ok(Rename::new(alloc, entry.source, entry.target, entry.reach)?)
     }
 }
 
@@ -235,15 +234,6 @@ impl FromEntry for SelectionRule {
     fn from_entry(alloc: Global, key: &[u8], value: &[u8]) -> Result<SelectionRule, EntryError> {
         let mark = read_mark(key, value)?;
         let pattern = Text::from_bytes(alloc, key)?;
-        match mark {
-            Mark::Include => Ok(SelectionRule {
-                pattern,
-                excludes: false,
-            }),
-            Mark::Exclude => Ok(SelectionRule {
-                pattern,
-                excludes: true,
-            }),
-        }
+        Ok(SelectionRule { pattern, mark })
     }
 }

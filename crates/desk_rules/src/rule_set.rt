@@ -3,11 +3,12 @@
 ghost use Rattle.std.specs.Prelude.{◌≡◌, ◌==◌, None, Some, Ok, IsTrue, MatchOption, IfOk, IfErr, if◌then◌else◌};
 ghost use Rattle.std.specs.Option.{option_copied};
 ghost use Rattle.std.specs.FinMap as finite;
-ghost use Rattle.desk_base.specs.Names.{segments};
-ghost use Rattle.desk_patterns.specs.PatternTexts.{texts_of};
+ghost use Rattle.desk_base.specs.Names.{segments, dot};
+ghost use Rattle.desk_patterns.specs.PatternTexts.{texts_of, texts_for};
+ghost use Rattle.desk_patterns.specs.SeenTexts.{both_seen};
 ghost use Rattle.desk_patterns.specs.Selections.{selects};
 ghost use Rattle.desk_packages.specs.Keys.{byte_of, IsTable, RiseBy};
-ghost use Rattle.desk_packages.specs.Renames.{key_of};
+ghost use Rattle.desk_packages.specs.Renames.{key_of, has_source};
 ghost use Rattle.desk_rules.specs.Builds.{IsFaultOf};
 ghost use Rattle.desk_rules.specs.RuleFiles.{rules_of_files, settled};
 ghost use Rattle.desk_rules.specs.Sides.{exports};
@@ -19,8 +20,8 @@ use crate::reading::{read_all, read_renames, read_selection};
 use crate::texts::read_texts;
 use crate::{BuildFault, RuleFault, RuleFiles, Side};
 use desk_base::{Text, TextList};
-use desk_packages::{Rename, Separator, pick, rule_of};
-use desk_patterns::{PatternTexts, Selection, TextRules};
+use desk_packages::{Rename, Separator, is_source, pick, rule_of};
+use desk_patterns::{PathTexts, PatternTexts, Selection, TextRules};
 use std::alloc::Global;
 use std::marker::Model;
 
@@ -180,6 +181,14 @@ impl RuleSet {
         }
     }
 
+    /// Whether a text, read as a package that is written with dots, is the source of a rename, of an exception too. It takes
+    /// no memory.
+    pub fn is_source(&self, text: &[u8]) -> bool
+        ensures { result ≡ has_source self.now.renames (segments dot text.now) }
+    {
+        is_source(&self.renames, text, Separator::Dot)
+    }
+
     /// The new text of an old one: something exactly where the text is a direct source, also where the two are
     /// equal. It takes no memory. Under a rule set the image of a string is its own image.
     pub fn direct(&self, text: &[u8]) -> Option<&[u8]>
@@ -224,6 +233,14 @@ impl RuleSet {
         ensures { option_copied result ≡ texts_of self.now.texts path.now }
     {
         self.texts.find(path)
+    }
+
+    /// The text rules of a file, by its path and its target: those of the first pattern that fits each, and none where only
+    /// the other has one; nothing exactly where no pattern fits either. It takes no memory.
+    pub fn texts_for(&self, path: &[u8], target: &[u8]) -> Option<PathTexts<'_>>
+        ensures { both_seen result ≡ texts_for self.now.texts path.now target.now }
+    {
+        self.texts.find_both(path, target)
     }
 
     /// Whether a path is selected: where no pattern includes or one that includes fits it, and none that excludes fits it.

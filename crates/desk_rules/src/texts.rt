@@ -1,15 +1,18 @@
 //! Text rules of paths: the patterns of `text.properties`, and the files of rules that they name.
 
 ghost use Rattle.std.specs.Prelude.{◌≡◌, ◌≢◌, [], Ok, IfOk, IfErr, OnOk, map};
+ghost use Rattle.desk_packages.specs.Keys.{RiseBy};
 ghost use Rattle.desk_rules.specs.Builds.{IsFaultOf};
-ghost use Rattle.desk_rules.specs.TextFiles.{named_by, named_all, checked_texts, pattern_text, pattern_texts, texts_in, IsNamed};
+ghost use Rattle.desk_rules.specs.TextFiles.{named_by, named_all, rule_texts, checked_texts, pattern_text, pattern_texts, texts_in, IsNamed, AfterCheck};
+ghost use Rattle.desk_patterns.specs.SeenTexts.{texts_seen, ArePlaces};
+ghost use Rattle.desk_rules.specs.LoadedTexts.{IsLoaded, IsPlaceOf, IsPatternAt};
 
 use crate::reading::{FromEntry, entries_in, fault_of, read_all, sorted};
 use crate::{BuildFault, RuleFault, RuleFiles};
 use desk_base::{Memory, Text};
 use desk_entries::{EntryError, check_text_rule, read_text_name};
 use desk_packages::Keyed;
-use desk_patterns::{PatternTexts, TextRules};
+use desk_patterns::{PatternPlace, PatternTexts, TextRules};
 use indexmap::IndexMap;
 use std::alloc::Global;
 use std::marker::Model;
@@ -77,6 +80,14 @@ impl FromEntry for TextRule {
     }
 }
 
+/// Files of text rules that were read, each once.
+#[derive(Drop)]
+struct LoadedTexts {
+    /// The place of each file among the rules, under its name.
+    places: IndexMap<Text, usize>,
+    rules: Vec<TextRules>,
+}
+
 /// The file that a pattern names, which must be there.
 fn named(alloc: Global, files: &RuleFiles, key: &[u8], value: &[u8]) -> Result<Text, BuildFault>
     ensures read { IfOk result (λ name. named_by files.now key.now value.now ≡ Ok name) }
@@ -119,25 +130,9 @@ fn names_of(
     Ok(names)
 }
 
-/// Reads the files of rules of these names, for their first fault.
-fn check_rules(
-    alloc: Global,
-    files: &RuleFiles,
-    names: &IndexMap<Text, Text>,
-) -> Result<(), BuildFault>
-    ensures read { OnOk result (checked_texts files.now (map (λ e. e.0) names.now.entries) ≡ Ok tt) }
-    ensures refused { IfErr result (IsFaultOf (checked_texts files.now (map (λ e. e.0) names.now.entries))) }
-{
-    for i in 0..names.len() {
-        if let Some((name, _)) = names.get_index(i) {
-            let _rules: Vec<TextRule> = read_all(alloc, files, name.as_bytes())?;
-        }
-    }
-    Ok(())
-}
-
 /// Text rules of a file, as they are searched.
 fn rules_from(alloc: Global, rules: &[TextRule]) -> Result<TextRules, Memory>
+    requires { RiseBy (λ rule. rule.0) rules.now }
     ensures { IfOk result (λ found. found ≡ rules.now) }
 {
     let mut found = TextRules::none(alloc);
@@ -149,50 +144,142 @@ fn rules_from(alloc: Global, rules: &[TextRule]) -> Result<TextRules, Memory>
     Ok(found)
 }
 
-/// The rules of the file that a pattern names.
-fn pattern_rules(
-    alloc: Global,
-    files: &RuleFiles,
-    key: &[u8],
-    value: &[u8],
-) -> Result<TextRules, BuildFault>
-    ensures read { IfOk result (λ rules. pattern_text files.now (key.now, value.now) ≡ Ok (key.now, rules)) }
-    ensures refused { IfErr result (IsFaultOf (pattern_text files.now (key.now, value.now))) }
+/// The text rules of a file, as they are searched.
+fn read_rules(alloc: Global, files: &RuleFiles, name: &Text) -> Result<TextRules, BuildFault>
+    ensures read { IfOk result (λ rules. rule_texts files.now name.now ≡ Ok rules) }
+    ensures refused { IfErr result (IsFaultOf (rule_texts files.now name.now)) }
 {
-    let name = named(alloc, files, key, value)?;
     let rules: Vec<TextRule> = read_all(alloc, files, name.as_bytes())?;
     Ok(rules_from(alloc, &rules)?)
 }
 
-/// Patterns, each with its rules, or the first fault.
-fn patterns_of(
+impl LoadedTexts {
+    /// No files.
+    fn none(alloc: Global) -> LoadedTexts
+        ensures places { result.places.entries ≡ [] }
+        ensures rules { result.rules.items ≡ [] }
+    {
+        LoadedTexts {
+            places: IndexMap::new(alloc),
+            rules: Vec::new(alloc),
+        }
+    }
+
+    /// The place of a file's rules, which are read where they weren't before.
+    fn place(&mut self, alloc: Global, files: &RuleFiles, name: Text) -> Result<usize, BuildFault>
+        requires { IsLoaded files.now self.old.places.entries self.old.rules.items }
+        ensures read { IfOk result (IsPlaceOf files.now name self.old.rules.items self.new.places.entries self.new.rules.items) }
+        ensures refused { IfErr result (IsFaultOf (rule_texts files.now name)) }
+    {
+        if let Some(place) = self.places.get(&name) {
+            return Ok(*place);
+        }
+        let rules = read_rules(alloc, files, &name)?;
+        let place = self.rules.len();
+        self.rules.push(rules)?;
+        self.places.insert(name, place)?;
+        Ok(place)
+    }
+}
+
+/// Reads the files of rules of these names, up to their first fault.
+fn load(
+    alloc: Global,
+    files: &RuleFiles,
+    names: &IndexMap<Text, Text>,
+    loaded: &mut LoadedTexts,
+) -> Result<(), BuildFault>
+    requires { IsLoaded files.now loaded.old.places.entries loaded.old.rules.items }
+    ensures read { OnOk result (checked_texts files.now (map (λ e. e.0) names.now.entries) ≡ Ok tt) }
+    ensures loaded { OnOk result (IsLoaded files.now loaded.new.places.entries loaded.new.rules.items) }
+    ensures refused { IfErr result (IsFaultOf (checked_texts files.now (map (λ e. e.0) names.now.entries))) }
+{
+    for i in 0..names.len() {
+        if let Some((name, _)) = names.get_index(i) {
+            let name = Text::from_bytes(alloc, name.as_bytes())?;
+            loaded.place(alloc, files, name)?;
+        }
+    }
+    Ok(())
+}
+
+/// A pattern with the place of its file's rules.
+fn pattern_at(
+    alloc: Global,
+    files: &RuleFiles,
+    key: &[u8],
+    value: &[u8],
+    loaded: &mut LoadedTexts,
+) -> Result<PatternPlace, BuildFault>
+    requires { IsLoaded files.now loaded.old.places.entries loaded.old.rules.items }
+    ensures read { IfOk result (IsPatternAt files.now key.now value.now loaded.old.rules.items loaded.new.places.entries loaded.new.rules.items) }
+    ensures refused { IfErr result (IsFaultOf (pattern_text files.now (key.now, value.now))) }
+{
+    let name = named(alloc, files, key, value)?;
+    let file = loaded.place(alloc, files, name)?;
+    let pattern = Text::from_bytes(alloc, key)?;
+    Ok(PatternPlace { pattern, file })
+}
+
+/// Patterns, each with the place of its file's rules, or the first fault.
+fn patterns_at(
     alloc: Global,
     files: &RuleFiles,
     entries: &IndexMap<Text, Text>,
-) -> Result<PatternTexts, BuildFault>
-    ensures read { IfOk result (λ patterns. pattern_texts files.now entries.now.entries ≡ Ok patterns) }
+    loaded: &mut LoadedTexts,
+) -> Result<Vec<PatternPlace>, BuildFault>
+    requires { IsLoaded files.now loaded.old.places.entries loaded.old.rules.items }
+    ensures read { IfOk result (λ patterns. pattern_texts files.now entries.now.entries ≡ Ok (texts_seen loaded.new.rules.items patterns.items)) }
+    ensures places { IfOk result (λ patterns. ArePlaces loaded.new.rules.items patterns.items) }
     ensures refused { IfErr result (IsFaultOf (pattern_texts files.now entries.now.entries)) }
 {
-    let mut patterns = PatternTexts::new(alloc);
+    let mut patterns = Vec::new(alloc);
     for i in 0..entries.len() {
         if let Some((key, value)) = entries.get_index(i) {
-            let rules = pattern_rules(alloc, files, key.as_bytes(), value.as_bytes())?;
-            let pattern = Text::from_bytes(alloc, key.as_bytes())?;
-            patterns.push(pattern, rules)?;
+            let pattern = pattern_at(alloc, files, key.as_bytes(), value.as_bytes(), loaded)?;
+            patterns.push(pattern)?;
         }
     }
     Ok(patterns)
 }
 
-/// The patterns with text rules of a rule folder, in the order in which their keys first stand. The keys are looked at in
-/// byte order, and then the files that they name in byte order of their names. The fault is the first, or want of memory.
-pub(crate) fn read_texts(alloc: Global, files: &RuleFiles) -> Result<PatternTexts, BuildFault>
-    ensures read { IfOk result (λ patterns. texts_in files.now ≡ Ok patterns) }
+/// Reads the files of rules that the patterns name, up to the first fault: the patterns are looked at in byte order, then
+/// the files in byte order of their names.
+fn load_named(alloc: Global, files: &RuleFiles, loaded: &mut LoadedTexts) -> Result<(), BuildFault>
+    requires { IsLoaded files.now loaded.old.places.entries loaded.old.rules.items }
+    ensures read { OnOk result (AfterCheck files.now) }
+    ensures loaded { OnOk result (IsLoaded files.now loaded.new.places.entries loaded.new.rules.items) }
     ensures refused { IfErr result (IsFaultOf (texts_in files.now)) }
 {
     let entries = sorted(entries_in(alloc, files, TEXT)?)?;
     let names = sorted(names_of(alloc, files, &entries)?)?;
-    check_rules(alloc, files, &names)?;
+    load(alloc, files, &names, loaded)
+}
+
+/// The patterns of a rule folder, each with the place of its file's rules, or the first fault.
+fn patterns_in(
+    alloc: Global,
+    files: &RuleFiles,
+    loaded: &mut LoadedTexts,
+) -> Result<Vec<PatternPlace>, BuildFault>
+    requires { IsLoaded files.now loaded.old.places.entries loaded.old.rules.items }
+    ensures read { IfOk result (λ patterns. texts_in files.now ≡ Ok (texts_seen loaded.new.rules.items patterns.items)) }
+    ensures places { IfOk result (λ patterns. ArePlaces loaded.new.rules.items patterns.items) }
+    ensures refused { IfErr result (IsFaultOf (texts_in files.now)) }
+{
+    load_named(alloc, files, loaded)?;
     let entries = entries_in(alloc, files, TEXT)?;
-    patterns_of(alloc, files, &entries)
+    patterns_at(alloc, files, &entries, loaded)
+}
+
+/// The patterns with text rules of a rule folder, in the order in which their keys first stand. The keys are looked at in
+/// byte order, and then the files that they name in byte order of their names, each of which is read once. The fault is the
+/// first, or want of memory.
+pub(crate) fn read_texts(alloc: Global, files: &RuleFiles) -> Result<PatternTexts, BuildFault>
+    ensures read { IfOk result (λ patterns. texts_in files.now ≡ Ok patterns) }
+    ensures refused { IfErr result (IsFaultOf (texts_in files.now)) }
+{
+    let mut loaded = LoadedTexts::none(alloc);
+    let patterns = patterns_in(alloc, files, &mut loaded)?;
+    Ok(PatternTexts::new(alloc, loaded.rules, patterns))
 }

@@ -1,5 +1,5 @@
 -- Two files whose targets clash.
-use Rattle.std.proofs.Common.{◌≡◌, ℕ, ◌<◌, List, [], ◌∷◌, length, Option, Some, None, refl, sym, ap, ◌∙◌, subst, get_or, zero, suc, map, arith}
+use Rattle.std.proofs.Common.{◌≡◌, ℕ, ◌<◌, List, [], ◌∷◌, length, Some, refl, sym, ap, ◌∙◌, subst, get_or, zero, suc, map, arith}
 use Rattle.std.specs.Prelude.{slice_index_or}
 use Rattle.desk_base.specs.Names.{Text}
 use Rattle.desk_clashes.specs.Clashes.{first_clash}
@@ -9,7 +9,7 @@ use Rattle.desk_report.specs.declared.status.Status.TheVariants.{PathClash}
 use Rattle.desk_run.specs.declared.files.Input.{Input}
 use Rattle.desk_run.specs.declared.stops.Halt.TheVariants as halt
 use Rattle.desk_run.specs.Answers.{clash_status}
-use Rattle.desk_run.specs.Halts.{HaltsClashing, clash_of}
+use Rattle.desk_run.specs.Halts.{HaltsClashing}
 
 path_at : (inputs : List Input) (i : ℕ) (input : Input) → i < length inputs → input ≡ get_or inputs i input → input.path ≡ slice_index_or (map (λ (input : Input). input.path) inputs) i []
 path_at [] i input lt is = absurd (omega arith)

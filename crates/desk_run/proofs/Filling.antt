@@ -1,6 +1,5 @@
 -- Files that are read, one after another.
-use Rattle.std.proofs.Common.{◌≡◌, ◌⊎◌, inl, inr, ℕ, zero, suc, ◌+◌, ◌-◌, ◌<◌, ◌≤◌, Bool, true, false, List, [], ◌∷◌, ◌++◌, length, Option, Some, None, refl, sym, ap, ◌∙◌, subst, take, drop, get_or, map, map-id, arith, IfSome, IsSome, append-nil}
-use Rattle.std.specs.Prelude.{nat_lt}
+use Rattle.std.proofs.Common.{◌≡◌, ℕ, zero, suc, ◌+◌, ◌<◌, ◌≤◌, List, [], ◌∷◌, ◌++◌, length, Option, Some, None, refl, sym, ap, ◌∙◌, subst, take, drop, get_or, map, map-id, arith, IfSome, IsSome, append-nil}
 use Rattle.std.specs.FinMap as fin
 use Rattle.std.proofs.lemmas.List.{length-map, map-append}
 use Rattle.desk_base.specs.Names.{Text}
@@ -8,17 +7,15 @@ use Rattle.desk_base.specs.Paths.{full}
 use Rattle.desk_folders.specs.Contents.{Contents, File, bytes_at, file_at, files_below, paths_below}
 use Rattle.desk_base.specs.Counts.{Rose-earlier}
 use Rattle.desk_report.specs.declared.status.LimitKind.TheVariants.{FileSize, Sum}
-use Rattle.desk_report.specs.declared.status.Status.{Status}
 use Rattle.desk_report.specs.declared.status.Status.TheVariants.{Limit}
 use Rattle.desk_base.specs.Limits.{file_size}
-use Rattle.desk_run.specs.declared.files.Input.{Input}
 use Rattle.desk_run.specs.declared.files.Route.{Route}
 use Rattle.desk_run.specs.declared.stops.Halt.{Halt}
 use Rattle.desk_run.specs.declared.stops.Halt.TheVariants as halt
 use Rattle.desk_run.specs.Limits.{within, size_answer, sum_size}
 use Rattle.desk_run.specs.Halts.{HaltsReadingOne, HaltsWith}
 use Rattle.desk_run.proofs.Parts.{at_some, if_some, there_listed}
-use Rattle.desk_run.proofs.Sizes.{files_at, files_routed, is_more, not_more, size_large, size_sum, within_none, within_some}
+use Rattle.desk_run.proofs.Sizes.{files_at, files_routed, is_more, size_large, size_sum, within_none, within_some}
 use Rattle.desk_run.proofs.Writing.{split_at}
 
 -- a file with too many bytes

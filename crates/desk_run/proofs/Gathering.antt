@@ -1,5 +1,5 @@
 -- What was read makes a run, or an answer.
-use Rattle.std.proofs.Common.{◌≡◌, ℕ, ◌+◌, ◌<◌, ◌≤◌, Bool, true, false, List, [], ◌∷◌, length, Option, Some, None, refl, sym, ap, ◌∙◌, subst, cond, nat_lt, map, arith, Result, Ok, Err, IfOk, IfErr, IfSome, is_some}
+use Rattle.std.proofs.Common.{◌≡◌, ℕ, ◌≤◌, true, List, [], ◌∷◌, Option, Some, None, refl, sym, ap, ◌∙◌, subst, map, Result, Ok, Err, IfOk, IfErr, IfSome}
 use Rattle.desk_base.specs.Names.{Text}
 use Rattle.desk_clashes.specs.Clashes.{first_clash}
 use Rattle.desk_folders.specs.Contents.{Contents, file_at, files_below, paths_below}
@@ -13,66 +13,47 @@ use Rattle.desk_words.specs.declared.roots.Roots.{Roots}
 use Rattle.desk_run.specs.declared.rules.Ruled.{Ruled}
 use Rattle.desk_run.specs.declared.stops.Halt.{Halt}
 use Rattle.desk_run.specs.declared.stops.Halt.TheVariants as halt
-use Rattle.desk_words.specs.declared.roots.RootsFault.{RootsFault}
-use Rattle.desk_words.specs.declared.roots.RootsFault.TheVariants as roots_fault
-use Rattle.desk_words.specs.Roots as named
-use Rattle.desk_words.specs.Roots.{RefusedBy}
-use Rattle.desk_run.specs.Named.{told_roots, roots_of_words}
-use Rattle.desk_run.specs.Meaning.{ruled, run_of, run_by_roots, run_by_rules, run_of_words}
-use Rattle.desk_run.specs.Runs.{Run, AllRelative}
-use Rattle.desk_run.specs.Answers.{or_else, other_run, first_of, clash_status, clash_answer, files_answer, answer_of_run, WordsCause}
+use Rattle.desk_run.specs.Named.{Asked}
+use Rattle.desk_run.specs.Meaning.{ruled, run_of, run_by_roots, run_by_rules, run_of_asked}
+use Rattle.desk_run.specs.Runs.{Run}
+use Rattle.desk_run.specs.Answers.{or_else, other_run, first_of, clash_status, clash_answer, files_answer, answer_of_run, AskedCause}
 use Rattle.desk_run.specs.Limits.{paths_answer, size_answer}
 use Rattle.desk_run.specs.Reports.{ending}
 use Rattle.desk_run.specs.Inputs.{route_of, input_at, input_of}
 use Rattle.desk_run.specs.Halts.{HaltsAtFiles, HaltsWith, HaltsClashing, HaltsGathering, HaltsReadingAll, clash_of, reading_answer, is_read_status, is_early_answer}
 use Rattle.desk_run.specs.Endings.{AreInputs}
-use Rattle.desk_run.specs.Stops.{halt_of_words}
 use Rattle.desk_run.proofs.Parts.{if_some, at_some}
 
--- what the words are told by
-halts_named : (words : List Text) (told : Option Contents) (f f' : ℕ) (status : Status) → is_early_answer status ≡ true → WordsCause words status → roots_of_words words ≡ Err status → HaltsGathering words told f f' (halt.Answer status)
-halts_named words told f f' status is cause e = record { is = is; cause = cause; first = if_some _ told (λ m _ l. ap (λ r. answer_of_run m l (run_by_roots m r)) e) }
-
--- a fault that stands against words
-halts_against : (words : List Text) (told : Option Contents) (f f' : ℕ) (fault : RootsFault) → RefusedBy (named.roots_of_words words) fault → HaltsGathering words told f f' (halt_of_words fault)
-halts_against words told f f' roots_fault.Memory e = tt
-halts_against words told f f' roots_fault.Usage e = let n : roots_of_words words ≡ Err Usage = ap told_roots e in halts_named words told f f' Usage refl n n
-halts_against words told f f' (roots_fault.Nested first second) e =
-    let n : roots_of_words words ≡ Err (NestedRoots first second) = ap told_roots e in halts_named words told f f' (NestedRoots first second) refl n n
-
-pub halts_by_words : (words : List Text) (told : Option Contents) (f f' : ℕ) (fault : RootsFault) (h : Halt) → h ≡ halt_of_words fault → RefusedBy (named.roots_of_words words) fault → HaltsGathering words told f f' h
-halts_by_words words told f f' fault h e r = subst (HaltsGathering words told f f') (sym e) (halts_against words told f f' fault r)
-
--- roots of words as they are told
-pub ok_named : {T : Type 0} (words : List Text) (names : Roots) (P : T → Roots) (r : Result T Halt) → named.roots_of_words words ≡ Ok names → IfOk r (λ g. P g ≡ names) → IfOk r (λ g. roots_of_words words ≡ Ok (P g))
-ok_named words names P (Ok g) e h = ap told_roots e ∙ ap Ok (sym h)
-ok_named words names P (Err x) e h = tt
+-- the roots that were read by
+pub ok_named : {T : Type 0} (asked : Asked) (names : Roots) (P : T → Roots) (r : Result T Halt) → asked ≡ Ok names → IfOk r (λ g. P g ≡ names) → IfOk r (λ g. asked ≡ Ok (P g))
+ok_named asked names P (Ok g) e h = e ∙ ap Ok (sym h)
+ok_named asked names P (Err x) e h = tt
 
 -- a status of rules or files
-reading_status : (words : List Text) (status : Status) → is_read_status status ≡ true → (is_early_answer status ≡ true) × WordsCause words status
-reading_status words (BadRules fault) e = (refl, tt)
-reading_status words (Limit kind path) e = (refl, tt)
-reading_status words (PathClash first second) e = (refl, tt)
-reading_status words Done e = cc
-reading_status words Refusals e = cc
-reading_status words Memory e = cc
-reading_status words (FolderFault done) e = cc
-reading_status words (LedgerFault done) e = cc
-reading_status words OutputFault e = cc
-reading_status words Usage e = cc
-reading_status words (NestedRoots first second) e = cc
-reading_status words (OtherRun kept wanted) e = cc
+reading_status : (asked : Asked) (status : Status) → is_read_status status ≡ true → (is_early_answer status ≡ true) × AskedCause asked status
+reading_status asked (BadRules fault) e = (refl, tt)
+reading_status asked (Limit kind path) e = (refl, tt)
+reading_status asked (PathClash first second) e = (refl, tt)
+reading_status asked Done e = cc
+reading_status asked Refusals e = cc
+reading_status asked Memory e = cc
+reading_status asked (FolderFault done) e = cc
+reading_status asked (LedgerFault done) e = cc
+reading_status asked OutputFault e = cc
+reading_status asked Usage e = cc
+reading_status asked (NestedRoots first second) e = cc
+reading_status asked (OtherRun kept wanted) e = cc
 
 reading_first : (names : Roots) (m : Contents) (l : Ledger) (status : Status) (r : Result Ruled Status) → reading_answer names m r ≡ Some status → answer_of_run m l (run_by_rules names r) ≡ status
 reading_first names m l status (Err s) e = cc
 reading_first names m l status (Ok r) e = ap (λ o. or_else o (or_else (other_run (run_of names r).header l.header) (ending (run_of names r) l.rows (files_below names.from m)))) e
 
-pub halts_reading : (words : List Text) (names : Roots) (told : Option Contents) (f f' : ℕ) (h : Halt) → roots_of_words words ≡ Ok names → HaltsReadingAll names told f f' h → HaltsGathering words told f f' h
-halts_reading words names told f f' halt.Memory e g = tt
-halts_reading words names told f f' halt.Folders e g = g
-halts_reading words names told f f' halt.Ledger e g = absurd g
-halts_reading words names told f f' (halt.Answer status) e g =
-    let s = reading_status words status g.0 in
+pub halts_reading : (asked : Asked) (names : Roots) (told : Option Contents) (f f' : ℕ) (h : Halt) → asked ≡ Ok names → HaltsReadingAll names told f f' h → HaltsGathering asked told f f' h
+halts_reading asked names told f f' halt.Memory e g = tt
+halts_reading asked names told f f' halt.Folders e g = g
+halts_reading asked names told f f' halt.Ledger e g = absurd g
+halts_reading asked names told f f' (halt.Answer status) e g =
+    let s = reading_status asked status g.0 in
     record {
       is = s.0;
       cause = s.1;
@@ -81,9 +62,9 @@ halts_reading words names told f f' (halt.Answer status) e g =
     }
 
 -- the run that was read
-pub run_read : (words : List Text) (names : Roots) (r : Ruled) (told : Option Contents) → roots_of_words words ≡ Ok names → IfSome told (λ m. ruled names.rules (files_below names.rules m) ≡ Ok r)
-    → IfSome told (λ m. run_of_words words m ≡ Ok (run_of names r))
-run_read words names r told e g = if_some _ told (λ m t. ap (run_by_roots m) e ∙ ap (run_by_rules names) (at_some (λ m. ruled names.rules (files_below names.rules m) ≡ Ok r) told m t g))
+pub run_read : (asked : Asked) (names : Roots) (r : Ruled) (told : Option Contents) → asked ≡ Ok names → IfSome told (λ m. ruled names.rules (files_below names.rules m) ≡ Ok r)
+    → IfSome told (λ m. run_of_asked asked m ≡ Ok (run_of names r))
+run_read asked names r told e g = if_some _ told (λ m t. ap (run_by_roots m) e ∙ ap (run_by_rules names) (at_some (λ m. ruled names.rules (files_below names.rules m) ≡ Ok r) told m t g))
 
 -- the first of two answers
 first_none : (a b : Option Status) → a ≡ None → first_of a b ≡ b
@@ -177,13 +158,13 @@ halts_paths run told f f' halt.Ledger g = absurd g
 halts_paths run told f f' (halt.Answer status) g =
     (g.0, if_some _ told (λ m t. first_some _ _ status (at_some (λ m. paths_answer run.from run.target (paths_below run.from m) ≡ Some status) told m t g.1)))
 
-pub err_reading : {T : Type 0} (words : List Text) (names : Roots) (told : Option Contents) (f f' : ℕ) (r : Result T Halt) → roots_of_words words ≡ Ok names
-    → IfErr r (HaltsReadingAll names told f f') → IfErr r (HaltsGathering words told f f')
-err_reading words names told f f' (Ok x) e g = tt
-err_reading words names told f f' (Err h) e g = halts_reading words names told f f' h e g
+pub err_reading : {T : Type 0} (asked : Asked) (names : Roots) (told : Option Contents) (f f' : ℕ) (r : Result T Halt) → asked ≡ Ok names
+    → IfErr r (HaltsReadingAll names told f f') → IfErr r (HaltsGathering asked told f f')
+err_reading asked names told f f' (Ok x) e g = tt
+err_reading asked names told f f' (Err h) e g = halts_reading asked names told f f' h e g
 
 -- the run of the roots and rules that were read
-pub ok_run : {T : Type 0} (words : List Text) (names : Roots) (P : T → Roots) (Q : T → Ruled) (told : Option Contents) (r : Result T Halt) → roots_of_words words ≡ Ok names → IfOk r (λ g. P g ≡ names)
-    → IfOk r (λ g. IfSome told (λ m. ruled names.rules (files_below names.rules m) ≡ Ok (Q g))) → IfOk r (λ g. IfSome told (λ m. run_of_words words m ≡ Ok (run_of (P g) (Q g))))
-ok_run words names P Q told (Ok g) e n h = subst (λ s. IfSome told (λ m. run_of_words words m ≡ Ok (run_of s (Q g)))) (sym n) (run_read words names (Q g) told e h)
-ok_run words names P Q told (Err x) e n h = tt
+pub ok_run : {T : Type 0} (asked : Asked) (names : Roots) (P : T → Roots) (Q : T → Ruled) (told : Option Contents) (r : Result T Halt) → asked ≡ Ok names → IfOk r (λ g. P g ≡ names)
+    → IfOk r (λ g. IfSome told (λ m. ruled names.rules (files_below names.rules m) ≡ Ok (Q g))) → IfOk r (λ g. IfSome told (λ m. run_of_asked asked m ≡ Ok (run_of (P g) (Q g))))
+ok_run asked names P Q told (Ok g) e n h = subst (λ s. IfSome told (λ m. run_of_asked asked m ≡ Ok (run_of s (Q g)))) (sym n) (run_read asked names (Q g) told e h)
+ok_run asked names P Q told (Err x) e n h = tt

@@ -14,3 +14,5 @@ pub mod Gathering
 pub mod Preparing
 pub mod Ending
 pub mod Promised
+pub mod Following
+pub mod InMemory

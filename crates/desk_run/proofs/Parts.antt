@@ -8,7 +8,7 @@ use Rattle.std.proofs.Common.{◌≡◌, ℕ, ◌+◌, List, [], ◌++◌, Optio
 use Rattle.std.specs.Prelude.{All, IfSome}
 use Rattle.std.proofs.lemmas.List.Elements.{All-push, All-same}
 use Rattle.std.proofs.Math.Seq.{take-add}
-use Rattle.std.proofs.Common.{suc, ◌<◌, ◌∷◌, map, get_or, true, IsSome, append_assoc, drop-cons}
+use Rattle.std.proofs.Common.{suc, ◌<◌, ◌∷◌, map, get_or, true, IsSome}
 use Rattle.std.proofs.lemmas.List.{map-append, take_more}
 use Rattle.std.specs.FinMap as fin
 use Rattle.desk_base.specs.Paths.{full}

@@ -1,5 +1,5 @@
 -- From what was gathered and planned to a run that is ready.
-use Rattle.std.proofs.Common.{All, ◌≡◌, inl, inr, ℕ, ◌+◌, ◌<◌, ◌≤◌, ◌^◌, Bool, true, false, List, [], ◌∷◌, ◌++◌, length, Option, Some, None, refl, sym, ap, ◌∙◌, subst, cond, map, arith, Result, Ok, Err, IfOk, IfErr, IfSome, OnOk, is_some, zero-add, append_assoc}
+use Rattle.std.proofs.Common.{All, ◌≡◌, inl, inr, ℕ, ◌<◌, ◌^◌, true, List, [], ◌∷◌, length, Option, Some, None, refl, sym, ap, ◌∙◌, subst, map, Result, Ok, Err, IfOk, IfErr, IfSome, OnOk}
 use Rattle.std.proofs.lemmas.List.{length-map}
 use Rattle.std.proofs.lemmas.List.Elements.{All-nil, All-cons, All-head, All-tail}
 use Rattle.desk_format.specs.Laws.{IsBytes}
@@ -19,11 +19,11 @@ use Rattle.desk_words.specs.declared.roots.Roots.{Roots}
 use Rattle.desk_run.specs.declared.rules.Ruled.{Ruled}
 use Rattle.desk_run.specs.declared.stops.Halt.{Halt}
 use Rattle.desk_run.specs.declared.stops.Halt.TheVariants as halt
-use Rattle.desk_run.specs.Named.{roots_of_words}
-use Rattle.desk_run.specs.Meaning.{run_of, run_of_words}
+use Rattle.desk_run.specs.Named.{Asked}
+use Rattle.desk_run.specs.Meaning.{run_of, run_of_asked}
 use Rattle.desk_words.specs.Roots.{AreRoots}
 use Rattle.desk_run.specs.Runs.{Run, AllRelative, AllApart as Distinct, Misses, targets_of}
-use Rattle.desk_run.specs.Answers.{clash_status, clash_answer, first_of, files_answer, or_else, other_run, first_answer, answer_of_run, is_answer, WordsCause}
+use Rattle.desk_run.specs.Answers.{clash_status, clash_answer, first_of, files_answer, or_else, other_run, first_answer, answer_of_run, is_answer, AskedCause}
 use Rattle.desk_run.specs.Inputs.{input_of, work_of_input}
 use Rattle.desk_run.specs.Works.{work_of, works_of}
 use Rattle.desk_run.specs.Truth.{IsOurs}
@@ -64,9 +64,9 @@ targets_inputs run [] = refl
 targets_inputs run (file ∷ files) = ap (λ ts. run.target file.path ∷ ts) (targets_inputs run files)
 
 -- a run that was gathered is ready
-pub ready : (words : List Text) (names : Roots) (r : Ruled) (m : Contents) (inputs : List Input) → AreRoots names → run_of_words words m ≡ Ok (run_of names r) → AreInputs (run_of names r) m inputs
-    → AllRelative (map (λ (i : Input). i.target) inputs) → IsReady words m (run_of names r)
-ready words names r m inputs sound is are rel = record {
+pub ready : (asked : Asked) (names : Roots) (r : Ruled) (m : Contents) (inputs : List Input) → AreRoots names → run_of_asked asked m ≡ Ok (run_of names r) → AreInputs (run_of names r) m inputs
+    → AllRelative (map (λ (i : Input). i.target) inputs) → IsReady asked m (run_of names r)
+ready asked names r m inputs sound is are rel = record {
   is = is;
   built = are.built;
   apart = record {
@@ -88,16 +88,16 @@ bytes_inputs run (file ∷ files) h =
     (bytes_inputs run files (All-tail (λ (i : Input). IsBytes i.bytes) (input_of run file) (map (input_of run) files) h))
 
 -- what was planned
-pub planned : (words : List Text) (names : Roots) (r : Ruled) (header : Header) (inputs : List Input) (f0 : Option Contents) (k0 : Option Ledger) (p : Prepared) → IsRuleSet r.rules → All (λ (i : Input). IsBytes i.bytes) inputs → AreRoots names → header ≡ (run_of names r).header
-    → IfSome f0 (λ m. run_of_words words m ≡ Ok (run_of names r)) → IfSome f0 (λ m. AreInputs (run_of names r) m inputs) → AllRelative (map (λ (i : Input). i.target) inputs)
+pub planned : (asked : Asked) (names : Roots) (r : Ruled) (header : Header) (inputs : List Input) (f0 : Option Contents) (k0 : Option Ledger) (p : Prepared) → IsRuleSet r.rules → All (λ (i : Input). IsBytes i.bytes) inputs → AreRoots names → header ≡ (run_of names r).header
+    → IfSome f0 (λ m. run_of_asked asked m ≡ Ok (run_of names r)) → IfSome f0 (λ m. AreInputs (run_of names r) m inputs) → AllRelative (map (λ (i : Input). i.target) inputs)
     → p.header ≡ header → p.to ≡ names.to → IfSome k0 (λ l. p.works.items ≡ map (work_of_input (run_of names r).image l.rows) inputs) → IfSome k0 (λ l. IsOurs header l.header)
-    → IfSome k0 (λ l. other_run header l.header ≡ None) → WhereTold f0 k0 (λ m l. Planned words m l p.to p.header p.works.items)
-planned words names r header inputs f0 k0 p settled bytes sound same is are rel head to works ours other = λ m l ef ek.
+    → IfSome k0 (λ l. other_run header l.header ≡ None) → WhereTold f0 k0 (λ m l. Planned asked m l p.to p.header p.works.items)
+planned asked names r header inputs f0 k0 p settled bytes sound same is are rel head to works ours other = λ m l ef ek.
     let run = run_of names r in
     let inputs_are = at_some (λ m. AreInputs run m inputs) f0 m ef are in
     record {
       run = run;
-      ready = ready words names r m inputs sound (at_some (λ m. run_of_words words m ≡ Ok run) f0 m ef is) inputs_are rel;
+      ready = ready asked names r m inputs sound (at_some (λ m. run_of_asked asked m ≡ Ok run) f0 m ef is) inputs_are rel;
       runs = record {
         roots = names;
         ruled = r;
@@ -112,51 +112,51 @@ planned words names r header inputs f0 k0 p settled bytes sound same is are rel 
       are = at_some (λ l. p.works.items ≡ map (work_of_input run.image l.rows) inputs) k0 l ek works ∙ ap (map (work_of_input run.image l.rows)) inputs_are.are ∙ works_inputs run l.rows (files_below run.from m);
     }
 
-own_early : (words : List Text) (names : Roots) (r : Ruled) (header : Header) (inputs : List Input) (f0 : Option Contents) (k0 k1 : Option Ledger) → AreRoots names → header ≡ (run_of names r).header
-    → IfSome f0 (λ m. run_of_words words m ≡ Ok (run_of names r)) → IfSome f0 (λ m. AreInputs (run_of names r) m inputs) → AllRelative (map (λ (i : Input). i.target) inputs)
-    → LedgerOwn header k0 k1 → LedgerEarly words f0 k0 k1
-own_early words names r header inputs f0 k0 k1 sound same is are rel (inl e) = inl e
-own_early words names r header inputs f0 k0 k1 sound same is are rel (inr own) = inr (record {
+own_early : (asked : Asked) (names : Roots) (r : Ruled) (header : Header) (inputs : List Input) (f0 : Option Contents) (k0 k1 : Option Ledger) → AreRoots names → header ≡ (run_of names r).header
+    → IfSome f0 (λ m. run_of_asked asked m ≡ Ok (run_of names r)) → IfSome f0 (λ m. AreInputs (run_of names r) m inputs) → AllRelative (map (λ (i : Input). i.target) inputs)
+    → LedgerOwn header k0 k1 → LedgerEarly asked f0 k0 k1
+own_early asked names r header inputs f0 k0 k1 sound same is are rel (inl e) = inl e
+own_early asked names r header inputs f0 k0 k1 sound same is are rel (inr own) = inr (record {
   header = header;
   ledger = own.0;
   ours = own.1;
   whose = if_some _ f0 (λ m ef. (
     run_of names r,
-    ready words names r m inputs sound (at_some (λ m. run_of_words words m ≡ Ok (run_of names r)) f0 m ef is) (at_some (λ m. AreInputs (run_of names r) m inputs) f0 m ef are) rel,
+    ready asked names r m inputs sound (at_some (λ m. run_of_asked asked m ≡ Ok (run_of names r)) f0 m ef is) (at_some (λ m. AreInputs (run_of names r) m inputs) f0 m ef are) rel,
     same,
   ));
 })
 
-ledger_status : (words : List Text) (status : Status) → is_ledger_status status ≡ true → (is_answer status ≡ true) × WordsCause words status
-ledger_status words (OtherRun kept wanted) e = (refl, tt)
-ledger_status words (BadRules fault) e = cc
-ledger_status words (Limit kind path) e = cc
-ledger_status words (PathClash first second) e = cc
-ledger_status words Done e = cc
-ledger_status words Refusals e = cc
-ledger_status words Memory e = cc
-ledger_status words (FolderFault done) e = cc
-ledger_status words (LedgerFault done) e = cc
-ledger_status words OutputFault e = cc
-ledger_status words Usage e = cc
-ledger_status words (NestedRoots first second) e = cc
+ledger_status : (asked : Asked) (status : Status) → is_ledger_status status ≡ true → (is_answer status ≡ true) × AskedCause asked status
+ledger_status asked (OtherRun kept wanted) e = (refl, tt)
+ledger_status asked (BadRules fault) e = cc
+ledger_status asked (Limit kind path) e = cc
+ledger_status asked (PathClash first second) e = cc
+ledger_status asked Done e = cc
+ledger_status asked Refusals e = cc
+ledger_status asked Memory e = cc
+ledger_status asked (FolderFault done) e = cc
+ledger_status asked (LedgerFault done) e = cc
+ledger_status asked OutputFault e = cc
+ledger_status asked Usage e = cc
+ledger_status asked (NestedRoots first second) e = cc
 
 -- where the ledger is opened or the works are planned, a run halts early
-pub plan_early : (words : List Text) (names : Roots) (r : Ruled) (header : Header) (inputs : List Input) (f0 : Option Contents) (k0 k1 : Option Ledger) (a b c d : ℕ) (h : Halt) → AreRoots names → header ≡ (run_of names r).header
-    → IfSome f0 (λ m. run_of_words words m ≡ Ok (run_of names r)) → IfSome f0 (λ m. AreInputs (run_of names r) m inputs) → AllRelative (map (λ (i : Input). i.target) inputs)
-    → HaltsPlan header k0 k1 c d h → HaltsEarly words f0 k0 k1 a b c d h
-plan_early words names r header inputs f0 k0 k1 a b c d halt.Memory sound same is are rel g = own_early words names r header inputs f0 k0 k1 sound same is are rel g
-plan_early words names r header inputs f0 k0 k1 a b c d halt.Folders sound same is are rel g = absurd g
-plan_early words names r header inputs f0 k0 k1 a b c d halt.Ledger sound same is are rel g = (own_early words names r header inputs f0 k0 k1 sound same is are rel g.0, g.1)
-plan_early words names r header inputs f0 k0 k1 a b c d (halt.Answer status) sound same is are rel g =
-    let s = ledger_status words status g.1 in (
+pub plan_early : (asked : Asked) (names : Roots) (r : Ruled) (header : Header) (inputs : List Input) (f0 : Option Contents) (k0 k1 : Option Ledger) (a b c d : ℕ) (h : Halt) → AreRoots names → header ≡ (run_of names r).header
+    → IfSome f0 (λ m. run_of_asked asked m ≡ Ok (run_of names r)) → IfSome f0 (λ m. AreInputs (run_of names r) m inputs) → AllRelative (map (λ (i : Input). i.target) inputs)
+    → HaltsPlan header k0 k1 c d h → HaltsEarly asked f0 k0 k1 a b c d h
+plan_early asked names r header inputs f0 k0 k1 a b c d halt.Memory sound same is are rel g = own_early asked names r header inputs f0 k0 k1 sound same is are rel g
+plan_early asked names r header inputs f0 k0 k1 a b c d halt.Folders sound same is are rel g = absurd g
+plan_early asked names r header inputs f0 k0 k1 a b c d halt.Ledger sound same is are rel g = (own_early asked names r header inputs f0 k0 k1 sound same is are rel g.0, g.1)
+plan_early asked names r header inputs f0 k0 k1 a b c d (halt.Answer status) sound same is are rel g =
+    let s = ledger_status asked status g.1 in (
       g.0,
       record {
         is = s.0;
         cause = s.1;
         first = λ m l ef ek.
             let run = run_of names r in
-            ap (answer_of_run m l) (at_some (λ m. run_of_words words m ≡ Ok run) f0 m ef is)
+            ap (answer_of_run m l) (at_some (λ m. run_of_asked asked m ≡ Ok run) f0 m ef is)
             ∙ ap (λ o. or_else o (or_else (other_run run.header l.header) (ending run l.rows (files_below run.from m)))) (at_some (λ m. AreInputs run m inputs) f0 m ef are).built
             ∙ ap (λ o. or_else o (ending run l.rows (files_below run.from m))) (ap (λ h. other_run h l.header) (sym same) ∙ at_some (λ l. other_run header l.header ≡ Some status) k0 l ek g.2);
       },
@@ -177,16 +177,16 @@ early_status OutputFault e = cc
 early_status (OtherRun kept wanted) e = cc
 
 -- where something is gathered, too
-pub gather_early : (words : List Text) (f0 : Option Contents) (k0 : Option Ledger) (a b c d : ℕ) (h : Halt) → HaltsGathering words f0 a b h → HaltsEarly words f0 k0 k0 a b c d h
-gather_early words f0 k0 a b c d halt.Memory g = inl refl
-gather_early words f0 k0 a b c d halt.Folders g = (refl, g)
-gather_early words f0 k0 a b c d halt.Ledger g = absurd g
-gather_early words f0 k0 a b c d (halt.Answer status) g = (
+pub gather_early : (asked : Asked) (f0 : Option Contents) (k0 : Option Ledger) (a b c d : ℕ) (h : Halt) → HaltsGathering asked f0 a b h → HaltsEarly asked f0 k0 k0 a b c d h
+gather_early asked f0 k0 a b c d halt.Memory g = inl refl
+gather_early asked f0 k0 a b c d halt.Folders g = (refl, g)
+gather_early asked f0 k0 a b c d halt.Ledger g = absurd g
+gather_early asked f0 k0 a b c d (halt.Answer status) g = (
   refl,
   record {
     is = early_status status g.is;
     cause = g.cause;
-    first = λ m l ef ek. at_some (λ m. (l : Ledger) → first_answer words m l ≡ status) f0 m ef g.first l;
+    first = λ m l ef ek. at_some (λ m. (l : Ledger) → first_answer asked m l ≡ status) f0 m ef g.first l;
   },
 )
 
@@ -204,9 +204,9 @@ early_named old name (LedgerFault done) e = cc
 early_named old name OutputFault e = cc
 early_named old name (OtherRun kept wanted) e = cc
 
-pub gather_named : (words : List Text) (f0 : Option Contents) (old : Option Text) (a b : ℕ) (h : Halt) → HaltsGathering words f0 a b h → NamedEarly words old old h
-gather_named words f0 old a b h g = by (roots_of_words words) h g where
-  by : (r : Result Roots Status) (h : Halt) → HaltsGathering words f0 a b h → NamedByRoots old old (status_of_halt h) r
+pub gather_named : (asked : Asked) (f0 : Option Contents) (old : Option Text) (a b : ℕ) (h : Halt) → HaltsGathering asked f0 a b h → NamedEarly asked old old h
+gather_named asked f0 old a b h g = by (asked) h g where
+  by : (r : Result Roots Status) (h : Halt) → HaltsGathering asked f0 a b h → NamedByRoots old old (status_of_halt h) r
   by (Err status) h g = refl
   by (Ok roots) halt.Memory g = inl refl
   by (Ok roots) halt.Folders g = inl refl
@@ -227,9 +227,9 @@ other_named old new name (FolderFault done) e n = cc
 other_named old new name (LedgerFault done) e n = cc
 other_named old new name OutputFault e n = cc
 
-pub plan_named : (words : List Text) (names : Roots) (header : Header) (k0 k1 : Option Ledger) (c d : ℕ) (old new : Option Text) (h : Halt) → roots_of_words words ≡ Ok names → HaltsPlan header k0 k1 c d h
-    → NamedAtHalt old new names.ledger h → NamedEarly words old new h
-plan_named words names header k0 k1 c d old new h e g n = subst (NamedByRoots old new (status_of_halt h)) (sym e) (by h g n) where
+pub plan_named : (asked : Asked) (names : Roots) (header : Header) (k0 k1 : Option Ledger) (c d : ℕ) (old new : Option Text) (h : Halt) → asked ≡ Ok names → HaltsPlan header k0 k1 c d h
+    → NamedAtHalt old new names.ledger h → NamedEarly asked old new h
+plan_named asked names header k0 k1 c d old new h e g n = subst (NamedByRoots old new (status_of_halt h)) (sym e) (by h g n) where
   by : (h : Halt) → HaltsPlan header k0 k1 c d h → NamedAtHalt old new names.ledger h → NamedBy old new names.ledger (status_of_halt h)
   by halt.Memory g n = n
   by halt.Folders g n = n
@@ -242,26 +242,26 @@ few_works inputs works e h =
     subst (λ k. k < 2 ^ 32) (sym n) h
 
 -- the clauses of what is prepared, whichever way the planning ends
-pub ok_planned : (words : List Text) (names : Roots) (r : Ruled) (header : Header) (inputs : List Input) (f0 : Option Contents) (k0 : Option Ledger) (res : Result Prepared Halt) → IsRuleSet r.rules → All (λ (i : Input). IsBytes i.bytes) inputs → AreRoots names → header ≡ (run_of names r).header
-    → IfSome f0 (λ m. run_of_words words m ≡ Ok (run_of names r)) → IfSome f0 (λ m. AreInputs (run_of names r) m inputs) → AllRelative (map (λ (i : Input). i.target) inputs)
+pub ok_planned : (asked : Asked) (names : Roots) (r : Ruled) (header : Header) (inputs : List Input) (f0 : Option Contents) (k0 : Option Ledger) (res : Result Prepared Halt) → IsRuleSet r.rules → All (λ (i : Input). IsBytes i.bytes) inputs → AreRoots names → header ≡ (run_of names r).header
+    → IfSome f0 (λ m. run_of_asked asked m ≡ Ok (run_of names r)) → IfSome f0 (λ m. AreInputs (run_of names r) m inputs) → AllRelative (map (λ (i : Input). i.target) inputs)
     → IfOk res (λ p. p.header ≡ header) → IfOk res (λ p. p.to ≡ names.to) → IfOk res (λ p. IfSome k0 (λ l. p.works.items ≡ map (work_of_input (run_of names r).image l.rows) inputs))
     → OnOk res (IfSome k0 (λ l. IsOurs header l.header)) → OnOk res (IfSome k0 (λ l. other_run header l.header ≡ None))
-    → IfOk res (λ p. WhereTold f0 k0 (λ m l. Planned words m l p.to p.header p.works.items))
-ok_planned words names r header inputs f0 k0 (Ok p) settled bytes sound same is are rel head to works ours other = planned words names r header inputs f0 k0 p settled bytes sound same is are rel head to works ours other
-ok_planned words names r header inputs f0 k0 (Err h) settled bytes sound same is are rel head to works ours other = tt
+    → IfOk res (λ p. WhereTold f0 k0 (λ m l. Planned asked m l p.to p.header p.works.items))
+ok_planned asked names r header inputs f0 k0 (Ok p) settled bytes sound same is are rel head to works ours other = planned asked names r header inputs f0 k0 p settled bytes sound same is are rel head to works ours other
+ok_planned asked names r header inputs f0 k0 (Err h) settled bytes sound same is are rel head to works ours other = tt
 
 pub ok_few : (inputs : List Input) (res : Result Prepared Halt) → IfOk res (λ p. map (λ (w : Work). w.target) p.works.items ≡ map (λ (i : Input). i.target) inputs) → length inputs < 2 ^ 32
     → IfOk res (λ p. length p.works.items < 2 ^ 32)
 ok_few inputs (Ok p) e h = few_works inputs p.works.items e h
 ok_few inputs (Err x) e h = tt
 
-pub err_plan : (words : List Text) (names : Roots) (r : Ruled) (header : Header) (inputs : List Input) (f0 : Option Contents) (k0 k1 : Option Ledger) (a b c d : ℕ) (res : Result Prepared Halt) → AreRoots names → header ≡ (run_of names r).header
-    → IfSome f0 (λ m. run_of_words words m ≡ Ok (run_of names r)) → IfSome f0 (λ m. AreInputs (run_of names r) m inputs) → AllRelative (map (λ (i : Input). i.target) inputs)
-    → IfErr res (HaltsPlan header k0 k1 c d) → IfErr res (HaltsEarly words f0 k0 k1 a b c d)
-err_plan words names r header inputs f0 k0 k1 a b c d (Ok p) sound same is are rel g = tt
-err_plan words names r header inputs f0 k0 k1 a b c d (Err h) sound same is are rel g = plan_early words names r header inputs f0 k0 k1 a b c d h sound same is are rel g
+pub err_plan : (asked : Asked) (names : Roots) (r : Ruled) (header : Header) (inputs : List Input) (f0 : Option Contents) (k0 k1 : Option Ledger) (a b c d : ℕ) (res : Result Prepared Halt) → AreRoots names → header ≡ (run_of names r).header
+    → IfSome f0 (λ m. run_of_asked asked m ≡ Ok (run_of names r)) → IfSome f0 (λ m. AreInputs (run_of names r) m inputs) → AllRelative (map (λ (i : Input). i.target) inputs)
+    → IfErr res (HaltsPlan header k0 k1 c d) → IfErr res (HaltsEarly asked f0 k0 k1 a b c d)
+err_plan asked names r header inputs f0 k0 k1 a b c d (Ok p) sound same is are rel g = tt
+err_plan asked names r header inputs f0 k0 k1 a b c d (Err h) sound same is are rel g = plan_early asked names r header inputs f0 k0 k1 a b c d h sound same is are rel g
 
-pub err_named : (words : List Text) (names : Roots) (header : Header) (k0 k1 : Option Ledger) (c d : ℕ) (old new : Option Text) (res : Result Prepared Halt) → roots_of_words words ≡ Ok names → IfErr res (HaltsPlan header k0 k1 c d)
-    → IfErr res (NamedAtHalt old new names.ledger) → IfErr res (NamedEarly words old new)
-err_named words names header k0 k1 c d old new (Ok p) e g n = tt
-err_named words names header k0 k1 c d old new (Err h) e g n = plan_named words names header k0 k1 c d old new h e g n
+pub err_named : (asked : Asked) (names : Roots) (header : Header) (k0 k1 : Option Ledger) (c d : ℕ) (old new : Option Text) (res : Result Prepared Halt) → asked ≡ Ok names → IfErr res (HaltsPlan header k0 k1 c d)
+    → IfErr res (NamedAtHalt old new names.ledger) → IfErr res (NamedEarly asked old new)
+err_named asked names header k0 k1 c d old new (Ok p) e g n = tt
+err_named asked names header k0 k1 c d old new (Err h) e g n = plan_named asked names header k0 k1 c d old new h e g n

@@ -1,5 +1,5 @@
 -- The clauses of a run, from where it stands at its end.
-use Rattle.std.proofs.Common.{All, Bool, ◌≡◌, ◌⊎◌, inl, inr, ℕ, ◌<◌, ◌≤◌, List, [], ◌∷◌, ◌++◌, Option, Some, None, refl, sym, ap, ◌∙◌, subst, true, arith, append-nil, length, length-append, Result, Ok, Err, OnOk, OnErr}
+use Rattle.std.proofs.Common.{All, ◌≡◌, ◌⊎◌, inl, inr, ℕ, ◌<◌, ◌≤◌, List, [], ◌∷◌, ◌++◌, Option, Some, None, refl, sym, ap, ◌∙◌, subst, true, arith, append-nil, length, length-append, Result, Ok, Err, OnOk, OnErr}
 use Rattle.std.specs.Prelude.{option_map, IsOkAnd, MatchResult}
 use Rattle.desk_base.specs.Names.{Text}
 use Rattle.desk_base.specs.Counts.{Rose, Rose-earlier, Rose-later}
@@ -11,6 +11,7 @@ use Rattle.desk_report.specs.declared.status.Status.{Status}
 use Rattle.desk_report.specs.declared.status.Status.TheVariants.{Done, Refusals, Memory, FolderFault, LedgerFault, OutputFault, Usage, NestedRoots, BadRules, Limit, PathClash, OtherRun}
 use Rattle.desk_report.specs.Texts.{fault_text}
 use Rattle.desk_report.specs.Written.{WritesFront, writing}
+use Rattle.desk_run.specs.Named.{Asked}
 use Rattle.desk_run.specs.declared.planning.Work.{Work}
 use Rattle.desk_run.specs.declared.stops.Halt.{Halt}
 use Rattle.std.proofs.lemmas.Bool.{and_parts}
@@ -33,10 +34,11 @@ use Rattle.desk_run.specs.Truth.{TrueLedger}
 use Rattle.desk_run.specs.Stops.{status_of_halt}
 use Rattle.desk_run.specs.Stands.{Unchanged, Between, Remains}
 use Rattle.desk_run.specs.Classes.{is_class_kind, is_selected_class, HoldsNewClass, RenamesClasses, Classes}
-use Rattle.desk_run.specs.Meaning.{run_of, run_of_words}
+use Rattle.desk_run.specs.Meaning.{run_of, run_of_asked}
 use Rattle.desk_run.specs.Answers.{first_answer}
 use Rattle.desk_run.specs.Endings.{WhereTold, Tells, Planned, HaltsEarly, Finishes, ReportedOf, HasCauses, StandsAt, IsDone, StandsAfter, is_final, Named}
 use Rattle.desk_run.specs.Clauses.{HoldsFiles, HoldsRows, Files, CompleteRows, KeepsLedger, LedgerHolds, Output, Exact, RemainsAt, Left}
+use Rattle.desk_run.specs.Generated.{TellsTotals, Generates, generated_totals}
 use Rattle.desk_run.proofs.After.{header_after}
 use Rattle.desk_run.proofs.Remaining.{remains_of, truth_of}
 use Rattle.desk_run.proofs.Ending.{finish_stands, early_stands, early_first}
@@ -68,12 +70,12 @@ same_ok : {T E : Type 0} (r : Result T E) (x y : T) → r ≡ Ok x → r ≡ Ok 
 same_ok (Ok z) x y e f = cc
 same_ok (Err z) x y e f = cc
 
-pub files_clause : (words : List Text) (m0 : Contents) (l0 : Ledger) (f : Option Contents) (k : Option Ledger) (status : Status)
-    → Tells f k (λ m l. StandsAfter words m0 l0 m l status) → Tells f k (λ m l. Files words m0 l0 m status)
-files_clause words m0 l0 f k status t = record { m = t.m; l = t.l; folders = t.folders; ledger = t.ledger; holds = by status t.holds } where
-  by : (status : Status) → StandsAfter words m0 l0 t.m t.l status → Files words m0 l0 t.m status
-  by Done s = ok_and (run_of_words words m0) s.run (λ run. HoldsFiles run m0 l0 t.m) s.is (holds_files s.run m0 l0 t.m t.l s.stands)
-  by Refusals s = ok_and (run_of_words words m0) s.run (λ run. HoldsFiles run m0 l0 t.m) s.is (holds_files s.run m0 l0 t.m t.l s.stands)
+pub files_clause : (asked : Asked) (m0 : Contents) (l0 : Ledger) (f : Option Contents) (k : Option Ledger) (status : Status)
+    → Tells f k (λ m l. StandsAfter asked m0 l0 m l status) → Tells f k (λ m l. Files asked m0 l0 m status)
+files_clause asked m0 l0 f k status t = record { m = t.m; l = t.l; folders = t.folders; ledger = t.ledger; holds = by status t.holds } where
+  by : (status : Status) → StandsAfter asked m0 l0 t.m t.l status → Files asked m0 l0 t.m status
+  by Done s = ok_and (run_of_asked asked m0) s.run (λ run. HoldsFiles run m0 l0 t.m) s.is (holds_files s.run m0 l0 t.m t.l s.stands)
+  by Refusals s = ok_and (run_of_asked asked m0) s.run (λ run. HoldsFiles run m0 l0 t.m) s.is (holds_files s.run m0 l0 t.m t.l s.stands)
   by Memory s = tt
   by OutputFault s = tt
   by (FolderFault done) s = tt
@@ -111,8 +113,8 @@ all_among : (before rest : List File) (file : File) → All (λ (f : File). IsBy
 all_among [] rest file h = All-head (λ (f : File). IsBytes f.bytes) file rest h
 all_among (f ∷ before) rest file h = all_among before rest file (All-tail (λ (g : File). IsBytes g.bytes) f (before ++ file ∷ rest) h)
 
-renames_classes : (words : List Text) (m0 : Contents) (l0 : Ledger) (m : Contents) (l : Ledger) → IsDone words m0 l0 m l → RenamesClasses words m0 l0 m
-renames_classes words m0 l0 m l d =
+renames_classes : (asked : Asked) (m0 : Contents) (l0 : Ledger) (m : Contents) (l : Ledger) → IsDone asked m0 l0 m l → RenamesClasses asked m0 l0 m
+renames_classes asked m0 l0 m l d =
     let holds : HoldsFiles (run_of d.runs.roots d.runs.ruled) m0 l0 m = subst (λ (r : Run). HoldsFiles r m0 l0 m) d.runs.is (holds_files d.run m0 l0 m l d.stands) in
     let bytes : All (λ (f : File). IsBytes f.bytes) (files_below (run_of d.runs.roots d.runs.ruled).from m0) = subst (λ (r : Run). All (λ (f : File). IsBytes f.bytes) (files_below r.from m0)) d.runs.is d.runs.bytes in
     record {
@@ -123,12 +125,12 @@ renames_classes words m0 l0 m l d =
           class_of_run d.runs.ruled.rules file image _ d.runs.settled (all_among before rest file (subst (All (λ (f : File). IsBytes f.bytes)) e bytes)) selected is (holds.images before rest file image e is truth);
     }
 
-pub classes_clause : (words : List Text) (m0 : Contents) (l0 : Ledger) (f : Option Contents) (k : Option Ledger) (status : Status)
-    → Tells f k (λ m l. StandsAfter words m0 l0 m l status) → Tells f k (λ m l. Classes words m0 l0 m status)
-classes_clause words m0 l0 f k status t = record { m = t.m; l = t.l; folders = t.folders; ledger = t.ledger; holds = by status t.holds } where
-  by : (status : Status) → StandsAfter words m0 l0 t.m t.l status → Classes words m0 l0 t.m status
-  by Done s = renames_classes words m0 l0 t.m t.l s
-  by Refusals s = renames_classes words m0 l0 t.m t.l s
+pub classes_clause : (asked : Asked) (m0 : Contents) (l0 : Ledger) (f : Option Contents) (k : Option Ledger) (status : Status)
+    → Tells f k (λ m l. StandsAfter asked m0 l0 m l status) → Tells f k (λ m l. Classes asked m0 l0 m status)
+classes_clause asked m0 l0 f k status t = record { m = t.m; l = t.l; folders = t.folders; ledger = t.ledger; holds = by status t.holds } where
+  by : (status : Status) → StandsAfter asked m0 l0 t.m t.l status → Classes asked m0 l0 t.m status
+  by Done s = renames_classes asked m0 l0 t.m t.l s
+  by Refusals s = renames_classes asked m0 l0 t.m t.l s
   by Memory s = tt
   by OutputFault s = tt
   by (FolderFault done) s = tt
@@ -140,19 +142,19 @@ classes_clause words m0 l0 f k status t = record { m = t.m; l = t.l; folders = t
   by (Limit kind path) s = tt
   by (PathClash first second) s = tt
 
-keeps_ledger : (words : List Text) (m0 : Contents) (l0 : Ledger) (m : Contents) (l : Ledger) (status : Status) → StandsAfter words m0 l0 m l status → KeepsLedger words m0 l0 m l status
-keeps_ledger words m0 l0 m l status s = record { stays = λ run is. truth status s run is; complete = rows status s } where
+keeps_ledger : (asked : Asked) (m0 : Contents) (l0 : Ledger) (m : Contents) (l : Ledger) (status : Status) → StandsAfter asked m0 l0 m l status → KeepsLedger asked m0 l0 m l status
+keeps_ledger asked m0 l0 m l status s = record { stays = λ run is. truth status s run is; complete = rows status s } where
   untouched : (u : Unchanged m0 l0 m l 0) (run : Run) → TrueLedger run m0 l0 → TrueLedger run m l
   untouched u run = truth_of run m0 l0 m l 0 (inl u)
 
-  begun : (done : ℕ) (run : Run) → run_of_words words m0 ≡ Ok run → StandsAt words m0 l0 m l done → TrueLedger run m0 l0 → TrueLedger run m l
+  begun : (done : ℕ) (run : Run) → run_of_asked asked m0 ≡ Ok run → StandsAt asked m0 l0 m l done → TrueLedger run m0 l0 → TrueLedger run m l
   begun done run is (inl u) = truth_of run m0 l0 m l done (inl u)
-  begun done run is (inr b) = subst (λ (r : Run). TrueLedger r m0 l0 → TrueLedger r m l) (same_ok (run_of_words words m0) b.run run b.is is) (truth_of b.run m0 l0 m l done (inr b.stands))
+  begun done run is (inr b) = subst (λ (r : Run). TrueLedger r m0 l0 → TrueLedger r m l) (same_ok (run_of_asked asked m0) b.run run b.is is) (truth_of b.run m0 l0 m l done (inr b.stands))
 
-  all : (d : IsDone words m0 l0 m l) (run : Run) → run_of_words words m0 ≡ Ok run → TrueLedger run m0 l0 → TrueLedger run m l
-  all d run is = subst (λ (r : Run). TrueLedger r m0 l0 → TrueLedger r m l) (same_ok (run_of_words words m0) d.run run d.is is) (truth_of d.run m0 l0 m l _ (inr (inl d.stands)))
+  all : (d : IsDone asked m0 l0 m l) (run : Run) → run_of_asked asked m0 ≡ Ok run → TrueLedger run m0 l0 → TrueLedger run m l
+  all d run is = subst (λ (r : Run). TrueLedger r m0 l0 → TrueLedger r m l) (same_ok (run_of_asked asked m0) d.run run d.is is) (truth_of d.run m0 l0 m l _ (inr (inl d.stands)))
 
-  truth : (status : Status) → StandsAfter words m0 l0 m l status → (run : Run) → run_of_words words m0 ≡ Ok run → TrueLedger run m0 l0 → TrueLedger run m l
+  truth : (status : Status) → StandsAfter asked m0 l0 m l status → (run : Run) → run_of_asked asked m0 ≡ Ok run → TrueLedger run m0 l0 → TrueLedger run m l
   truth Done s run is = all s run is
   truth Refusals s run is = all s run is
   truth OutputFault s run is = all s run is
@@ -166,9 +168,9 @@ keeps_ledger words m0 l0 m l status s = record { stays = λ run is. truth status
   truth (Limit kind path) s run is = untouched s run
   truth (PathClash first second) s run is = untouched s run
 
-  rows : (status : Status) → StandsAfter words m0 l0 m l status → CompleteRows words m0 l0 l status
-  rows Done s = ok_and (run_of_words words m0) s.run (λ run. HoldsRows run m0 l0 l) s.is (holds_rows s.run m0 l0 m l s.stands)
-  rows Refusals s = ok_and (run_of_words words m0) s.run (λ run. HoldsRows run m0 l0 l) s.is (holds_rows s.run m0 l0 m l s.stands)
+  rows : (status : Status) → StandsAfter asked m0 l0 m l status → CompleteRows asked m0 l0 l status
+  rows Done s = ok_and (run_of_asked asked m0) s.run (λ run. HoldsRows run m0 l0 l) s.is (holds_rows s.run m0 l0 m l s.stands)
+  rows Refusals s = ok_and (run_of_asked asked m0) s.run (λ run. HoldsRows run m0 l0 l) s.is (holds_rows s.run m0 l0 m l s.stands)
   rows Memory s = tt
   rows OutputFault s = tt
   rows (FolderFault done) s = tt
@@ -180,32 +182,32 @@ keeps_ledger words m0 l0 m l status s = record { stays = λ run is. truth status
   rows (Limit kind path) s = tt
   rows (PathClash first second) s = tt
 
-pub ledger_clause : (words : List Text) (f0 f : Option Contents) (k0 k : Option Ledger) (name0 name : Option Text) (status : Status)
-    → WhereTold f0 k0 (λ m0 l0. Tells f k (λ m l. StandsAfter words m0 l0 m l status)) → Named words name0 name status → LedgerHolds words f0 f k0 k name0 name status
-ledger_clause words f0 f k0 k name0 name status stands named = record {
+pub ledger_clause : (asked : Asked) (f0 f : Option Contents) (k0 k : Option Ledger) (name0 name : Option Text) (status : Status)
+    → WhereTold f0 k0 (λ m0 l0. Tells f k (λ m l. StandsAfter asked m0 l0 m l status)) → Named asked name0 name status → LedgerHolds asked f0 f k0 k name0 name status
+ledger_clause asked f0 f k0 k name0 name status stands named = record {
   kept = λ m0 l0 ef ek.
       let t = stands m0 l0 ef ek in
-      record { m = t.m; l = t.l; folders = t.folders; ledger = t.ledger; holds = keeps_ledger words m0 l0 t.m t.l status t.holds };
+      record { m = t.m; l = t.l; folders = t.folders; ledger = t.ledger; holds = keeps_ledger asked m0 l0 t.m t.l status t.holds };
   attached = named;
 }
 
-remains_at : (words : List Text) (m0 : Contents) (l0 : Ledger) (m : Contents) (l : Ledger) (done : ℕ) → StandsAt words m0 l0 m l done → RemainsAt words m0 l0 m l done
-remains_at words m0 l0 m l done (inl u) = by (run_of_words words m0) where
+remains_at : (asked : Asked) (m0 : Contents) (l0 : Ledger) (m : Contents) (l : Ledger) (done : ℕ) → StandsAt asked m0 l0 m l done → RemainsAt asked m0 l0 m l done
+remains_at asked m0 l0 m l done (inl u) = by (run_of_asked asked m0) where
   by : (r : Result Run Status) → MatchResult r (λ run. Remains run m0 l0 m l done) (λ _. Unchanged m0 l0 m l done)
   by (Ok run) = remains_of run m0 l0 m l done (inl u)
   by (Err status) = u
-remains_at words m0 l0 m l done (inr b) = subst (λ r. MatchResult r (λ run. Remains run m0 l0 m l done) (λ _. Unchanged m0 l0 m l done)) (sym b.is) (remains_of b.run m0 l0 m l done (inr b.stands))
+remains_at asked m0 l0 m l done (inr b) = subst (λ r. MatchResult r (λ run. Remains run m0 l0 m l done) (λ _. Unchanged m0 l0 m l done)) (sym b.is) (remains_of b.run m0 l0 m l done (inr b.stands))
 
-pub remains_clause : (words : List Text) (m0 : Contents) (l0 : Ledger) (f : Option Contents) (k : Option Ledger) (status : Status)
-    → Tells f k (λ m l. StandsAfter words m0 l0 m l status) → Tells f k (λ m l. Left words m0 l0 m l status)
-remains_clause words m0 l0 f k status t = record { m = t.m; l = t.l; folders = t.folders; ledger = t.ledger; holds = by status t.holds } where
-  by : (status : Status) → StandsAfter words m0 l0 t.m t.l status → Left words m0 l0 t.m t.l status
+pub remains_clause : (asked : Asked) (m0 : Contents) (l0 : Ledger) (f : Option Contents) (k : Option Ledger) (status : Status)
+    → Tells f k (λ m l. StandsAfter asked m0 l0 m l status) → Tells f k (λ m l. Left asked m0 l0 m l status)
+remains_clause asked m0 l0 f k status t = record { m = t.m; l = t.l; folders = t.folders; ledger = t.ledger; holds = by status t.holds } where
+  by : (status : Status) → StandsAfter asked m0 l0 t.m t.l status → Left asked m0 l0 t.m t.l status
   by Done s = tt
   by Refusals s = tt
-  by OutputFault s = ok_and (run_of_words words m0) s.run (λ run. HoldsFiles run m0 l0 t.m × HoldsRows run m0 l0 t.l) s.is (holds_files s.run m0 l0 t.m t.l s.stands, holds_rows s.run m0 l0 t.m t.l s.stands)
-  by Memory s = record { done = s.done; remains = remains_at words m0 l0 t.m t.l s.done s.stands }
-  by (FolderFault done) s = remains_at words m0 l0 t.m t.l done s
-  by (LedgerFault done) s = remains_at words m0 l0 t.m t.l done s
+  by OutputFault s = ok_and (run_of_asked asked m0) s.run (λ run. HoldsFiles run m0 l0 t.m × HoldsRows run m0 l0 t.l) s.is (holds_files s.run m0 l0 t.m t.l s.stands, holds_rows s.run m0 l0 t.m t.l s.stands)
+  by Memory s = record { done = s.done; remains = remains_at asked m0 l0 t.m t.l s.done s.stands }
+  by (FolderFault done) s = remains_at asked m0 l0 t.m t.l done s
+  by (LedgerFault done) s = remains_at asked m0 l0 t.m t.l done s
   by Usage s = (s.folder, s.ledger)
   by (NestedRoots first second) s = (s.folder, s.ledger)
   by (BadRules fault) s = (s.folder, s.ledger)
@@ -214,9 +216,9 @@ remains_clause words m0 l0 f k status t = record { m = t.m; l = t.l; folders = t
   by (PathClash first second) s = (s.folder, s.ledger)
 
 -- what is final is the first answer, and what else is quiet is want of memory
-pub status_clause : (words : List Text) (first status : Status) (f f' k k' o o' : ℕ) → (is_final status ≡ true → status ≡ first) → HasCauses words status f f' k k' o o' → Exact first status f f' k k' o o'
-status_clause words first status f f' k k' o o' h c = record { final = h; quiet = by status h c } where
-  by : (status : Status) → (is_final status ≡ true → status ≡ first) → HasCauses words status f f' k k' o o' → ¬ Rose f f' → ¬ Rose k k' → ¬ Rose o o' → (status ≡ first) ⊎ (status ≡ Memory)
+pub status_clause : (asked : Asked) (first status : Status) (f f' k k' o o' : ℕ) → (is_final status ≡ true → status ≡ first) → HasCauses asked status f f' k k' o o' → Exact first status f f' k k' o o'
+status_clause asked first status f f' k k' o o' h c = record { final = h; quiet = by status h c } where
+  by : (status : Status) → (is_final status ≡ true → status ≡ first) → HasCauses asked status f f' k k' o o' → ¬ Rose f f' → ¬ Rose k k' → ¬ Rose o o' → (status ≡ first) ⊎ (status ≡ Memory)
   by Done h c a b d = inl (h refl)
   by Refusals h c a b d = inl (h refl)
   by Memory h c a b d = inr refl
@@ -260,51 +262,69 @@ ok_map : {T E : Type 0} (r : Result T E) (P Q : T → Type 0) → ((x : T) → P
 ok_map (Ok x) P Q h p = h x p
 ok_map (Err e) P Q h p = p
 
-pub output_clause : (words : List Text) (f0 : Option Contents) (k0 : Option Ledger) (status : Status) (old mid new : Option Text) (o o1 o2 : ℕ) → o ≤ o1 → ReportedOf words f0 k0 old mid status
-    → (new ≡ writing (fault_text status) mid) ⊎ (WritesFront (fault_text status) mid new × Rose o1 o2) → Output words f0 k0 old new o o2 status
-output_clause words f0 k0 Done old mid new o o1 o2 le r w = λ m l ef ek. ok_map (run_of_words words m) _ _ (λ run e. no_line mid new o1 o2 w ∙ e) (r m l ef ek)
-output_clause words f0 k0 Refusals old mid new o o1 o2 le r w = λ m l ef ek. ok_map (run_of_words words m) _ _ (λ run e. no_line mid new o1 o2 w ∙ e) (r m l ef ek)
-output_clause words f0 k0 OutputFault old mid new o o1 o2 le r w = λ m l ef ek.
-    ok_map (run_of_words words m) _ _ (λ run e. record { mid = mid; report = e; fault = front_of_line (fault_text OutputFault) mid new o1 o2 w }) (r m l ef ek)
-output_clause words f0 k0 Memory old mid new o o1 o2 le r w = plain (fault_text Memory) old mid new o o1 o2 le r w
-output_clause words f0 k0 (FolderFault done) old mid new o o1 o2 le r w = plain (fault_text (FolderFault done)) old mid new o o1 o2 le r w
-output_clause words f0 k0 (LedgerFault done) old mid new o o1 o2 le r w = plain (fault_text (LedgerFault done)) old mid new o o1 o2 le r w
-output_clause words f0 k0 Usage old mid new o o1 o2 le r w = plain (fault_text Usage) old mid new o o1 o2 le r w
-output_clause words f0 k0 (NestedRoots first second) old mid new o o1 o2 le r w = plain (fault_text (NestedRoots first second)) old mid new o o1 o2 le r w
-output_clause words f0 k0 (BadRules fault) old mid new o o1 o2 le r w = plain (fault_text (BadRules fault)) old mid new o o1 o2 le r w
-output_clause words f0 k0 (OtherRun kept wanted) old mid new o o1 o2 le r w = plain (fault_text (OtherRun kept wanted)) old mid new o o1 o2 le r w
-output_clause words f0 k0 (Limit kind path) old mid new o o1 o2 le r w = plain (fault_text (Limit kind path)) old mid new o o1 o2 le r w
-output_clause words f0 k0 (PathClash first second) old mid new o o1 o2 le r w = plain (fault_text (PathClash first second)) old mid new o o1 o2 le r w
+pub output_clause : (asked : Asked) (f0 : Option Contents) (k0 : Option Ledger) (status : Status) (old mid new : Option Text) (o o1 o2 : ℕ) → o ≤ o1 → ReportedOf asked f0 k0 old mid status
+    → (new ≡ writing (fault_text status) mid) ⊎ (WritesFront (fault_text status) mid new × Rose o1 o2) → Output asked f0 k0 old new o o2 status
+output_clause asked f0 k0 Done old mid new o o1 o2 le r w = λ m l ef ek. ok_map (run_of_asked asked m) _ _ (λ run e. no_line mid new o1 o2 w ∙ e) (r m l ef ek)
+output_clause asked f0 k0 Refusals old mid new o o1 o2 le r w = λ m l ef ek. ok_map (run_of_asked asked m) _ _ (λ run e. no_line mid new o1 o2 w ∙ e) (r m l ef ek)
+output_clause asked f0 k0 OutputFault old mid new o o1 o2 le r w = λ m l ef ek.
+    ok_map (run_of_asked asked m) _ _ (λ run e. record { mid = mid; report = e; fault = front_of_line (fault_text OutputFault) mid new o1 o2 w }) (r m l ef ek)
+output_clause asked f0 k0 Memory old mid new o o1 o2 le r w = plain (fault_text Memory) old mid new o o1 o2 le r w
+output_clause asked f0 k0 (FolderFault done) old mid new o o1 o2 le r w = plain (fault_text (FolderFault done)) old mid new o o1 o2 le r w
+output_clause asked f0 k0 (LedgerFault done) old mid new o o1 o2 le r w = plain (fault_text (LedgerFault done)) old mid new o o1 o2 le r w
+output_clause asked f0 k0 Usage old mid new o o1 o2 le r w = plain (fault_text Usage) old mid new o o1 o2 le r w
+output_clause asked f0 k0 (NestedRoots first second) old mid new o o1 o2 le r w = plain (fault_text (NestedRoots first second)) old mid new o o1 o2 le r w
+output_clause asked f0 k0 (BadRules fault) old mid new o o1 o2 le r w = plain (fault_text (BadRules fault)) old mid new o o1 o2 le r w
+output_clause asked f0 k0 (OtherRun kept wanted) old mid new o o1 o2 le r w = plain (fault_text (OtherRun kept wanted)) old mid new o o1 o2 le r w
+output_clause asked f0 k0 (Limit kind path) old mid new o o1 o2 le r w = plain (fault_text (Limit kind path)) old mid new o o1 o2 le r w
+output_clause asked f0 k0 (PathClash first second) old mid new o o1 o2 le r w = plain (fault_text (PathClash first second)) old mid new o o1 o2 le r w
 
-pub causes_after : (words : List Text) (status : Status) (f f' k k' o o1 o2 : ℕ) → o1 ≤ o2 → HasCauses words status f f' k k' o o1 → HasCauses words status f f' k k' o o2
-causes_after words OutputFault f f' k k' o o1 o2 le c = Rose-later o o1 o2 c le
-causes_after words (FolderFault done) f f' k k' o o1 o2 le c = c
-causes_after words (LedgerFault done) f f' k k' o o1 o2 le c = c
-causes_after words Done f f' k k' o o1 o2 le c = c
-causes_after words Refusals f f' k k' o o1 o2 le c = c
-causes_after words Memory f f' k k' o o1 o2 le c = c
-causes_after words Usage f f' k k' o o1 o2 le c = c
-causes_after words (NestedRoots first second) f f' k k' o o1 o2 le c = c
-causes_after words (BadRules fault) f f' k k' o o1 o2 le c = c
-causes_after words (OtherRun kept wanted) f f' k k' o o1 o2 le c = c
-causes_after words (Limit kind path) f f' k k' o o1 o2 le c = c
-causes_after words (PathClash first second) f f' k k' o o1 o2 le c = c
+pub causes_after : (asked : Asked) (status : Status) (f f' k k' o o1 o2 : ℕ) → o1 ≤ o2 → HasCauses asked status f f' k k' o o1 → HasCauses asked status f f' k k' o o2
+causes_after asked OutputFault f f' k k' o o1 o2 le c = Rose-later o o1 o2 c le
+causes_after asked (FolderFault done) f f' k k' o o1 o2 le c = c
+causes_after asked (LedgerFault done) f f' k k' o o1 o2 le c = c
+causes_after asked Done f f' k k' o o1 o2 le c = c
+causes_after asked Refusals f f' k k' o o1 o2 le c = c
+causes_after asked Memory f f' k k' o o1 o2 le c = c
+causes_after asked Usage f f' k k' o o1 o2 le c = c
+causes_after asked (NestedRoots first second) f f' k k' o o1 o2 le c = c
+causes_after asked (BadRules fault) f f' k k' o o1 o2 le c = c
+causes_after asked (OtherRun kept wanted) f f' k k' o o1 o2 le c = c
+causes_after asked (Limit kind path) f f' k k' o o1 o2 le c = c
+causes_after asked (PathClash first second) f f' k k' o o1 o2 le c = c
 
 -- where a run stands that was prepared and finished
-pub finish_told : (words : List Text) (f0 f1 f' : Option Contents) (k0 k1 k' : Option Ledger) (m : Contents) (l : Ledger) (to : Text) (header : Header) (works : List Work) (status : Status) → f0 ≡ Some m → k0 ≡ Some l
-    → f1 ≡ f0 → k1 ≡ option_map (with_header header) k0 → Planned words m l to header works → Finishes to works f1 f' k1 k' status → Tells f' k' (λ m' l'. StandsAfter words m l m' l' status)
-finish_told words f0 f1 f' k0 k1 k' m l to header works status ef ek f k p a =
-    finish_stands words m l to header works f' k' status p
+pub finish_told : (asked : Asked) (f0 f1 f' : Option Contents) (k0 k1 k' : Option Ledger) (m : Contents) (l : Ledger) (to : Text) (header : Header) (works : List Work) (status : Status) → f0 ≡ Some m → k0 ≡ Some l
+    → f1 ≡ f0 → k1 ≡ option_map (with_header header) k0 → Planned asked m l to header works → Finishes to works f1 f' k1 k' status → Tells f' k' (λ m' l'. StandsAfter asked m l m' l' status)
+finish_told asked f0 f1 f' k0 k1 k' m l to header works status ef ek f k p a =
+    finish_stands asked m l to header works f' k' status p
     (subst (λ x. Finishes to works x f' (Some (with_header header l)) k' status) (f ∙ ef)
     (subst (λ x. Finishes to works f1 f' x k' status) (k ∙ ap (option_map (with_header header)) ek) a))
 
-pub early_told : (words : List Text) (f0 f' : Option Contents) (k0 k' : Option Ledger) (m : Contents) (l : Ledger) (a b c d : ℕ) (h : Halt) → f0 ≡ Some m → k0 ≡ Some l → f' ≡ f0
-    → HaltsEarly words f0 k0 k' a b c d h → Tells f' k' (λ m' l'. StandsAfter words m l m' l' (status_of_halt h))
-early_told words f0 f' k0 k' m l a b c d h ef ek f s =
-    early_stands words m l f' k' a b c d h (f ∙ ef)
-    (subst (λ x. HaltsEarly words x (Some l) k' a b c d h) ef (subst (λ x. HaltsEarly words f0 x k' a b c d h) ek s))
+pub early_told : (asked : Asked) (f0 f' : Option Contents) (k0 k' : Option Ledger) (m : Contents) (l : Ledger) (a b c d : ℕ) (h : Halt) → f0 ≡ Some m → k0 ≡ Some l → f' ≡ f0
+    → HaltsEarly asked f0 k0 k' a b c d h → Tells f' k' (λ m' l'. StandsAfter asked m l m' l' (status_of_halt h))
+early_told asked f0 f' k0 k' m l a b c d h ef ek f s =
+    early_stands asked m l f' k' a b c d h (f ∙ ef)
+    (subst (λ x. HaltsEarly asked x (Some l) k' a b c d h) ef (subst (λ x. HaltsEarly asked f0 x k' a b c d h) ek s))
 
-pub early_told_first : (words : List Text) (f0 : Option Contents) (k0 k' : Option Ledger) (m : Contents) (l : Ledger) (a b c d : ℕ) (h : Halt) → f0 ≡ Some m → k0 ≡ Some l
-    → HaltsEarly words f0 k0 k' a b c d h → is_final (status_of_halt h) ≡ true → status_of_halt h ≡ first_answer words m l
-early_told_first words f0 k0 k' m l a b c d h ef ek s e =
-    early_first words m l k' a b c d h (subst (λ x. HaltsEarly words x (Some l) k' a b c d h) ef (subst (λ x. HaltsEarly words f0 x k' a b c d h) ek s)) e
+pub early_told_first : (asked : Asked) (f0 : Option Contents) (k0 k' : Option Ledger) (m : Contents) (l : Ledger) (a b c d : ℕ) (h : Halt) → f0 ≡ Some m → k0 ≡ Some l
+    → HaltsEarly asked f0 k0 k' a b c d h → is_final (status_of_halt h) ≡ true → status_of_halt h ≡ first_answer asked m l
+early_told_first asked f0 k0 k' m l a b c d h ef ek s e =
+    early_first asked m l k' a b c d h (subst (λ x. HaltsEarly asked x (Some l) k' a b c d h) ef (subst (λ x. HaltsEarly asked f0 x k' a b c d h) ek s)) e
+
+-- ---- generate
+
+pub generates : (n : ℕ) (status : Status) (old mid new : Option Text) (o o1 o2 : ℕ) → o ≤ o1 → TellsTotals n old mid status
+    → (new ≡ writing (fault_text status) mid) ⊎ (WritesFront (fault_text status) mid new × Rose o1 o2) → Generates n old new o o2 status
+generates n Done old mid new o o1 o2 le t w = ok_map (generated_totals n) _ _ (λ totals e. no_line mid new o1 o2 w ∙ e) t
+generates n OutputFault old mid new o o1 o2 le t w =
+    ok_map (generated_totals n) _ _ (λ totals e. record { mid = mid; report = e; fault = front_of_line (fault_text OutputFault) mid new o1 o2 w }) t
+generates n Memory old mid new o o1 o2 le t w = plain (fault_text Memory) old mid new o o1 o2 le t w
+generates n Refusals old mid new o o1 o2 le t w = absurd t
+generates n (FolderFault done) old mid new o o1 o2 le t w = absurd t
+generates n (LedgerFault done) old mid new o o1 o2 le t w = absurd t
+generates n Usage old mid new o o1 o2 le t w = absurd t
+generates n (NestedRoots first second) old mid new o o1 o2 le t w = absurd t
+generates n (BadRules fault) old mid new o o1 o2 le t w = absurd t
+generates n (OtherRun kept wanted) old mid new o o1 o2 le t w = absurd t
+generates n (Limit kind path) old mid new o o1 o2 le t w = absurd t
+generates n (PathClash first second) old mid new o o1 o2 le t w = absurd t

@@ -1,13 +1,12 @@
 -- Paths that are listed, with their targets.
-use Rattle.std.proofs.Common.{◌≡◌, ◌⊎◌, inl, inr, ℕ, suc, ◌+◌, ◌<◌, ◌≤◌, Bool, true, false, List, [], ◌∷◌, ◌++◌, length, Option, Some, None, refl, sym, ap, ◌∙◌, subst, take, drop, get_or, map, map-id, append-nil, append_assoc, zero, arith, IfSome, IfErr, IfOk, Result, Ok, Err, Vec, Global}
-use Rattle.std.specs.Prelude.{if◌then◌else◌, nat_lt, ◌&&◌}
+use Rattle.std.proofs.Common.{◌≡◌, ◌⊎◌, inl, inr, ℕ, suc, ◌<◌, ◌≤◌, Bool, true, false, List, [], ◌∷◌, ◌++◌, length, Option, Some, None, refl, sym, ap, ◌∙◌, subst, take, drop, get_or, map, map-id, append-nil, append_assoc, zero, arith, IfSome, IfErr, IfOk, Result, Ok, Err, Vec, Global}
+use Rattle.std.specs.Prelude.{if◌then◌else◌, ◌&&◌}
 use Rattle.std.specs.List.{list_all}
 use Rattle.std.proofs.lemmas.Bool.{and_parts}
 use Rattle.desk_base.specs.Names.{Text}
 use Rattle.desk_base.specs.Paths.{is_relative_path}
 use Rattle.desk_folders.specs.Contents.{Contents, IsListing, paths_below}
 use Rattle.desk_report.specs.declared.status.LimitKind.TheVariants.{Files, PathLength}
-use Rattle.desk_report.specs.declared.status.Status.{Status}
 use Rattle.desk_report.specs.declared.status.Status.TheVariants.{Limit}
 use Rattle.desk_run.specs.declared.stops.Halt.{Halt}
 use Rattle.desk_run.specs.declared.stops.Halt.TheVariants as halt

@@ -1,18 +1,16 @@
 -- Limits of sizes, file by file.
-use Rattle.std.proofs.Common.{◌≡◌, ℕ, ◌+◌, ◌-◌, ◌<◌, ◌≤◌, Bool, true, false, List, [], ◌∷◌, ◌++◌, length, Option, Some, None, refl, sym, ap, ◌∙◌, subst, cond, nat_lt, map, arith, IfSome, append_assoc, append-nil}
+use Rattle.std.proofs.Common.{◌≡◌, ℕ, ◌+◌, ◌<◌, ◌≤◌, Bool, true, false, List, [], ◌∷◌, ◌++◌, length, Some, None, refl, sym, ap, ◌∙◌, subst, cond, nat_lt, map, arith, append_assoc}
 use Rattle.std.specs.Prelude.{if◌then◌else◌}
 use Rattle.std.proofs.lemmas.List.{map-append}
 use Rattle.desk_base.specs.Names.{Text}
 use Rattle.desk_base.specs.Paths.{full}
 use Rattle.desk_folders.specs.Contents.{Contents, File, bytes_at, file_at, files_below, paths_below}
 use Rattle.desk_report.specs.declared.status.LimitKind.TheVariants.{FileSize, Sum, RuleSize}
-use Rattle.desk_report.specs.declared.status.Status.{Status}
 use Rattle.desk_report.specs.declared.status.Status.TheVariants.{Limit}
 use Rattle.desk_base.specs.Limits.{file_size}
 use Rattle.desk_run.specs.declared.files.Input.{Input}
 use Rattle.desk_run.specs.declared.files.Route.{Route}
 use Rattle.desk_run.specs.Limits.{within, size_answer, sum_size, rule_size, rule_size_answer}
-use Rattle.desk_run.proofs.Parts.{at_some, if_some}
 
 -- what is read of a file that is within a limit, and of one that isn't
 pub within_some : (limit : ℕ) (bytes whole : Text) → Some bytes ≡ within limit whole → (bytes ≡ whole) × (nat_lt limit (length whole) ≡ false)

@@ -1,5 +1,5 @@
 -- Rule files that are taken in, one after another.
-use Rattle.std.proofs.Common.{◌≡◌, ◌≢◌, ◌⊎◌, inl, inr, ℕ, zero, suc, ◌+◌, ◌<◌, ◌≤◌, Bool, true, false, List, [], ◌∷◌, ◌++◌, length, Option, Some, None, refl, sym, ap, ◌∙◌, subst, take, drop, get_or, map, arith, IfSome, IfErr, IfOk, Result, Ok, Err, append-nil, append_assoc, drop-cons, Box, Global}
+use Rattle.std.proofs.Common.{◌≡◌, ◌≢◌, inl, inr, ℕ, zero, suc, ◌+◌, ◌<◌, ◌≤◌, true, false, List, [], ◌∷◌, ◌++◌, length, Option, Some, None, refl, sym, ap, ◌∙◌, subst, take, drop, get_or, map, arith, IfSome, IfErr, IfOk, Result, Ok, Err, append-nil, drop-cons, Box, Global}
 use Rattle.std.specs.Prelude.{if◌then◌else◌, nat_lt}
 use Rattle.std.specs.Cmp.Lexicographic.{slice_cmp}
 use Rattle.std.specs.FinMap as fin
@@ -8,7 +8,6 @@ use Rattle.std.specs.List.{AllByRecursion, flat_map}
 use Rattle.std.specs.List.Sorted.{IsStrictlySortedBy}
 use Rattle.std.specs.Ordering.{nat_cmp, is_eq}
 use Rattle.std.specs.declared.cmp.Ordering.TheVariants.{Less}
-use Rattle.std.specs.Str.{bytes_eq}
 use Rattle.std.proofs.lemmas.Grind.{flat_map-append}
 use Rattle.std.proofs.lemmas.List.{length-map, map-append, take_more}
 use Rattle.std.proofs.lemmas.Map.Text.{is_eq-slice_cmp}
@@ -28,14 +27,13 @@ use Rattle.desk_run.specs.declared.rules.Ruled.{Ruled}
 use Rattle.desk_run.specs.declared.rules.Taken.{Taken}
 use Rattle.desk_run.specs.declared.stops.Halt.{Halt}
 use Rattle.desk_run.specs.declared.stops.Halt.TheVariants as halt
-use Rattle.desk_run.specs.Limits.{within, most_rule_files, rule_size, rule_size_answer, rule_files_answer}
+use Rattle.desk_run.specs.Limits.{within, most_rule_files, rule_size, rule_size_answer}
 use Rattle.desk_run.specs.Meaning.{adding_files, named_files, digest_entry, with_digest, ruled, ruled_by}
 use Rattle.desk_run.specs.RuleFolders.{Takes, HasTakenAll, Free}
 use Rattle.desk_run.specs.Runs.{AllApart, Misses}
-use Rattle.desk_run.specs.Halts.{HaltsTakingOne, HaltsTaking, HaltsAtRules, HaltsBuilding, is_rules_status}
+use Rattle.desk_run.specs.Halts.{HaltsTakingOne, HaltsTaking, HaltsAtRules, HaltsBuilding}
 use Rattle.desk_run.proofs.Parts.{at_some, if_some, dropped_all, taken_all}
-use Rattle.desk_run.proofs.Sizes.{within_none, within_some, rule_large, rule_fits, is_more, not_more}
-use Rattle.desk_run.proofs.Writing.{split_at}
+use Rattle.desk_run.proofs.Sizes.{within_none, rule_large, rule_fits, is_more, not_more}
 
 -- names in order differ
 less_differs : (x y : Text) → slice_cmp nat_cmp x y ≡ Less → x ≢ y

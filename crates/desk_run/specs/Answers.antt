@@ -12,8 +12,8 @@ use Rattle.desk_report.specs.declared.status.Status.TheVariants.{Usage, NestedRo
 use Rattle.desk_run.specs.Limits.{paths_answer, size_answer}
 use Rattle.desk_run.specs.Reports.{ending}
 use Rattle.desk_run.specs.Runs.{Run}
-use Rattle.desk_run.specs.Named.{roots_of_words}
-use Rattle.desk_run.specs.Meaning.{run_of_words}
+use Rattle.desk_run.specs.Named.{Asked}
+use Rattle.desk_run.specs.Meaning.{run_of_asked}
 
 -- the first of two that stands
 abbrev pub first_of : Option Status → Option Status → Option Status
@@ -54,14 +54,14 @@ answer_of_run m l (Ok run) = or_else (files_answer run m) (or_else (other_run ru
 -- the first that stands of: words without a task; nested roots; too many rule files; a rule file that is
 -- too large; bad rules; too many files; a path that is too long; files that are too large; two targets that
 -- clash; another run's ledger; files that are refused; and else that all is done
-abbrev pub first_answer : List Text → Contents → Ledger → Status
-first_answer words m l = answer_of_run m l (run_of_words words m)
+abbrev pub first_answer : Asked → Contents → Ledger → Status
+first_answer asked m l = answer_of_run m l (run_of_asked asked m)
 
 -- what the causes of a status are, where nothing is told
-abbrev pub WordsCause : List Text → Status → Type 0
-WordsCause words Usage = roots_of_words words ≡ Err Usage
-WordsCause words (NestedRoots first second) = roots_of_words words ≡ Err (NestedRoots first second)
-WordsCause words _ = Unit {0}
+abbrev pub AskedCause : Asked → Status → Type 0
+AskedCause asked Usage = asked ≡ Err Usage
+AskedCause asked (NestedRoots first second) = asked ≡ Err (NestedRoots first second)
+AskedCause asked _ = Unit {0}
 
 -- a status with which words, folders or ledger stand against a run
 abbrev pub is_answer : Status → Bool

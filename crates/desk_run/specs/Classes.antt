@@ -18,8 +18,9 @@ use Rattle.desk_report.specs.declared.status.Status.{Status}
 use Rattle.desk_report.specs.declared.status.Status.TheVariants.{Done, Refusals}
 use Rattle.desk_rules.specs.Rules.{Rules}
 use Rattle.desk_words.specs.declared.roots.Roots.{Roots}
+use Rattle.desk_run.specs.Named.{Asked}
 use Rattle.desk_run.specs.declared.rules.Ruled.{Ruled}
-use Rattle.desk_run.specs.Meaning.{run_of, run_of_words}
+use Rattle.desk_run.specs.Meaning.{run_of, run_of_asked}
 use Rattle.desk_run.specs.Runs.{Run, is_kept_file}
 use Rattle.desk_run.specs.Truth.{TrueLedger}
 
@@ -48,14 +49,14 @@ HoldsClasses run rules m0 l0 m = (before rest : List File) (file : File) (image 
     → is_selected_class rules file.path ≡ true → run.image file.path file.bytes ≡ Ok image → TrueLedger run m0 l0 ⊎ (is_kept_file run l0.rows file ≡ false)
     → HoldsNewClass rules file.bytes (fin.get m (full run.to (run.target file.path)))
 
-pub record RenamesClasses (words : List Text) (m0 : Contents) (l0 : Ledger) (m : Contents) : Type 0 where
+pub record RenamesClasses (asked : Asked) (m0 : Contents) (l0 : Ledger) (m : Contents) : Type 0 where
   pub roots : Roots
   pub ruled : Ruled
-  pub is : run_of_words words m0 ≡ Ok (run_of roots ruled)
+  pub is : run_of_asked asked m0 ≡ Ok (run_of roots ruled)
   pub classes : HoldsClasses (run_of roots ruled) ruled.rules m0 l0 m
 
 -- classes: after a run that completes
-abbrev pub Classes : List Text → Contents → Ledger → Contents → Status → Type 0
-Classes words m0 l0 m Done = RenamesClasses words m0 l0 m
-Classes words m0 l0 m Refusals = RenamesClasses words m0 l0 m
-Classes words m0 l0 m _ = Unit {0}
+abbrev pub Classes : Asked → Contents → Ledger → Contents → Status → Type 0
+Classes asked m0 l0 m Done = RenamesClasses asked m0 l0 m
+Classes asked m0 l0 m Refusals = RenamesClasses asked m0 l0 m
+Classes asked m0 l0 m _ = Unit {0}

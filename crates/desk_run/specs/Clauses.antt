@@ -11,11 +11,12 @@ use Rattle.desk_report.specs.declared.status.Status.TheVariants.{Done, Refusals,
 use Rattle.desk_report.specs.Texts.{fault_text}
 use Rattle.desk_report.specs.Written.{WritesFront, writing}
 use Rattle.desk_file.specs.declared.images.Image.{Image}
+use Rattle.desk_run.specs.Named.{Asked}
 use Rattle.desk_run.specs.Runs.{Run, held_of, is_kept_file, is_fresh}
 use Rattle.desk_run.specs.Truth.{TrueLedger}
 use Rattle.desk_run.specs.Stands.{Unchanged, Remains}
 use Rattle.desk_run.specs.Reports.{report}
-use Rattle.desk_run.specs.Meaning.{run_of_words}
+use Rattle.desk_run.specs.Meaning.{run_of_asked}
 use Rattle.desk_run.specs.Endings.{WhereTold, Tells, Named, is_final}
 
 -- the targets of accepted files hold their images, of a kept file where the ledger was true; every path
@@ -36,25 +37,25 @@ pub record HoldsRows (run : Run) (m0 : Contents) (l0 l : Ledger) : Type 0 where
       → run.target file.path ≢ target) → fin.get l.rows target ≡ fin.get l0.rows target
 
 -- files: after a run that completes
-abbrev pub Files : List Text → Contents → Ledger → Contents → Status → Type 0
-Files words m0 l0 m Done = IsOkAnd (run_of_words words m0) (λ run. HoldsFiles run m0 l0 m)
-Files words m0 l0 m Refusals = IsOkAnd (run_of_words words m0) (λ run. HoldsFiles run m0 l0 m)
-Files words m0 l0 m _ = Unit {0}
+abbrev pub Files : Asked → Contents → Ledger → Contents → Status → Type 0
+Files asked m0 l0 m Done = IsOkAnd (run_of_asked asked m0) (λ run. HoldsFiles run m0 l0 m)
+Files asked m0 l0 m Refusals = IsOkAnd (run_of_asked asked m0) (λ run. HoldsFiles run m0 l0 m)
+Files asked m0 l0 m _ = Unit {0}
 
-abbrev pub CompleteRows : List Text → Contents → Ledger → Ledger → Status → Type 0
-CompleteRows words m0 l0 l Done = IsOkAnd (run_of_words words m0) (λ run. HoldsRows run m0 l0 l)
-CompleteRows words m0 l0 l Refusals = IsOkAnd (run_of_words words m0) (λ run. HoldsRows run m0 l0 l)
-CompleteRows words m0 l0 l _ = Unit {0}
+abbrev pub CompleteRows : Asked → Contents → Ledger → Ledger → Status → Type 0
+CompleteRows asked m0 l0 l Done = IsOkAnd (run_of_asked asked m0) (λ run. HoldsRows run m0 l0 l)
+CompleteRows asked m0 l0 l Refusals = IsOkAnd (run_of_asked asked m0) (λ run. HoldsRows run m0 l0 l)
+CompleteRows asked m0 l0 l _ = Unit {0}
 
 -- a true ledger is true at exit, and has all rows after a run that completes
-pub record KeepsLedger (words : List Text) (m0 : Contents) (l0 : Ledger) (m : Contents) (l : Ledger) (status : Status) : Type 0 where
-  pub stays : (run : Run) → run_of_words words m0 ≡ Ok run → TrueLedger run m0 l0 → TrueLedger run m l
-  pub complete : CompleteRows words m0 l0 l status
+pub record KeepsLedger (asked : Asked) (m0 : Contents) (l0 : Ledger) (m : Contents) (l : Ledger) (status : Status) : Type 0 where
+  pub stays : (run : Run) → run_of_asked asked m0 ≡ Ok run → TrueLedger run m0 l0 → TrueLedger run m l
+  pub complete : CompleteRows asked m0 l0 l status
 
 -- ledger: what is told of it, and the name that is attached
-pub record LedgerHolds (words : List Text) (f0 f : Option Contents) (k0 k : Option Ledger) (name0 name : Option Text) (status : Status) : Type 0 where
-  pub kept : WhereTold f0 k0 (λ m0 l0. Tells f k (λ m l. KeepsLedger words m0 l0 m l status))
-  pub attached : Named words name0 name status
+pub record LedgerHolds (asked : Asked) (f0 f : Option Contents) (k0 k : Option Ledger) (name0 name : Option Text) (status : Status) : Type 0 where
+  pub kept : WhereTold f0 k0 (λ m0 l0. Tells f k (λ m l. KeepsLedger asked m0 l0 m l status))
+  pub attached : Named asked name0 name status
 
 -- a front of a text, and behind it a front of a line
 pub record TwoFronts (text line : Text) (old new : Option Text) : Type 0 where
@@ -63,11 +64,11 @@ pub record TwoFronts (text line : Text) (old new : Option Text) : Type 0 where
   pub fault : WritesFront line mid new
 
 -- output
-abbrev pub Output : List Text → Option Contents → Option Ledger → Option Text → Option Text → ℕ → ℕ → Status → Type 0
-Output words f0 k0 old new o o' Done = WhereTold f0 k0 (λ m l. IsOkAnd (run_of_words words m) (λ run. new ≡ writing (report run l.rows (files_below run.from m)) old))
-Output words f0 k0 old new o o' Refusals = WhereTold f0 k0 (λ m l. IsOkAnd (run_of_words words m) (λ run. new ≡ writing (report run l.rows (files_below run.from m)) old))
-Output words f0 k0 old new o o' OutputFault = WhereTold f0 k0 (λ m l. IsOkAnd (run_of_words words m) (λ run. TwoFronts (report run l.rows (files_below run.from m)) (fault_text OutputFault) old new))
-Output words f0 k0 old new o o' status = (new ≡ writing (fault_text status) old) ⊎ (WritesFront (fault_text status) old new × Rose o o')
+abbrev pub Output : Asked → Option Contents → Option Ledger → Option Text → Option Text → ℕ → ℕ → Status → Type 0
+Output asked f0 k0 old new o o' Done = WhereTold f0 k0 (λ m l. IsOkAnd (run_of_asked asked m) (λ run. new ≡ writing (report run l.rows (files_below run.from m)) old))
+Output asked f0 k0 old new o o' Refusals = WhereTold f0 k0 (λ m l. IsOkAnd (run_of_asked asked m) (λ run. new ≡ writing (report run l.rows (files_below run.from m)) old))
+Output asked f0 k0 old new o o' OutputFault = WhereTold f0 k0 (λ m l. IsOkAnd (run_of_asked asked m) (λ run. TwoFronts (report run l.rows (files_below run.from m)) (fault_text OutputFault) old new))
+Output asked f0 k0 old new o o' status = (new ≡ writing (fault_text status) old) ⊎ (WritesFront (fault_text status) old new × Rose o o')
 
 -- status: the first answer, or a fault of the outside, or want of memory
 pub record Exact (first status : Status) (f f' k k' o o' : ℕ) : Type 0 where
@@ -75,19 +76,19 @@ pub record Exact (first status : Status) (f f' k k' o o' : ℕ) : Type 0 where
   pub quiet : ¬ Rose f f' → ¬ Rose k k' → ¬ Rose o o' → (status ≡ first) ⊎ (status ≡ Memory)
 
 -- what stands after so many files; where there is no run, all stands as it was
-abbrev pub RemainsAt : List Text → Contents → Ledger → Contents → Ledger → ℕ → Type 0
-RemainsAt words m0 l0 m l done = MatchResult (run_of_words words m0) (λ run. Remains run m0 l0 m l done) (λ _. Unchanged m0 l0 m l done)
+abbrev pub RemainsAt : Asked → Contents → Ledger → Contents → Ledger → ℕ → Type 0
+RemainsAt asked m0 l0 m l done = MatchResult (run_of_asked asked m0) (λ run. Remains run m0 l0 m l done) (λ _. Unchanged m0 l0 m l done)
 
-pub record RemainsSomewhere (words : List Text) (m0 : Contents) (l0 : Ledger) (m : Contents) (l : Ledger) : Type 0 where
+pub record RemainsSomewhere (asked : Asked) (m0 : Contents) (l0 : Ledger) (m : Contents) (l : Ledger) : Type 0 where
   pub done : ℕ
-  pub remains : RemainsAt words m0 l0 m l done
+  pub remains : RemainsAt asked m0 l0 m l done
 
 -- remains: what stands after the other statuses
-abbrev pub Left : List Text → Contents → Ledger → Contents → Ledger → Status → Type 0
-Left words m0 l0 m l Done = Unit {0}
-Left words m0 l0 m l Refusals = Unit {0}
-Left words m0 l0 m l OutputFault = IsOkAnd (run_of_words words m0) (λ run. HoldsFiles run m0 l0 m × HoldsRows run m0 l0 l)
-Left words m0 l0 m l Memory = RemainsSomewhere words m0 l0 m l
-Left words m0 l0 m l (FolderFault done) = RemainsAt words m0 l0 m l done
-Left words m0 l0 m l (LedgerFault done) = RemainsAt words m0 l0 m l done
-Left words m0 l0 m l _ = (m ≡ m0) × (l ≡ l0)
+abbrev pub Left : Asked → Contents → Ledger → Contents → Ledger → Status → Type 0
+Left asked m0 l0 m l Done = Unit {0}
+Left asked m0 l0 m l Refusals = Unit {0}
+Left asked m0 l0 m l OutputFault = IsOkAnd (run_of_asked asked m0) (λ run. HoldsFiles run m0 l0 m × HoldsRows run m0 l0 l)
+Left asked m0 l0 m l Memory = RemainsSomewhere asked m0 l0 m l
+Left asked m0 l0 m l (FolderFault done) = RemainsAt asked m0 l0 m l done
+Left asked m0 l0 m l (LedgerFault done) = RemainsAt asked m0 l0 m l done
+Left asked m0 l0 m l _ = (m ≡ m0) × (l ≡ l0)

@@ -25,9 +25,9 @@ use Rattle.desk_run.specs.Inputs.{input_of}
 use Rattle.desk_run.specs.declared.stops.Stop.TheVariants as stop
 use Rattle.desk_run.specs.Stops.{StopsAt, status_of_halt}
 use Rattle.desk_run.specs.Stands.{Unchanged, Between, Within}
-use Rattle.desk_run.specs.Named.{roots_of_words}
-use Rattle.desk_run.specs.Meaning.{run_of, run_of_words}
-use Rattle.desk_run.specs.Answers.{files_answer, other_run, first_answer, is_answer, WordsCause}
+use Rattle.desk_run.specs.Named.{Asked}
+use Rattle.desk_run.specs.Meaning.{run_of, run_of_asked}
+use Rattle.desk_run.specs.Answers.{files_answer, other_run, first_answer, is_answer, AskedCause}
 
 -- where folders and keeper tell their contents
 abbrev pub WhereTold : Option Contents → Option Ledger → (Contents → Ledger → Type 0) → Type 0
@@ -42,8 +42,8 @@ pub record Tells (f : Option Contents) (k : Option Ledger) (P : Contents → Led
   pub holds : P m l
 
 -- a run whose words and rules are read and whose files stand against nothing
-pub record IsReady (words : List Text) (m : Contents) (run : Run) : Type 0 where
-  pub is : run_of_words words m ≡ Ok run
+pub record IsReady (asked : Asked) (m : Contents) (run : Run) : Type 0 where
+  pub is : run_of_asked asked m ≡ Ok run
   pub built : files_answer run m ≡ None
   pub apart : TargetsApart run m
 
@@ -61,9 +61,9 @@ pub record RunsOn (run : Run) (m : Contents) : Type 0 where
   pub bytes : All (λ (file : File). IsBytes file.bytes) (files_below run.from m)
 
 -- the works are planned, and nothing stands against the run
-pub record Planned (words : List Text) (m : Contents) (l : Ledger) (to : Text) (header : Header) (works : List Work) : Type 0 where
+pub record Planned (asked : Asked) (m : Contents) (l : Ledger) (to : Text) (header : Header) (works : List Work) : Type 0 where
   pub run : Run
-  pub ready : IsReady words m run
+  pub ready : IsReady asked m run
   pub runs : RunsOn run m
   pub to_is : to ≡ run.to
   pub header_is : header ≡ run.header
@@ -72,28 +72,28 @@ pub record Planned (words : List Text) (m : Contents) (l : Ledger) (to : Text) (
   pub are : works ≡ works_of run l.rows (files_below run.from m)
 
 -- the header is this run's now
-pub record SetsHeader (words : List Text) (f : Option Contents) (k k' : Option Ledger) : Type 0 where
+pub record SetsHeader (asked : Asked) (f : Option Contents) (k k' : Option Ledger) : Type 0 where
   pub header : Header
   pub ledger : k' ≡ option_map (with_header header) k
   pub ours : IfSome k (λ l. IsOurs header l.header)
-  pub whose : IfSome f (λ m. (run : Run) × IsReady words m run × (header ≡ run.header))
+  pub whose : IfSome f (λ m. (run : Run) × IsReady asked m run × (header ≡ run.header))
 
 -- the ledger is as before, or has this run's header
-abbrev pub LedgerEarly : List Text → Option Contents → Option Ledger → Option Ledger → Type 0
-LedgerEarly words f k k' = (k' ≡ k) ⊎ SetsHeader words f k k'
+abbrev pub LedgerEarly : Asked → Option Contents → Option Ledger → Option Ledger → Type 0
+LedgerEarly asked f k k' = (k' ≡ k) ⊎ SetsHeader asked f k k'
 
 -- it is the first answer
-pub record IsAnswer (words : List Text) (f : Option Contents) (k : Option Ledger) (status : Status) : Type 0 where
+pub record IsAnswer (asked : Asked) (f : Option Contents) (k : Option Ledger) (status : Status) : Type 0 where
   pub is : is_answer status ≡ true
-  pub cause : WordsCause words status
-  pub first : WhereTold f k (λ m l. first_answer words m l ≡ status)
+  pub cause : AskedCause asked status
+  pub first : WhereTold f k (λ m l. first_answer asked m l ≡ status)
 
 -- before the first file is written, a run may halt so
-abbrev pub HaltsEarly : List Text → Option Contents → Option Ledger → Option Ledger → ℕ → ℕ → ℕ → ℕ → Halt → Type 0
-HaltsEarly words f k k' f1 f2 k1 k2 halt.Memory = LedgerEarly words f k k'
-HaltsEarly words f k k' f1 f2 k1 k2 halt.Folders = (k' ≡ k) × Rose f1 f2
-HaltsEarly words f k k' f1 f2 k1 k2 halt.Ledger = LedgerEarly words f k k' × Rose k1 k2
-HaltsEarly words f k k' f1 f2 k1 k2 (halt.Answer status) = (k' ≡ k) × IsAnswer words f k status
+abbrev pub HaltsEarly : Asked → Option Contents → Option Ledger → Option Ledger → ℕ → ℕ → ℕ → ℕ → Halt → Type 0
+HaltsEarly asked f k k' f1 f2 k1 k2 halt.Memory = LedgerEarly asked f k k'
+HaltsEarly asked f k k' f1 f2 k1 k2 halt.Folders = (k' ≡ k) × Rose f1 f2
+HaltsEarly asked f k k' f1 f2 k1 k2 halt.Ledger = LedgerEarly asked f k k' × Rose k1 k2
+HaltsEarly asked f k k' f1 f2 k1 k2 (halt.Answer status) = (k' ≡ k) × IsAnswer asked f k status
 
 pub record AllWritten (to : Text) (works : List Work) (f f' : Option Contents) (k k' : Option Ledger) : Type 0 where
   pub folders : f' ≡ option_map (files_after to works) f
@@ -128,48 +128,48 @@ Reported text o o' OutputFault = WritesFront text o o'
 Reported text o o' _ = o' ≡ o
 
 -- what was written of the report of a run of these words; nothing of it at any other status
-abbrev pub ReportedOf : List Text → Option Contents → Option Ledger → Option Text → Option Text → Status → Type 0
-ReportedOf words f k o o' Done = WhereTold f k (λ m l. IsOkAnd (run_of_words words m) (λ run. o' ≡ writing (report run l.rows (files_below run.from m)) o))
-ReportedOf words f k o o' Refusals = WhereTold f k (λ m l. IsOkAnd (run_of_words words m) (λ run. o' ≡ writing (report run l.rows (files_below run.from m)) o))
-ReportedOf words f k o o' OutputFault = WhereTold f k (λ m l. IsOkAnd (run_of_words words m) (λ run. WritesFront (report run l.rows (files_below run.from m)) o o'))
-ReportedOf words f k o o' _ = o' ≡ o
+abbrev pub ReportedOf : Asked → Option Contents → Option Ledger → Option Text → Option Text → Status → Type 0
+ReportedOf asked f k o o' Done = WhereTold f k (λ m l. IsOkAnd (run_of_asked asked m) (λ run. o' ≡ writing (report run l.rows (files_below run.from m)) o))
+ReportedOf asked f k o o' Refusals = WhereTold f k (λ m l. IsOkAnd (run_of_asked asked m) (λ run. o' ≡ writing (report run l.rows (files_below run.from m)) o))
+ReportedOf asked f k o o' OutputFault = WhereTold f k (λ m l. IsOkAnd (run_of_asked asked m) (λ run. WritesFront (report run l.rows (files_below run.from m)) o o'))
+ReportedOf asked f k o o' _ = o' ≡ o
 
 -- a status has its cause
-abbrev pub HasCauses : List Text → Status → ℕ → ℕ → ℕ → ℕ → ℕ → ℕ → Type 0
-HasCauses words (FolderFault done) f f' k k' o o' = Rose f f'
-HasCauses words (LedgerFault done) f f' k k' o o' = Rose k k'
-HasCauses words OutputFault f f' k k' o o' = Rose o o'
-HasCauses words status f f' k k' o o' = WordsCause words status
+abbrev pub HasCauses : Asked → Status → ℕ → ℕ → ℕ → ℕ → ℕ → ℕ → Type 0
+HasCauses asked (FolderFault done) f f' k k' o o' = Rose f f'
+HasCauses asked (LedgerFault done) f f' k k' o o' = Rose k k'
+HasCauses asked OutputFault f f' k k' o o' = Rose o o'
+HasCauses asked status f f' k k' o o' = AskedCause asked status
 
 -- a run has begun to write, and stands here
-pub record HasBegun (words : List Text) (m0 : Contents) (l0 : Ledger) (m : Contents) (l : Ledger) (done : ℕ) : Type 0 where
+pub record HasBegun (asked : Asked) (m0 : Contents) (l0 : Ledger) (m : Contents) (l : Ledger) (done : ℕ) : Type 0 where
   pub run : Run
-  pub is : run_of_words words m0 ≡ Ok run
+  pub is : run_of_asked asked m0 ≡ Ok run
   pub stands : Between run m0 l0 m l done ⊎ Within run m0 l0 m l done
 
-abbrev pub StandsAt : List Text → Contents → Ledger → Contents → Ledger → ℕ → Type 0
-StandsAt words m0 l0 m l done = Unchanged m0 l0 m l done ⊎ HasBegun words m0 l0 m l done
+abbrev pub StandsAt : Asked → Contents → Ledger → Contents → Ledger → ℕ → Type 0
+StandsAt asked m0 l0 m l done = Unchanged m0 l0 m l done ⊎ HasBegun asked m0 l0 m l done
 
-pub record StandsSomewhere (words : List Text) (m0 : Contents) (l0 : Ledger) (m : Contents) (l : Ledger) : Type 0 where
+pub record StandsSomewhere (asked : Asked) (m0 : Contents) (l0 : Ledger) (m : Contents) (l : Ledger) : Type 0 where
   pub done : ℕ
-  pub stands : StandsAt words m0 l0 m l done
+  pub stands : StandsAt asked m0 l0 m l done
 
 -- all files of the run are done
-pub record IsDone (words : List Text) (m0 : Contents) (l0 : Ledger) (m : Contents) (l : Ledger) : Type 0 where
+pub record IsDone (asked : Asked) (m0 : Contents) (l0 : Ledger) (m : Contents) (l : Ledger) : Type 0 where
   pub run : Run
-  pub is : run_of_words words m0 ≡ Ok run
+  pub is : run_of_asked asked m0 ≡ Ok run
   pub runs : RunsOn run m0
   pub stands : Between run m0 l0 m l (length (files_below run.from m0))
 
 -- where a run stands at its end
-abbrev pub StandsAfter : List Text → Contents → Ledger → Contents → Ledger → Status → Type 0
-StandsAfter words m0 l0 m l Done = IsDone words m0 l0 m l
-StandsAfter words m0 l0 m l Refusals = IsDone words m0 l0 m l
-StandsAfter words m0 l0 m l OutputFault = IsDone words m0 l0 m l
-StandsAfter words m0 l0 m l Memory = StandsSomewhere words m0 l0 m l
-StandsAfter words m0 l0 m l (FolderFault done) = StandsAt words m0 l0 m l done
-StandsAfter words m0 l0 m l (LedgerFault done) = StandsAt words m0 l0 m l done
-StandsAfter words m0 l0 m l _ = Unchanged m0 l0 m l 0
+abbrev pub StandsAfter : Asked → Contents → Ledger → Contents → Ledger → Status → Type 0
+StandsAfter asked m0 l0 m l Done = IsDone asked m0 l0 m l
+StandsAfter asked m0 l0 m l Refusals = IsDone asked m0 l0 m l
+StandsAfter asked m0 l0 m l OutputFault = IsDone asked m0 l0 m l
+StandsAfter asked m0 l0 m l Memory = StandsSomewhere asked m0 l0 m l
+StandsAfter asked m0 l0 m l (FolderFault done) = StandsAt asked m0 l0 m l done
+StandsAfter asked m0 l0 m l (LedgerFault done) = StandsAt asked m0 l0 m l done
+StandsAfter asked m0 l0 m l _ = Unchanged m0 l0 m l 0
 
 -- a status that is no fault of the outside and no want of memory
 abbrev pub is_final : Status → Bool
@@ -201,15 +201,15 @@ abbrev pub NamedByRoots : Option Text → Option Text → Status → Result Root
 NamedByRoots old new status (Ok roots) = NamedBy old new roots.ledger status
 NamedByRoots old new status (Err fault) = new ≡ old
 
-abbrev pub Named : List Text → Option Text → Option Text → Status → Type 0
-Named words old new status = NamedByRoots old new status (roots_of_words words)
+abbrev pub Named : Asked → Option Text → Option Text → Status → Type 0
+Named asked old new status = NamedByRoots old new status (asked)
 
 -- the name that is attached where a run halts early
-abbrev pub NamedEarly : List Text → Option Text → Option Text → Halt → Type 0
-NamedEarly words old new halt = Named words old new (status_of_halt halt)
+abbrev pub NamedEarly : Asked → Option Text → Option Text → Halt → Type 0
+NamedEarly asked old new halt = Named asked old new (status_of_halt halt)
 
 -- the ledger of these words is attached
-pub record IsAttached (words : List Text) (name : Option Text) : Type 0 where
+pub record IsAttached (asked : Asked) (name : Option Text) : Type 0 where
   pub roots : Roots
-  pub are : roots_of_words words ≡ Ok roots
+  pub are : asked ≡ Ok roots
   pub is : name ≡ Some roots.ledger

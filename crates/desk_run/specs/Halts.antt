@@ -6,20 +6,20 @@ use Rattle.desk_base.specs.Counts.{Rose}
 use Rattle.desk_folders.specs.Contents.{Contents, File, file_at, files_below}
 use Rattle.desk_ledger.specs.declared.keeper.Header.{Header}
 use Rattle.desk_ledger.specs.Ledger.{Ledger, with_header}
-use Rattle.desk_report.specs.declared.status.LimitKind.{LimitKind}
 use Rattle.desk_report.specs.declared.status.Status.{Status}
 use Rattle.desk_report.specs.declared.status.Status.TheVariants.{Usage, NestedRoots, BadRules, Limit, PathClash, OtherRun}
 use Rattle.desk_rules.specs.Rules.{Rules}
 use Rattle.desk_rules.specs.declared.RuleFault.{RuleFault}
 use Rattle.desk_words.specs.declared.roots.Roots.{Roots}
+use Rattle.desk_run.specs.Named.{Asked}
 use Rattle.desk_run.specs.declared.files.Input.{Input}
 use Rattle.desk_run.specs.declared.stops.Halt.{Halt}
 use Rattle.desk_run.specs.declared.stops.Halt.TheVariants.{Memory, Folders, Ledger as LedgerHalt, Answer}
 use Rattle.desk_run.specs.declared.rules.Ruled.{Ruled}
 use Rattle.desk_run.specs.Runs.{Run}
-use Rattle.desk_run.specs.Limits.{first_long, long_answer, paths_answer, size_answer, rule_size_answer}
+use Rattle.desk_run.specs.Limits.{first_long, long_answer, size_answer, rule_size_answer}
 use Rattle.desk_run.specs.Meaning.{ruled, run_of}
-use Rattle.desk_run.specs.Answers.{clash_status, files_answer, first_answer, other_run, WordsCause}
+use Rattle.desk_run.specs.Answers.{clash_status, files_answer, first_answer, other_run, AskedCause}
 use Rattle.desk_run.specs.Truth.{IsOurs}
 
 -- a status of the rule folder
@@ -149,16 +149,16 @@ is_early_answer (PathClash first second) = true
 is_early_answer _ = false
 
 -- before the ledger is opened
-pub record GatheringAnswer (words : List Text) (told : Option Contents) (status : Status) : Type 0 where
+pub record GatheringAnswer (asked : Asked) (told : Option Contents) (status : Status) : Type 0 where
   pub is : is_early_answer status ≡ true
-  pub cause : WordsCause words status
-  pub first : IfSome told (λ m. (l : Ledger) → first_answer words m l ≡ status)
+  pub cause : AskedCause asked status
+  pub first : IfSome told (λ m. (l : Ledger) → first_answer asked m l ≡ status)
 
-abbrev pub HaltsGathering : List Text → Option Contents → ℕ → ℕ → Halt → Type 0
-HaltsGathering words told f f' Memory = Unit {0}
-HaltsGathering words told f f' Folders = Rose f f'
-HaltsGathering words told f f' (Answer status) = GatheringAnswer words told status
-HaltsGathering words told f f' _ = ⊥
+abbrev pub HaltsGathering : Asked → Option Contents → ℕ → ℕ → Halt → Type 0
+HaltsGathering asked told f f' Memory = Unit {0}
+HaltsGathering asked told f f' Folders = Rose f f'
+HaltsGathering asked told f f' (Answer status) = GatheringAnswer asked told status
+HaltsGathering asked told f f' _ = ⊥
 
 -- the ledger is as before, or has this header, where it had none or the same
 abbrev pub LedgerOwn : Header → Option Ledger → Option Ledger → Type 0

@@ -14,3 +14,4 @@ pub mod RuleFolders
 pub mod Endings
 pub mod Classes
 pub mod Clauses
+pub mod Generated

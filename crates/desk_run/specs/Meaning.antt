@@ -15,7 +15,7 @@ use Rattle.desk_rules.specs.RuleFiles.{rules_of_files}
 use Rattle.desk_rules.specs.declared.RuleFault.{RuleFault}
 use Rattle.desk_words.specs.declared.roots.Roots.{Roots}
 use Rattle.desk_run.specs.declared.rules.Ruled.{Ruled}
-use Rattle.desk_run.specs.Named.{roots_of_words}
+use Rattle.desk_run.specs.Named.{Asked}
 use Rattle.desk_run.specs.Limits.{rule_files_answer}
 use Rattle.desk_run.specs.Runs.{Run}
 
@@ -65,5 +65,5 @@ run_by_roots m (Ok roots) = run_by_rules roots (ruled roots.rules (files_below r
 run_by_roots m (Err status) = Err status
 
 -- the run of words, by the rules in the folders
-abbrev pub run_of_words : List Text → Contents → Result Run Status
-run_of_words words m = run_by_roots m (roots_of_words words)
+abbrev pub run_of_asked : Asked → Contents → Result Run Status
+run_of_asked asked m = run_by_roots m (asked)

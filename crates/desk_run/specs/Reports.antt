@@ -5,7 +5,7 @@ use Rattle.desk_base.specs.Names.{Text}
 use Rattle.desk_folders.specs.Contents.{File}
 use Rattle.desk_ledger.specs.Ledger.{Rows}
 use Rattle.desk_report.specs.declared.lines.Detail.{Detail}
-use Rattle.desk_report.specs.declared.lines.Detail.TheVariants.{Class, Service, Copy}
+use Rattle.desk_report.specs.declared.lines.Detail.TheVariants.{Class, Service, Manifest, Texts, Copy}
 use Rattle.desk_report.specs.declared.lines.Line.TheVariants.{Written, Kept, Refused}
 use Rattle.desk_report.specs.declared.lines.Summary.{Summary}
 use Rattle.desk_report.specs.declared.status.Status.{Status}
@@ -32,12 +32,16 @@ line_of run rows file = file_line file.path (run.target file.path) (is_kept_file
 abbrev pub renamed_uses : Detail → ℕ
 renamed_uses (Class renamed added odd links) = renamed
 renamed_uses (Service changed) = 0
+renamed_uses (Manifest changed) = 0
+renamed_uses (Texts changed) = 0
 renamed_uses Copy = 0
 
 -- how many texts were added to a class
 abbrev pub added_texts : Detail → ℕ
 added_texts (Class renamed added odd links) = added
 added_texts (Service changed) = 0
+added_texts (Manifest changed) = 0
+added_texts (Texts changed) = 0
 added_texts Copy = 0
 
 -- a number of a file that is written

@@ -11,8 +11,6 @@ use Rattle.desk_ledger.specs.declared.keeper.KeeperFault.TheVariants as keeper
 use Rattle.desk_ledger.specs.Ledger.{Ledger}
 use Rattle.desk_report.specs.declared.status.Status.{Status}
 use Rattle.desk_report.specs.declared.status.Status.TheVariants as status
-use Rattle.desk_words.specs.declared.roots.RootsFault.{RootsFault}
-use Rattle.desk_words.specs.declared.roots.RootsFault.TheVariants as words
 use Rattle.desk_run.specs.declared.planning.Work.{Work}
 use Rattle.desk_run.specs.declared.stops.Stop.{Stop}
 use Rattle.desk_run.specs.declared.stops.Stop.TheVariants.{Memory, Folders, Ledger as LedgerStop}
@@ -81,11 +79,6 @@ halt_of_folders folder.Memory = halt.Memory
 abbrev pub halt_of_keeper : KeeperFault → Halt
 halt_of_keeper keeper.Failed = halt.Ledger
 halt_of_keeper keeper.Memory = halt.Memory
-
-abbrev pub halt_of_words : RootsFault → Halt
-halt_of_words words.Usage = halt.Answer status.Usage
-halt_of_words (words.Nested first second) = halt.Answer (status.NestedRoots first second)
-halt_of_words words.Memory = halt.Memory
 
 abbrev pub status_of_halt : Halt → Status
 status_of_halt halt.Memory = status.Memory

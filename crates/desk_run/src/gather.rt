@@ -1,4 +1,4 @@
-//! What a run goes by: its words, its rules and its files, read before the ledger is opened.
+//! What a run goes by: its roots, its rules and its files, read before the ledger is opened.
 
 ghost use Rattle.std.specs.Prelude.{All, ◌≡◌, ◌≤◌, ◌<◌, ◌^◌, Ok, IfOk, IfErr, IfSome, length, map};
 ghost use Rattle.desk_format.specs.Laws.{IsBytes};
@@ -7,9 +7,9 @@ ghost use Rattle.desk_base.specs.Counts.{Rose};
 ghost use Rattle.desk_folders.specs.Contents.{files_below};
 ghost use Rattle.desk_run.specs.Endings.{AreInputs};
 ghost use Rattle.desk_run.specs.Halts.{HaltsAtFiles, HaltsGathering, HaltsReadingAll};
-ghost use Rattle.desk_run.specs.Meaning.{ruled, run_of, run_of_words};
+ghost use Rattle.desk_run.specs.Meaning.{ruled, run_of, run_of_asked};
 ghost use Rattle.desk_words.specs.Roots.{AreRoots};
-ghost use Rattle.desk_run.specs.Named.{roots_of_words};
+ghost use Rattle.desk_run.specs.Named.{asked_roots};
 ghost use Rattle.desk_run.specs.Runs.{AllRelative};
 
 use crate::clash::refuse_clash;
@@ -21,7 +21,7 @@ use crate::stops::Halt;
 use desk_base::{Memory, Text};
 use desk_folders::Folders;
 use desk_ledger::Header;
-use desk_words::{Roots, roots_of_words};
+use desk_words::Roots;
 use std::alloc::Global;
 
 /// What a run goes by: its roots, its rules, its header, and its files.
@@ -68,7 +68,7 @@ fn read_inputs<F: Folders>(
     Ok(inputs)
 }
 
-/// Reads rules and files, by the roots of words.
+/// Reads rules and files.
 fn gather_by<F: Folders>(
     alloc: Global,
     folders: &mut F,
@@ -98,25 +98,25 @@ fn gather_by<F: Folders>(
     })
 }
 
-/// Reads words, rules and files.
+/// Reads the rules and files of roots.
 pub(crate) fn gather<F: Folders>(
     alloc: Global,
-    words: &[Text],
+    names: Roots,
     folders: &mut F,
 ) -> Result<Gathered, Halt>
+    requires { AreRoots names }
     ensures told { F.told folders.new ≡ F.told folders.old }
-    ensures names { IfOk result (λ g. roots_of_words words.now ≡ Ok g.names.value) }
+    ensures names { IfOk result (λ g. asked_roots names ≡ Ok g.names.value) }
     ensures sound { IfOk result (λ g. AreRoots g.names.value) }
     ensures header { IfOk result (λ g. g.header ≡ (run_of g.names.value g.ruled.value).header) }
-    ensures run { IfOk result (λ g. IfSome (F.told folders.old) (λ m. run_of_words words.now m ≡ Ok (run_of g.names.value g.ruled.value))) }
+    ensures run { IfOk result (λ g. IfSome (F.told folders.old) (λ m. run_of_asked (asked_roots names) m ≡ Ok (run_of g.names.value g.ruled.value))) }
     ensures inputs { IfOk result (λ g. IfSome (F.told folders.old) (λ m. AreInputs (run_of g.names.value g.ruled.value) m g.inputs.items)) }
     ensures relative { IfOk result (λ g. AllRelative (map (λ input. input.target) g.inputs.items)) }
     ensures few { IfOk result (λ g. length g.inputs.items < 2 ^ 32) }
-    ensures err { IfErr result (HaltsGathering words.now (F.told folders.old) (F.faults folders.old) (F.faults folders.new)) }
+    ensures err { IfErr result (HaltsGathering (asked_roots names) (F.told folders.old) (F.faults folders.old) (F.faults folders.new)) }
     ensures counts { F.faults folders.old ≤ F.faults folders.new }
     ensures bytes { IfOk result (λ g. All (λ input. IsBytes input.bytes) g.inputs.items) }
     ensures settled { IfOk result (λ g. IsRuleSet g.ruled.value.rules) }
 {
-    let names = roots_of_words(alloc, words)?;
     gather_by(alloc, folders, Box::new(alloc, names)?)
 }

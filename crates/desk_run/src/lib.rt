@@ -14,11 +14,14 @@ ghost use Rattle.desk_run.specs.Answers.{first_answer};
 ghost use Rattle.desk_run.specs.Classes.{Classes};
 ghost use Rattle.desk_run.specs.Clauses.{Exact, Files, LedgerHolds, Left, Output};
 ghost use Rattle.desk_run.specs.Endings.{Committed, HasCauses, Named, ReportedOf, StandsAfter, Tells, WhereTold, is_final};
+ghost use Rattle.desk_run.specs.Generated.{Generates, TellsTotals};
+ghost use Rattle.desk_run.specs.Named.{OfGenerate, OfRun, asked_of};
 
 mod clash;
 mod files;
 mod finish;
 mod gather;
+mod generate;
 mod listing;
 mod opening;
 mod planning;
@@ -33,10 +36,12 @@ use desk_base::Text;
 use desk_folders::Folders;
 use desk_ledger::Keeper;
 use desk_report::{Sink, Status, write_fault};
+use desk_words::{Order, read_order};
 pub use desk_words::{Root, Task, WordsFault, read_words};
-use finish::{finish, prepare};
+use finish::run;
+use generate::run_generated;
 use std::alloc::Global;
-use stops::status_of_halt;
+use stops::status_of_words;
 
 /// How many files of the source a run takes.
 pub const FILES: u32 = 200_000;
@@ -53,27 +58,30 @@ pub const RULE_FILES: u32 = 1000;
 /// How many bytes a rule file may have.
 pub const RULE_SIZE: usize = 1_048_576;
 
-/// A run up to its end, without the line of a fault.
-fn run_words<F: Folders, K: Keeper, O: Sink>(
+/// Does what words ask for, without the line of a fault.
+fn follow<F: Folders, K: Keeper, O: Sink>(
     alloc: Global,
     words: &[Text],
     folders: &mut F,
     keeper: &mut K,
     out: &mut O,
 ) -> Status
-    ensures stands { WhereTold (F.told folders.old) (K.told keeper.old) (λ m0 l0. Tells (F.told folders.new) (K.told keeper.new) (λ m l. StandsAfter words.now m0 l0 m l result)) }
-    ensures first { WhereTold (F.told folders.old) (K.told keeper.old) (λ m l. is_final result ≡ true → result ≡ first_answer words.now m l) }
-    ensures output { ReportedOf words.now (F.told folders.old) (K.told keeper.old) (O.told out.old) (O.told out.new) result }
-    ensures named { Named words.now (K.attached keeper.old) (K.attached keeper.new) result }
-    ensures committed { Committed (K.waiting keeper.new) result }
-    ensures causes { HasCauses words.now result (F.faults folders.old) (F.faults folders.new) (K.faults keeper.old) (K.faults keeper.new) (O.faults out.old) (O.faults out.new) }
+    ensures stands { OfRun words.now (WhereTold (F.told folders.old) (K.told keeper.old) (λ m0 l0. Tells (F.told folders.new) (K.told keeper.new) (λ m l. StandsAfter (asked_of words.now) m0 l0 m l result))) }
+    ensures first { WhereTold (F.told folders.old) (K.told keeper.old) (λ m l. is_final result ≡ true → result ≡ first_answer (asked_of words.now) m l) }
+    ensures output { OfRun words.now (ReportedOf (asked_of words.now) (F.told folders.old) (K.told keeper.old) (O.told out.old) (O.told out.new) result) }
+    ensures named { OfRun words.now (Named (asked_of words.now) (K.attached keeper.old) (K.attached keeper.new) result) }
+    ensures committed { OfRun words.now (Committed (K.waiting keeper.new) result) }
+    ensures untouched { OfGenerate words.now (λ _. (folders.new ≡ folders.old) × (keeper.new ≡ keeper.old)) }
+    ensures generate { OfGenerate words.now (λ count. TellsTotals count (O.told out.old) (O.told out.new) result) }
+    ensures causes { HasCauses (asked_of words.now) result (F.faults folders.old) (F.faults folders.new) (K.faults keeper.old) (K.faults keeper.new) (O.faults out.old) (O.faults out.new) }
     ensures counts_f { F.faults folders.old ≤ F.faults folders.new }
     ensures counts_k { K.faults keeper.old ≤ K.faults keeper.new }
     ensures counts_o { O.faults out.old ≤ O.faults out.new }
 {
-    match prepare(alloc, words, folders, keeper) {
-        Ok(prepared) => finish(alloc, folders, keeper, out, prepared),
-        Err(halt) => status_of_halt(halt),
+    match read_order(alloc, words) {
+        Ok(Order::Run(roots)) => run(alloc, roots, folders, keeper, out),
+        Ok(Order::Generate { count }) => run_generated(alloc, count, out),
+        Err(fault) => status_of_words(fault),
     }
 }
 
@@ -81,7 +89,11 @@ fn run_words<F: Folders, K: Keeper, O: Sink>(
 /// each file that has an image and isn't kept from an earlier run, commits the rows, and writes the report;
 /// or the line of what stands against it.
 ///
-/// The words are `run` and its options. The statuses, of which the first that stands is the answer:
+/// Of the words `generate` it makes an application of its own in memory, runs over it, and writes the line of
+/// the totals alone: the folders and the keeper stay as they are, and the status is `Done`, `OutputFault` or
+/// `Memory`.
+///
+/// The statuses of `run`, of which the first that stands is the answer:
 /// `Usage` (words without a task), `NestedRoots` (a root lies in another that is written to or holds the
 /// ledger), `Limit` of `RuleFiles` or `RuleSize`, `BadRules`, `Limit` of `Files`, of `PathLength` with the
 /// least such path, of `FileSize` or `Sum` with the first such file, `PathClash` with the first two files
@@ -97,17 +109,19 @@ pub fn desk<F: Folders, K: Keeper, O: Sink>(
     keeper: &mut K,
     out: &mut O,
 ) -> Status
-    ensures files { WhereTold (F.told folders.old) (K.told keeper.old) (λ m0 l0. Tells (F.told folders.new) (K.told keeper.new) (λ m l. Files words.now m0 l0 m result)) }
-    ensures ledger { LedgerHolds words.now (F.told folders.old) (F.told folders.new) (K.told keeper.old) (K.told keeper.new) (K.attached keeper.old) (K.attached keeper.new) result }
-    ensures committed { Committed (K.waiting keeper.new) result }
-    ensures output { Output words.now (F.told folders.old) (K.told keeper.old) (O.told out.old) (O.told out.new) (O.faults out.old) (O.faults out.new) result }
-    ensures status { WhereTold (F.told folders.old) (K.told keeper.old) (λ m l. Exact (first_answer words.now m l) result
+    ensures files { OfRun words.now (WhereTold (F.told folders.old) (K.told keeper.old) (λ m0 l0. Tells (F.told folders.new) (K.told keeper.new) (λ m l. Files (asked_of words.now) m0 l0 m result))) }
+    ensures ledger { OfRun words.now (LedgerHolds (asked_of words.now) (F.told folders.old) (F.told folders.new) (K.told keeper.old) (K.told keeper.new) (K.attached keeper.old) (K.attached keeper.new) result) }
+    ensures committed { OfRun words.now (Committed (K.waiting keeper.new) result) }
+    ensures output { OfRun words.now (Output (asked_of words.now) (F.told folders.old) (K.told keeper.old) (O.told out.old) (O.told out.new) (O.faults out.old) (O.faults out.new) result) }
+    ensures status { WhereTold (F.told folders.old) (K.told keeper.old) (λ m l. Exact (first_answer (asked_of words.now) m l) result
         (F.faults folders.old) (F.faults folders.new) (K.faults keeper.old) (K.faults keeper.new) (O.faults out.old) (O.faults out.new)) }
-    ensures causes { HasCauses words.now result (F.faults folders.old) (F.faults folders.new) (K.faults keeper.old) (K.faults keeper.new) (O.faults out.old) (O.faults out.new) }
-    ensures remains { WhereTold (F.told folders.old) (K.told keeper.old) (λ m0 l0. Tells (F.told folders.new) (K.told keeper.new) (λ m l. Left words.now m0 l0 m l result)) }
-    ensures classes { WhereTold (F.told folders.old) (K.told keeper.old) (λ m0 l0. Tells (F.told folders.new) (K.told keeper.new) (λ m l. Classes words.now m0 l0 m result)) }
+    ensures causes { HasCauses (asked_of words.now) result (F.faults folders.old) (F.faults folders.new) (K.faults keeper.old) (K.faults keeper.new) (O.faults out.old) (O.faults out.new) }
+    ensures remains { OfRun words.now (WhereTold (F.told folders.old) (K.told keeper.old) (λ m0 l0. Tells (F.told folders.new) (K.told keeper.new) (λ m l. Left (asked_of words.now) m0 l0 m l result))) }
+    ensures classes { OfRun words.now (WhereTold (F.told folders.old) (K.told keeper.old) (λ m0 l0. Tells (F.told folders.new) (K.told keeper.new) (λ m l. Classes (asked_of words.now) m0 l0 m result))) }
+    ensures untouched { OfGenerate words.now (λ _. (folders.new ≡ folders.old) × (keeper.new ≡ keeper.old)) }
+    ensures generate { OfGenerate words.now (λ count. Generates count (O.told out.old) (O.told out.new) (O.faults out.old) (O.faults out.new) result) }
 {
-    let status = run_words(alloc, words, folders, keeper, out);
+    let status = follow(alloc, words, folders, keeper, out);
     let _ = write_fault(&status, out);
     status
 }

@@ -81,7 +81,7 @@ fn class_totals(works: &[Work]) -> ClassTotals
 }
 
 /// The totals of works.
-fn summary_of(works: &[Work]) -> Summary
+pub(crate) fn summary_of(works: &[Work]) -> Summary
     requires { length works.now < 2 ^ 32 }
     ensures { result ≡ summary_of_works works.now }
 {

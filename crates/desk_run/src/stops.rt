@@ -1,7 +1,8 @@
 //! Why a run stops, and how that is told as a status.
 
 ghost use Rattle.std.specs.Prelude.{◌≡◌};
-ghost use Rattle.desk_run.specs.Stops.{stop_of_folders, stop_of_keeper, halt_of_folders, halt_of_keeper, halt_of_words, status_of_stop, status_of_halt};
+ghost use Rattle.desk_run.specs.Named.{status_of_words};
+ghost use Rattle.desk_run.specs.Stops.{stop_of_folders, stop_of_keeper, halt_of_folders, halt_of_keeper, status_of_stop, status_of_halt};
 
 use desk_base::Memory;
 use desk_folders::FolderFault;
@@ -74,7 +75,7 @@ pub enum Halt {
     Folders,
     /// The ledger failed.
     Ledger,
-    /// The words, the folders or the ledger stand against the run.
+    /// The folders or the ledger stand against the run.
     Answer(Status),
 }
 
@@ -133,17 +134,14 @@ impl From<KeeperFault> for Halt {
     }
 }
 
-impl From<RootsFault> for Halt {
-    ghost from_gives = { λ fault halt. halt ≡ halt_of_words fault };
-
-    fn from(fault: RootsFault) -> Halt {
-        match fault {
-            RootsFault::Usage => Halt::Answer(Status::Usage),
-            RootsFault::Nested { first, second } => {
-                Halt::Answer(Status::NestedRoots { first, second })
-            }
-            RootsFault::Memory => Halt::Memory,
-        }
+/// How a fault of words is told.
+pub(crate) fn status_of_words(fault: RootsFault) -> Status
+    ensures { result ≡ status_of_words fault }
+{
+    match fault {
+        RootsFault::Usage => Status::Usage,
+        RootsFault::Nested { first, second } => Status::NestedRoots { first, second },
+        RootsFault::Memory => Status::Memory,
     }
 }
 

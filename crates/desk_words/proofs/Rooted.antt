@@ -11,14 +11,18 @@ use Rattle.desk_base.specs.Names.{Text, slash, is_empty, is_whole, written}
 use Rattle.desk_base.specs.Paths.{here, top, is_segment, is_relative_path, is_full_path, is_root, written_root, full}
 use Rattle.desk_words.specs.declared.roots.Root.{Root}
 use Rattle.desk_words.specs.declared.words.Task.{Task}
-use Rattle.desk_words.specs.declared.words.Task.TheVariants.{Run}
-use Rattle.desk_words.specs.declared.options.Name.TheVariants.{Rules, From, To, Ledger, Workers}
-use Rattle.desk_words.specs.Options.{Given, word_of, options_of, each_once, value_of, workers_of}
-use Rattle.desk_words.specs.Words.{parts, is_upward, is_dropped, named_parts, is_value, is_absolute, root_of, root_at, written as written_of, run_of, task_of_options, task_of}
+use Rattle.desk_words.specs.declared.words.Task.TheVariants.{Run, Generate}
+use Rattle.desk_options.specs.declared.values.RunValues.{RunValues}
+use Rattle.desk_options.specs.declared.values.GenerateValues.{GenerateValues}
+use Rattle.desk_options.specs.Values.{run_values, generate_values}
+use Rattle.desk_words.specs.Numbers.{workers_of, count_of}
+use Rattle.desk_words.specs.Words.{parts, is_upward, is_dropped, named_parts, is_value, is_absolute, root_of, written as written_of, run_of, run_task, generate_of, generate_task, task_of}
 use Rattle.desk_words.specs.declared.roots.Roots.{Roots}
 use Rattle.desk_words.specs.Words.{overlap, first_nested}
-use Rattle.desk_words.specs.Roots.{roots_apart, roots_of_task, roots_of_words}
-use Rattle.desk_words.specs.Roots.{AreRoots}
+use Rattle.desk_words.specs.declared.roots.Order.{Order}
+use Rattle.desk_words.specs.declared.roots.Order.TheVariants as order
+use Rattle.desk_words.specs.Roots.{order_apart, order_of_task, order_of_words}
+use Rattle.desk_words.specs.Roots.{AreRoots, IsSound}
 use Rattle.desk_words.proofs.Apart.{is_named, before, full_relative, full_absolute, roots_apart as apart_roots}
 
 split_whole : (t : Text) → list_all (is_whole slash) (parts t) ≡ true
@@ -128,67 +132,75 @@ pub record AreNamed (task : Task) : Type 0 where
   pub from_named : list_all is_named from.segments ≡ true
   pub to_named : list_all is_named to.segments ≡ true
 
--- the root that the value of an option names
-root_at_named : (value : Option Text) (root : Root) → root_at value ≡ Some root → list_all is_named root.segments ≡ true
-root_at_named None root e = cc
-root_at_named (Some text) root e = root_named text root e
-
-named_by : (r a b l w : Option Text) (or oa ob ol : Option Root) (ow : Option ℕ) (task : Task) → root_at r ≡ or → root_at a ≡ oa → root_at b ≡ ob → run_of or oa ob ol ow ≡ Some task → AreNamed task
-named_by r a b l w (Some rules) (Some from) (Some to) (Some ledger) (Some workers) task er ea eb e = record {
+named_by : (r a b l : Text) (or oa ob ol : Option Root) (ow : Option ℕ) (task : Task) → root_of r ≡ or → root_of a ≡ oa → root_of b ≡ ob → run_of or oa ob ol ow ≡ Some task → AreNamed task
+named_by r a b l (Some rules) (Some from) (Some to) (Some ledger) (Some workers) task er ea eb e = record {
   rules = rules;
   from = from;
   to = to;
   ledger = ledger;
   workers = workers;
   is = let h : Run rules from to ledger workers ≡ task = cc in sym h;
-  rules_named = root_at_named r rules er;
-  from_named = root_at_named a from ea;
-  to_named = root_at_named b to eb;
+  rules_named = root_named r rules er;
+  from_named = root_named a from ea;
+  to_named = root_named b to eb;
 }
-named_by r a b l w None oa ob ol ow task er ea eb e = cc
-named_by r a b l w (Some rules) None ob ol ow task er ea eb e = cc
-named_by r a b l w (Some rules) (Some from) None ol ow task er ea eb e = cc
-named_by r a b l w (Some rules) (Some from) (Some to) None ow task er ea eb e = cc
-named_by r a b l w (Some rules) (Some from) (Some to) (Some ledger) None task er ea eb e = cc
+named_by r a b l None oa ob ol ow task er ea eb e = cc
+named_by r a b l (Some rules) None ob ol ow task er ea eb e = cc
+named_by r a b l (Some rules) (Some from) None ol ow task er ea eb e = cc
+named_by r a b l (Some rules) (Some from) (Some to) None ow task er ea eb e = cc
+named_by r a b l (Some rules) (Some from) (Some to) (Some ledger) None task er ea eb e = cc
 
-options_named : (givens : List Given) (task : Task) → task_of_options givens ≡ Some task → AreNamed task
-options_named givens task e = by (each_once givens) e where
-  run : Option Task
-  run = run_of (root_at (value_of Rules givens)) (root_at (value_of From givens)) (root_at (value_of To givens)) (root_at (value_of Ledger givens)) (workers_of (value_of Workers givens))
+run_named : (o : Option RunValues) (task : Task) → option_and_then run_task o ≡ Some task → AreNamed task
+run_named None task e = cc
+run_named (Some values) task e = named_by values.rules values.from values.to values.ledger _ _ _ _ _ task refl refl refl e
 
-  by : (x : Bool) → (if x then run else None) ≡ Some task → AreNamed task
-  by true f = named_by (value_of Rules givens) (value_of From givens) (value_of To givens) (value_of Ledger givens) (value_of Workers givens) _ _ _ _ _ task refl refl refl f
-  by false f = cc
+-- the roots that `generate` has are none of words
+pub data Named (task : Task) : Type 0 where
+  of_run : AreNamed task → Named task
+  of_generate : (count workers : ℕ) → task ≡ Generate count workers → Named task
+
+generate_named : (o : Option GenerateValues) (task : Task) → option_and_then generate_task o ≡ Some task → Named task
+generate_named None task e = cc
+generate_named (Some values) task e = by (count_of values.count) (workers_of values.workers) e where
+  by : (c w : Option ℕ) → generate_of c w ≡ Some task → Named task
+  by (Some c) (Some w) f = of_generate c w (let h : Generate c w ≡ task = cc in sym h)
+  by None w f = cc
+  by (Some c) None f = cc
 
 -- the task of words has such roots
-pub task_named : (words : List Text) (task : Task) → task_of words ≡ Some task → AreNamed task
+pub task_named : (words : List Text) (task : Task) → task_of words ≡ Some task → Named task
 task_named [] task e = cc
-task_named (first ∷ behind) task e = by (list_all is_utf8 (first ∷ behind) && bytes_eq first (codes "run")) (options_of (map word_of behind)) e where
-  by : (x : Bool) (o : Option (List Given)) → (if x then option_and_then task_of_options o else None) ≡ Some task → AreNamed task
-  by true (Some givens) f = options_named givens task f
-  by true None f = cc
-  by false o f = cc
+task_named (first ∷ behind) task e = by (bytes_eq first (codes "run")) (bytes_eq first (codes "generate")) e where
+  by : (x y : Bool) → (if x then option_and_then run_task (run_values behind) else if y then option_and_then generate_task (generate_values behind) else None) ≡ Some task → Named task
+  by true y f = of_run (run_named (run_values behind) task f)
+  by false true f = generate_named (generate_values behind) task f
+  by false false f = cc
 
 if_some_no : {X : Type 0} (b : Bool) (x : X) (o : Option X) → (if b then Some x else o) ≡ None → (b ≡ false) × (o ≡ None)
 if_some_no true x o e = cc
 if_some_no false x o e = (refl, e)
 
-roots_by : (rules from to ledger : Root) (roots : Roots) (o : Option (Root × Root)) → first_nested rules from to ledger ≡ o → list_all is_named rules.segments ≡ true → list_all is_named from.segments ≡ true
-    → list_all is_named to.segments ≡ true → roots_apart rules from to ledger o ≡ Ok roots → AreRoots roots
-roots_by rules from to ledger roots (Some pair) n fr ff ft e = cc
-roots_by rules from to ledger roots None n fr ff ft e =
-    let is : record { rules = written_of rules; from = written_of from; to = written_of to; ledger = written_of ledger } ≡ roots = cc in
-    subst AreRoots is (record {
+roots_by : (rules from to ledger : Root) (given : Order) (o : Option (Root × Root)) → first_nested rules from to ledger ≡ o → list_all is_named rules.segments ≡ true → list_all is_named from.segments ≡ true
+    → list_all is_named to.segments ≡ true → order_apart rules from to ledger o ≡ Ok given → IsSound given
+roots_by rules from to ledger given (Some pair) n fr ff ft e = cc
+roots_by rules from to ledger given None n fr ff ft e =
+    let is : order.Run (record { rules = written_of rules; from = written_of from; to = written_of to; ledger = written_of ledger }) ≡ given = cc in
+    subst IsSound is (record {
       rules_is_root = written_is_root rules fr;
       from_is_root = written_is_root from ff;
       below_to = λ p rel. full_is_path to p ft rel;
       apart = apart_roots from to ff ft (if_some_no (overlap from to) _ _ n).0;
     })
 
-pub roots_of_words_are : (words : List Text) (roots : Roots) → roots_of_words words ≡ Ok roots → AreRoots roots
-roots_of_words_are words roots e = by (task_of words) refl e where
-  by : (o : Option Task) → task_of words ≡ o → roots_of_task o ≡ Ok roots → AreRoots roots
+-- what words ask for is sound
+pub order_is_sound : (words : List Text) (given : Order) → order_of_words words ≡ Ok given → IsSound given
+order_is_sound words given e = by (task_of words) refl e where
+  by : (o : Option Task) → task_of words ≡ o → order_of_task o ≡ Ok given → IsSound given
   by None f g = cc
-  by (Some task) f g =
-      let n = task_named words task f in
-      roots_by n.rules n.from n.to n.ledger roots (first_nested n.rules n.from n.to n.ledger) refl n.rules_named n.from_named n.to_named (ap (λ (t : Task). roots_of_task (Some t)) (sym n.is) ∙ g)
+  by (Some task) f g = with_order (task_named words task f) where
+    with_order : Named task → IsSound given
+    with_order (of_run n) = roots_by n.rules n.from n.to n.ledger given (first_nested n.rules n.from n.to n.ledger) refl n.rules_named n.from_named n.to_named (ap (λ (t : Task). order_of_task (Some t)) (sym n.is) ∙ g)
+    with_order (of_generate count workers is) =
+        let h : order_of_task (Some (Generate count workers)) ≡ Ok given = ap (λ (t : Task). order_of_task (Some t)) (sym is) ∙ g in
+        let k : order.Generate count ≡ given = cc in
+        subst IsSound k tt

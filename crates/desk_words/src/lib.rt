@@ -1,18 +1,18 @@
-//! The words of a run, and the roots that they name.
+//! What words ask for: their task, and the roots that they name.
 //!
 //! ```text
 //! // run --rules r --from ./in --to out/ --ledger l
-//! let roots = roots_of_words(alloc, &words)?;
-//! roots.from                               // in
-//! roots.to                                 // out
+//! read_order(alloc, &words)?               // Order::Run(roots), of which roots.from is in, and roots.to is out
 //! // run --rules r --from in --to in/x --ledger l
-//! roots_of_words(alloc, &others)           // Err(RootsFault::Nested { first: in, second: in/x })
+//! read_order(alloc, &others)               // Err(RootsFault::Nested { first: in, second: in/x })
+//! // generate --count=5000
+//! read_order(alloc, &more)?                // Order::Generate { count: 5000 }
 //! ```
 #![tactic(auto)]
 
-mod options;
+mod numbers;
 mod roots;
 mod words;
 
-pub use roots::{Root, Roots, RootsFault, roots_of_words};
+pub use roots::{Order, Root, Roots, RootsFault, read_order};
 pub use words::{Task, WordsFault, read_words};

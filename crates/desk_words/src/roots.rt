@@ -4,7 +4,7 @@ ghost use Rattle.std.specs.Prelude.{◌≡◌, Some, Ok, Err, IfOk, IfErr, OnOk,
 ghost use Rattle.std.specs.List.{list_any};
 ghost use Rattle.desk_base.specs.Names.{written as joined};
 ghost use Rattle.desk_words.specs.Words.{is_value, parts, is_upward, is_dropped, named_parts, root_of, written, lies_in, overlap, first_nested};
-ghost use Rattle.desk_words.specs.Roots.{AreRoots, RefusedBy, nested_fault, roots_apart, roots_of_words};
+ghost use Rattle.desk_words.specs.Roots.{IsSound, RefusedBy, nested_fault, order_apart, order_of_words};
 
 use crate::words::{Task, WordsFault, read_words};
 use desk_base::{Memory, Text, TextList};
@@ -139,7 +139,16 @@ pub struct Roots {
     pub ledger: Text,
 }
 
-/// Why words name no roots of a run.
+/// What words ask for.
+#[derive(Debug, Drop)]
+pub enum Order {
+    /// A run over these roots.
+    Run(Roots),
+    /// A run over a generated application of so many classes.
+    Generate { count: u32 },
+}
+
+/// Why words ask for nothing that can be done.
 #[derive(Debug, Drop)]
 pub enum RootsFault {
     /// The words mean no task.
@@ -217,28 +226,28 @@ fn written_roots(
     })
 }
 
-/// The roots as they are written, or the fault of the first pair of them that is nested, or want of
-/// memory.
-fn separate_roots(
+/// A run over the roots as they are written, or the fault of the first pair of them that is nested, or want
+/// of memory.
+fn order_apart(
     alloc: Global,
     rules: &Root,
     from: &Root,
     to: &Root,
     ledger: &Root,
-) -> Result<Roots, RootsFault>
-    ensures ok { IfOk result (λ roots. roots_apart rules.now from.now to.now ledger.now (first_nested rules.now from.now to.now ledger.now) ≡ Ok roots) }
-    ensures err { IfErr result (RefusedBy (roots_apart rules.now from.now to.now ledger.now (first_nested rules.now from.now to.now ledger.now))) }
+) -> Result<Order, RootsFault>
+    ensures ok { IfOk result (λ order. order_apart rules.now from.now to.now ledger.now (first_nested rules.now from.now to.now ledger.now) ≡ Ok order) }
+    ensures err { IfErr result (RefusedBy (order_apart rules.now from.now to.now ledger.now (first_nested rules.now from.now to.now ledger.now))) }
 {
     match first_nested(alloc, rules, from, to, ledger)? {
         Some(fault) => Err(fault),
-        None => Ok(written_roots(alloc, rules, from, to, ledger)?),
+        None => Ok(Order::Run(written_roots(alloc, rules, from, to, ledger)?)),
     }
 }
 
-/// The roots that words name, as they are written, or why they name none.
-fn read_roots(alloc: Global, words: &[Text]) -> Result<Roots, RootsFault>
-    ensures ok { IfOk result (λ roots. roots_of_words words.now ≡ Ok roots) }
-    ensures err { IfErr result (RefusedBy (roots_of_words words.now)) }
+/// What words ask for, or why they ask for nothing.
+fn order_of(alloc: Global, words: &[Text]) -> Result<Order, RootsFault>
+    ensures ok { IfOk result (λ order. order_of_words words.now ≡ Ok order) }
+    ensures err { IfErr result (RefusedBy (order_of_words words.now)) }
 {
     match read_words(alloc, words) {
         Ok(
@@ -249,20 +258,21 @@ fn read_roots(alloc: Global, words: &[Text]) -> Result<Roots, RootsFault>
                 ledger,
                 ..
             },
-        ) => separate_roots(alloc, &rules, &from, &to, &ledger),
+        ) => order_apart(alloc, &rules, &from, &to, &ledger),
+        Ok(Task::Generate { count, .. }) => Ok(Order::Generate { count }),
         Err(WordsFault::Usage) => Err(RootsFault::Usage),
         Err(WordsFault::Memory) => Err(RootsFault::Memory),
     }
 }
 
-/// The roots that words name, as they are written. They are roots below which paths stand, and source and
-/// target have no path in common.
+/// What words ask for: a run over roots, as they are written, or a run over a generated application. The
+/// roots are such that paths stand below them, and source and target have no path in common.
 /// The errors: `Usage` of words without a task; `Nested` with the first two roots of which one lies
 /// in the other; `Memory`, which may come at any words.
-pub fn roots_of_words(alloc: Global, words: &[Text]) -> Result<Roots, RootsFault>
-    ensures ok { IfOk result (λ roots. roots_of_words words.now ≡ Ok roots) }
-    ensures sound { IfOk result AreRoots }
-    ensures err { IfErr result (RefusedBy (roots_of_words words.now)) }
+pub fn read_order(alloc: Global, words: &[Text]) -> Result<Order, RootsFault>
+    ensures ok { IfOk result (λ order. order_of_words words.now ≡ Ok order) }
+    ensures sound { IfOk result IsSound }
+    ensures err { IfErr result (RefusedBy (order_of_words words.now)) }
 {
-    read_roots(alloc, words)
+    order_of(alloc, words)
 }

@@ -1,26 +1,30 @@
-//! The words of a run.
+//! The task that words mean.
 
-ghost use Rattle.std.specs.Prelude.{◌≡◌, Some, None, Err, IfOk, map};
-ghost use Rattle.std.specs.List.{list_all};
+ghost use Rattle.std.specs.Prelude.{◌≡◌, Some, None, Err, IfOk};
 ghost use Rattle.std.specs.Option.{option_and_then};
-ghost use Rattle.std.specs.Str.{is_utf8};
-ghost use Rattle.desk_words.specs.Given.{given_pairs};
-ghost use Rattle.desk_words.specs.Options.{options_of, value_of, word_of};
-ghost use Rattle.desk_words.specs.Words.{root_at, task_of, task_of_options};
+ghost use Rattle.desk_options.specs.Values.{run_values, generate_values};
+ghost use Rattle.desk_words.specs.Words.{run_task, generate_task, task_of};
 
-use crate::options::{Given, Name, each_once, read_options, value_of, workers_of};
+use crate::numbers::{count_of, workers_of};
 use crate::roots::Root;
 use desk_base::{Memory, Text};
+use desk_options::{GenerateValues, RunValues, generate_values, run_values};
 use std::alloc::Global;
 
 /// What words ask for.
 #[derive(Debug, Drop)]
 pub enum Task {
+    /// A run by rules, from a source to a target, with a ledger.
     Run {
         rules: Root,
         from: Root,
         to: Root,
         ledger: Root,
+        workers: u32,
+    },
+    /// A run over a generated application of so many classes.
+    Generate {
+        count: u32,
         workers: u32,
     },
 }
@@ -43,42 +47,15 @@ impl From<Memory> for WordsFault {
     }
 }
 
-/// Whether a word is UTF-8.
-fn is_utf8(word: &Text) -> bool
-    ensures { result ≡ is_utf8 word.now }
+/// The task of the values that `run` is given, if they have one.
+fn run_task(alloc: Global, values: &RunValues) -> Result<Option<Task>, Memory>
+    ensures { IfOk result (λ task. task ≡ run_task values.now) }
 {
-    str::from_utf8(word.as_bytes()).is_ok()
-}
-
-/// Whether each word is UTF-8.
-fn are_utf8(words: &[Text]) -> bool
-    ensures { result ≡ list_all is_utf8 words.now }
-{
-    words.iter().all(is_utf8)
-}
-
-/// The root that the value of an option names.
-fn root_at(alloc: Global, options: &[Given<'_>], name: Name) -> Result<Option<Root>, Memory>
-    ensures { IfOk result (λ root. root ≡ root_at (value_of name (given_pairs options.now))) }
-{
-    match value_of(name, options) {
-        Some(value) => Root::read(alloc, value),
-        None => Ok(None),
-    }
-}
-
-/// The task of options, if they have one.
-fn task_of_options(alloc: Global, options: &[Given<'_>]) -> Result<Option<Task>, Memory>
-    ensures { IfOk result (λ task. task ≡ task_of_options (given_pairs options.now)) }
-{
-    if !each_once(options) {
-        return Ok(None);
-    }
-    let rules = root_at(alloc, options, Name::Rules)?;
-    let from = root_at(alloc, options, Name::From)?;
-    let to = root_at(alloc, options, Name::To)?;
-    let ledger = root_at(alloc, options, Name::Ledger)?;
-    let workers = workers_of(value_of(Name::Workers, options));
+    let rules = Root::read(alloc, values.rules.as_bytes())?;
+    let from = Root::read(alloc, values.from.as_bytes())?;
+    let to = Root::read(alloc, values.to.as_bytes())?;
+    let ledger = Root::read(alloc, values.ledger.as_bytes())?;
+    let workers = workers_of(&values.workers);
     match (rules, from, to, ledger, workers) {
         (Some(rules), Some(from), Some(to), Some(ledger), Some(workers)) => Ok(Some(Task::Run {
             rules,
@@ -91,12 +68,32 @@ fn task_of_options(alloc: Global, options: &[Given<'_>]) -> Result<Option<Task>,
     }
 }
 
-/// The task of words behind `run`.
-fn task_behind(alloc: Global, behind: &[Text]) -> Result<Option<Task>, Memory>
-    ensures { IfOk result (λ task. task ≡ option_and_then task_of_options (options_of (map word_of behind.now))) }
+/// The task of the values that `generate` is given, if they have one.
+fn generate_task(values: &GenerateValues) -> Option<Task>
+    ensures { result ≡ generate_task values.now }
 {
-    match read_options(alloc, behind)? {
-        Some(options) => task_of_options(alloc, options.as_slice()),
+    match (count_of(&values.count), workers_of(&values.workers)) {
+        (Some(count), Some(workers)) => Some(Task::Generate { count, workers }),
+        _ => None,
+    }
+}
+
+/// The task of words behind `run`.
+fn run_behind(alloc: Global, behind: &[Text]) -> Result<Option<Task>, Memory>
+    ensures { IfOk result (λ task. task ≡ option_and_then run_task (run_values behind.now)) }
+{
+    match run_values(alloc, behind)? {
+        Some(values) => run_task(alloc, &values),
+        None => Ok(None),
+    }
+}
+
+/// The task of words behind `generate`.
+fn generate_behind(alloc: Global, behind: &[Text]) -> Result<Option<Task>, Memory>
+    ensures { IfOk result (λ task. task ≡ option_and_then generate_task (generate_values behind.now)) }
+{
+    match generate_values(alloc, behind)? {
+        Some(values) => Ok(generate_task(&values)),
         None => Ok(None),
     }
 }
@@ -106,19 +103,27 @@ fn task_of(alloc: Global, words: &[Text]) -> Result<Option<Task>, Memory>
     ensures { IfOk result (λ task. task ≡ task_of words.now) }
 {
     match words {
-        [first, behind @ ..] if are_utf8(words) && first.as_bytes() == b"run".as_slice() => {
-            task_behind(alloc, behind)
+        [first, behind @ ..] => {
+            if first.as_bytes() == b"run".as_slice() {
+                run_behind(alloc, behind)
+            } else if first.as_bytes() == b"generate".as_slice() {
+                generate_behind(alloc, behind)
+            } else {
+                Ok(None)
+            }
         }
-        _ => Ok(None),
+        [] => Ok(None),
     }
 }
 
 /// Reads words: `run`, and behind it the options `--rules R`, `--from A`, `--to B`, `--ledger L` and, if
-/// it is wanted, `--workers N`, in any order. An option is two words, `--name value`, whose second doesn't
+/// it is wanted, `--workers N`, in any order; or `generate`, and behind it `--count N` and, if it is
+/// wanted, `--workers N`. An option is two words, `--name value`, whose second doesn't
 /// begin with `-`, or one word, `--name=value`. Each is given at most once.
 ///
-/// A root isn't empty, has at most 1,024 bytes and no part `..`. The number of workers is 1 to 64, in
-/// decimal digits without a sign or a leading zero, and 1 where it isn't given.
+/// A root isn't empty, has at most 1,024 bytes and no part `..`. The number of workers is 1 to 64, and 1
+/// where it isn't given; the count is 1 to 20,000. Numbers are decimal digits without a sign or a leading
+/// zero.
 ///
 /// Any other words, and words of which one isn't UTF-8, are the fault `Usage`; `Memory` may come at any
 /// words.

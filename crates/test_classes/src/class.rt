@@ -72,10 +72,20 @@ fn a_plain_class_reads(rt: HostRuntime) -> Result<(), Fail> {
 }
 
 #[test]
+fn classes_of_java_21_read(rt: HostRuntime) -> Result<(), Fail> {
+    let plain = patched(rt.alloc(), 4, b"\x00\x00\x00\x41")?;
+    assert_eq!(rt; fault_of(rt.alloc(), &plain), None);
+    let preview = patched(rt.alloc(), 4, b"\xFF\xFF\x00\x41")?;
+    assert_eq!(rt; fault_of(rt.alloc(), &preview), None);
+    Ok(())
+}
+
+#[test]
 fn damage_is_told_with_its_place(rt: HostRuntime) -> Result<(), Fail> {
-    let rows: [(usize, &[u8], FaultKind, u32); 4] = [
-        (6, b"\x00\x3E", FaultKind::Version, 6),
-        (4, b"\x00\x01\x00\x3D", FaultKind::Version, 4),
+    let rows: [(usize, &[u8], FaultKind, u32); 5] = [
+        (6, b"\x00\x42", FaultKind::Version, 6),
+        (4, b"\x00\x01\x00\x38", FaultKind::Version, 4),
+        (4, b"\x00\x01\x00\x41", FaultKind::Version, 4),
         (0, b"\xCB", FaultKind::Magic, 0),
         (13, b"\x00", FaultKind::Utf8Form, 13),
     ];

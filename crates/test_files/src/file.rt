@@ -4,9 +4,7 @@ ghost use Rattle.std.specs.Prelude.{◌≤◌, length};
 ghost use Rattle.desk_base.specs.Limits.{file_size};
 
 use desk_base::{FaultKind, Malformed, Text};
-use desk_file::{
-    FileFault, Image, Outcome, Treatment, image_of, migrate_file, target_of, treatment_of,
-};
+use desk_file::{FileFault, Image, Outcome, image_of, migrate_file, target_of};
 use desk_fixtures::rule_set;
 use desk_report::{Detail, Reason};
 use desk_rules::{BuildFault, RuleSet};
@@ -96,9 +94,93 @@ fn a_class_that_is_cut_is_refused(rt: HostRuntime) -> Result<(), Fail> {
 }
 
 #[test]
-fn a_manifest_is_refused(rt: HostRuntime) -> Result<(), Fail> {
-    let outcome = migrated(rt.alloc(), b"META-INF/MANIFEST.MF", b"")?;
-    assert!(rt; is_refused(&outcome, Reason::NotBuilt));
+fn a_manifest_has_its_headers_exchanged(rt: HostRuntime) -> Result<(), Fail> {
+    let outcome = migrated(
+        rt.alloc(),
+        b"META-INF/MANIFEST.MF",
+        b"Manifest-Version: 1.0\r\nMain-Class: javax.servlet.F\r\n",
+    )?;
+    assert!(rt;
+        is_written(
+            &outcome,
+            b"META-INF/MANIFEST.MF",
+            b"Manifest-Version: 1.0\r\nMain-Class: jakarta.servlet.F\r\n",
+            Detail::Manifest { changed: 1 }
+        )
+    );
+    Ok(())
+}
+
+#[test]
+fn a_line_that_is_no_header_refuses_a_manifest(rt: HostRuntime) -> Result<(), Fail> {
+    let outcome = migrated(rt.alloc(), b"META-INF/MANIFEST.MF", b"A: b\nx\n")?;
+    assert!(rt; is_refused(&outcome, Reason::BadLine { at: 5 }));
+    Ok(())
+}
+
+#[test]
+fn a_text_without_text_rules_is_copied(rt: HostRuntime) -> Result<(), Fail> {
+    let outcome = with_texts(rt.alloc(), b"jakarta/*=t", b"a=x", b"javax/y/w")?;
+    assert!(rt; is_written(&outcome, b"javax/y/w", b"ab", Detail::Copy));
+    Ok(())
+}
+
+/// What becomes of `ab` at a path, where `*.xml` has these text rules.
+fn with_texts<'x>(
+    alloc: Global,
+    patterns: &'x [u8],
+    texts: &'x [u8],
+    path: &[u8],
+) -> Result<Outcome, Fail> {
+    let rules = rule_set(
+        alloc,
+        &[
+            (b"renames.properties", b"javax.x=jakarta.x"),
+            (b"t", texts),
+            (b"text.properties", patterns),
+        ],
+    )?;
+    let path = Text::from_bytes(alloc, path)?;
+    Ok(migrate_file(alloc, &rules, &path, b"ab")?)
+}
+
+/// Texts `ab` that are written: patterns, text rules, the path, the image, and how many places changed.
+const TEXTS: &[(&[u8], &[u8], &[u8], &[u8], u32)] = &[
+    (b"*.xml=t", b"a=x", b"w.xml", b"xb", 1),
+    (b"*.xml=t", b"", b"w.xml", b"ab", 0),
+    (b"*.xml=t", b"a=a", b"w.xml", b"ab", 0),
+    (b"jakarta/*=t", b"c=x", b"javax/x/w", b"ab", 0),
+    (b"javax/*=t", b"a=x", b"javax/x/w", b"xb", 1),
+];
+
+#[test]
+fn texts_have_the_sources_of_their_rules_exchanged(rt: HostRuntime) -> Result<(), Fail> {
+    for (patterns, texts, path, image, changed) in TEXTS {
+        let outcome = with_texts(rt.alloc(), patterns, texts, path)?;
+        let Outcome::Written { bytes, detail, .. } = &outcome else {
+            return Err(Fail::from("refused"));
+        };
+        assert!(rt; bytes.as_bytes() == *image, "{path:?}");
+        assert_eq!(rt; *detail, Detail::Texts { changed: *changed }, "{path:?}");
+    }
+    Ok(())
+}
+
+/// Texts `ab` that are refused: patterns, text rules, the path, and the place.
+const UNSETTLED: &[(&[u8], &[u8], &[u8], u64)] = &[
+    (b"*.xml=t", b"a=xa", b"w.xml", 1),
+    (b"jakarta/*=t", b"b=x", b"javax/x/w", 1),
+];
+
+#[test]
+fn texts_that_would_change_again_are_refused(rt: HostRuntime) -> Result<(), Fail> {
+    for (patterns, texts, path, at) in UNSETTLED {
+        let outcome = with_texts(rt.alloc(), patterns, texts, path)?;
+        assert!(rt;
+            is_refused(&outcome, Reason::Unsettled { at: *at }),
+            "{path:?}"
+        );
+    }
     Ok(())
 }
 
@@ -142,84 +224,36 @@ fn images_are_those_of_the_files(rt: HostRuntime) -> Result<(), Fail> {
     assert!(rt; copy.bytes.as_bytes() == b"x".as_slice());
     assert!(rt; copy.detail == Detail::Copy);
     let fault = made(alloc, b"META-INF/MANIFEST.MF", b"x")?.err();
-    assert!(rt; fault == Some(FileFault::Refused(Reason::NotBuilt)));
+    assert!(rt; fault == Some(FileFault::Refused(Reason::BadLine { at: 0 })));
     Ok(())
 }
 
 #[test]
-fn treatments_go_by_paths(rt: HostRuntime) -> Result<(), Fail> {
+fn a_service_file_goes_to_the_name_of_the_new_service(rt: HostRuntime) -> Result<(), Fail> {
     let alloc = rt.alloc();
     let rules = build(alloc)?;
     let service = Text::from_bytes(alloc, b"META-INF/services/javax.servlet.F")?;
-    assert_eq!(rt;
-        treatment_of(alloc, &rules, &service)?,
-        Treatment::Providers
-    );
     let target = target_of(alloc, &rules, &service)?;
     assert!(rt; target.as_bytes() == b"META-INF/services/jakarta.servlet.F".as_slice());
-    let class = Text::from_bytes(alloc, b"A.class")?;
-    assert_eq!(rt; treatment_of(alloc, &rules, &class)?, Treatment::Names);
     Ok(())
 }
 
-/// How a path is treated under a rename of `javax.x` and one more rule file, beside the text rules `t`.
-fn treated(alloc: Global, name: &[u8], content: &[u8], path: &[u8]) -> Result<Treatment, Fail> {
+/// What becomes of the class at a path where the classes below `legacy` aren't selected.
+fn selecting(alloc: Global, path: &[u8]) -> Result<Outcome, Fail> {
     let rules = rule_set(
         alloc,
         &[
-            (b"renames.properties", b"javax.x=jakarta.x"),
-            (b"t", b"a=b"),
-            (name, content),
+            (b"renames.properties", b"javax.servlet=jakarta.servlet"),
+            (b"selection.properties", b"legacy/*=!"),
         ],
     )?;
     let path = Text::from_bytes(alloc, path)?;
-    Ok(treatment_of(alloc, &rules, &path)?)
+    Ok(migrate_file(alloc, &rules, &path, F)?)
 }
 
-/// How paths are treated, each under one more rule file.
-const TREATMENTS: &[(&[u8], &[u8], &[u8], Treatment)] = &[
-    (
-        b"selection.properties",
-        b"legacy/*=!",
-        b"legacy/Old.class",
-        Treatment::Copy,
-    ),
-    (
-        b"selection.properties",
-        b"legacy/*=!",
-        b"Old.class",
-        Treatment::Names,
-    ),
-    (
-        b"text.properties",
-        b"jakarta/*=t",
-        b"jakarta/y/a.txt",
-        Treatment::NotBuilt,
-    ),
-    (
-        b"text.properties",
-        b"jakarta/*=t",
-        b"javax/x/a.txt",
-        Treatment::NotBuilt,
-    ),
-    (
-        b"text.properties",
-        b"jakarta/*=t",
-        b"javax/y/a.txt",
-        Treatment::Copy,
-    ),
-];
-
 #[test]
-fn unselected_files_are_copied_and_text_rules_go_by_path_and_target(
-    rt: HostRuntime,
-) -> Result<(), Fail> {
-    for (name, content, path, treatment) in TREATMENTS {
-        assert_eq!(rt;
-            treated(rt.alloc(), name, content, path)?,
-            *treatment,
-            "{path:?}"
-        );
-    }
+fn an_unselected_class_is_copied_to_its_path(rt: HostRuntime) -> Result<(), Fail> {
+    let old = selecting(rt.alloc(), b"legacy/javax/servlet/F.class")?;
+    assert!(rt; is_written(&old, b"legacy/javax/servlet/F.class", F, Detail::Copy));
     Ok(())
 }

@@ -87,22 +87,29 @@ fn has(keeper: &mut MemoryKeeper, row: &Row) -> bool
     }
 }
 
-fn row(alloc: Global, target: &[u8], source: &[u8], byte: u8) -> Result<Row, Fail> {
-    Ok(Row {
+fn row(alloc: Global, target: &[u8], source: &[u8], byte: u8) -> Result<Box<Row>, Fail> {
+    let row = Row {
         target: Text::from_bytes(alloc, target)?,
         source: Text::from_bytes(alloc, source)?,
         digest: Digest([byte; 32]),
-    })
+    };
+    Ok(Box::new(alloc, row)?)
 }
 
-#[test]
-fn keeps_a_header(rt: HostRuntime) -> Result<(), Fail> {
-    let alloc = rt.alloc();
+/// The header of a run from `in` to `out`.
+fn header(alloc: Global) -> Result<Box<Header>, Fail> {
     let header = Header {
         from: Text::from_bytes(alloc, b"in")?,
         to: Text::from_bytes(alloc, b"out")?,
         rules: Digest([7; 32]),
     };
+    Ok(Box::new(alloc, header)?)
+}
+
+#[test]
+fn keeps_a_header(rt: HostRuntime) -> Result<(), Fail> {
+    let alloc = rt.alloc();
+    let header = header(alloc)?;
     let mut keeper = attached(alloc, vec![in alloc; 2u64]?)?;
     assert!(rt; !has_header(&mut keeper, &header));
     assert_eq!(rt; set_header(&mut keeper, &header), Some(KeeperFault::Failed));

@@ -7,3 +7,5 @@ mod disk;
 mod ledger;
 #[cfg(test)]
 mod memory;
+#[cfg(test)]
+mod place;

@@ -1,70 +1,66 @@
 //! Folders in memory, call by call.
 
-use desk_base::{Text, TextList};
+ghost use Rattle.desk_base.specs.Paths.{is_root};
+ghost use Rattle.std.specs.Prelude.{◌≤◌, IsTrue};
+
+use crate::place::holds;
+use desk_base::Text;
 use desk_folders::{FolderFault, Folders, GenFile, MemoryFolders};
 use std::alloc::Global;
 use std::test::Fail;
 
-/// Whether a list holds exactly these texts.
-fn holds(list: &TextList, texts: &[&[u8]]) -> bool {
-    list.len() == texts.len()
-        && texts.iter().enumerate().all(|(place, text)| match list.get(place) {
-            Some(path) => path.as_bytes() == *text,
-            None => false,
-        })
-}
+/// Four files, two of one path.
+const FILES: &[(&[u8], &[u8])] = &[
+    (b"in/a", b"1"),
+    (b"in/b/c", b"2"),
+    (b"in/a", b"345"),
+    (b"/in/z", b"6"),
+];
 
-/// Folders with four files, two of one path.
+/// Folders with the four files.
 fn four_files(alloc: Global) -> Result<Box<MemoryFolders>, Fail> {
-    let files = vec![in alloc;
-        GenFile {
-            path: Text::from_bytes(alloc, b"in/a")?,
-            content: Text::from_bytes(alloc, b"1")?
-        },
-        GenFile {
-            path: Text::from_bytes(alloc, b"in/b/c")?,
-            content: Text::from_bytes(alloc, b"2")?
-        },
-        GenFile {
-            path: Text::from_bytes(alloc, b"in/a")?,
-            content: Text::from_bytes(alloc, b"345")?
-        },
-        GenFile {
-            path: Text::from_bytes(alloc, b"/in/z")?,
-            content: Text::from_bytes(alloc, b"6")?
-        },
-    ]?;
+    let mut files = Vec::new(alloc);
+    for (path, content) in FILES {
+        let path = Text::from_bytes(alloc, path)?;
+        let content = Text::from_bytes(alloc, content)?;
+        files.push(GenFile { path, content })?;
+    }
     let folders = MemoryFolders::new(alloc, files, Vec::new(alloc))?;
     Ok(Box::new(alloc, folders)?)
+}
+
+/// Whether the paths below a root, at most so many and one more, are these.
+fn lists(folders: &mut MemoryFolders, root: &Text, most: u32, paths: &[&[u8]]) -> Result<bool, Fail>
+    requires most { most ≤ 1000000 }
+    requires root { IsTrue (is_root root.now) }
+{
+    Ok(holds(&folders.list(root, most)?, paths))
 }
 
 #[test]
 fn lists_paths_below_roots(rt: HostRuntime) -> Result<(), Fail> {
     let alloc = rt.alloc();
     let mut folders = four_files(alloc)?;
-    let below_in = folders.list(&Text::from_bytes(alloc, b"in")?, 2)?;
-    let first = folders.list(&Text::from_bytes(alloc, b"in")?, 0)?;
-    let below_here = folders.list(&Text::from_bytes(alloc, b".")?, 9)?;
-    let below_top = folders.list(&Text::from_bytes(alloc, b"/")?, 9)?;
-    assert!(rt; holds(&below_in, &[b"a".as_slice(), b"b/c".as_slice()]));
-    assert!(rt; holds(&first, &[b"a".as_slice()]));
-    assert!(rt; holds(&below_here, &[b"in/a".as_slice(), b"in/b/c".as_slice()]));
-    assert!(rt; holds(&below_top, &[b"in/z".as_slice()]));
+    let folder = Text::from_bytes(alloc, b"in")?;
+    let here = Text::from_bytes(alloc, b".")?;
+    let top = Text::from_bytes(alloc, b"/")?;
+    assert!(rt; lists(&mut folders, &folder, 2, &[b"a", b"b/c"])?);
+    assert!(rt; lists(&mut folders, &folder, 0, &[b"a"])?);
+    assert!(rt; lists(&mut folders, &here, 9, &[b"in/a", b"in/b/c"])?);
+    assert!(rt; lists(&mut folders, &top, 9, &[b"in/z"])?);
     Ok(())
 }
 
-/// A part of a file as it stands at a path; none where the path isn't there.
-fn part(
-    folders: &mut MemoryFolders,
-    alloc: Global,
-    path: &[u8],
-    at: u64,
-) -> Result<Option<Text>, Fail> {
-    let path = Text::from_bytes(alloc, path)?;
+/// Where a part of `in/a` begins, and its first two bytes.
+const PARTS: &[(u64, &[u8])] = &[(0, b"34"), (2, b"5"), (3, b"")];
+
+/// Whether the two bytes of `in/a` from a place on are these.
+fn reads(folders: &mut MemoryFolders, alloc: Global, at: u64, bytes: &[u8]) -> Result<bool, Fail> {
+    let path = Text::from_bytes(alloc, b"in/a")?;
     if folders.content(path.as_bytes()).is_none() {
-        return Ok(None);
+        return Ok(false);
     }
-    Ok(Some(folders.read_part(&path, at, 2)?))
+    Ok(folders.read_part(&path, at, 2)?.as_bytes() == bytes)
 }
 
 /// Adds bytes where a path is there, and answers what came of it.
@@ -87,12 +83,9 @@ fn reads_by_parts(rt: HostRuntime) -> Result<(), Fail> {
     let mut folders = four_files(alloc)?;
     assert_eq!(rt; folders.content(b"in/a"), Some(b"345".as_slice()));
     assert_eq!(rt; folders.content(b"in"), None);
-    let first = part(&mut folders, alloc, b"in/a", 0)?.ok_or("first")?;
-    let second = part(&mut folders, alloc, b"in/a", 2)?.ok_or("second")?;
-    let end = part(&mut folders, alloc, b"in/a", 3)?.ok_or("end")?;
-    assert_eq!(rt; first.as_bytes(), b"34".as_slice());
-    assert_eq!(rt; second.as_bytes(), b"5".as_slice());
-    assert_eq!(rt; end.as_bytes(), b"".as_slice());
+    for (at, bytes) in PARTS {
+        assert!(rt; reads(&mut folders, alloc, *at, bytes)?, "{at}");
+    }
     Ok(())
 }
 

@@ -1,4 +1,4 @@
-//! Tests of texts and the cursor, of the report with its lines and faults, of the words of a run, of names in class files, and of clashes.
+//! Tests of texts and the cursor, of the report with its lines and faults, of names in class files, and of clashes.
 #![tactic(auto)]
 
 #[cfg(test)]
@@ -13,5 +13,3 @@ mod names;
 mod sinks;
 #[cfg(test)]
 mod texts;
-#[cfg(test)]
-mod words;

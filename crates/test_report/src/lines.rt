@@ -20,6 +20,18 @@ const WRITTEN: &[(&[u8], &[u8], Detail, &[u8])] = &[
         b"written a\\5c \\c3\\a9 copy\n",
     ),
     (
+        b"META-INF/MANIFEST.MF",
+        b"META-INF/MANIFEST.MF",
+        Detail::Manifest { changed: 3 },
+        b"written META-INF/MANIFEST.MF META-INF/MANIFEST.MF manifest changed=3\n",
+    ),
+    (
+        b"web.xml",
+        b"web.xml",
+        Detail::Texts { changed: 0 },
+        b"written web.xml web.xml text changed=0\n",
+    ),
+    (
         b"A.class",
         b"A.class",
         Detail::Class {
@@ -39,7 +51,11 @@ const REFUSED: &[(&[u8], Reason, &[u8])] = &[
         Reason::BadLine { at: 23 },
         b"refused META-INF/services/x bad-line at=23\n",
     ),
-    (b"A.class", Reason::NotBuilt, b"refused A.class not-built\n"),
+    (
+        b"web.xml",
+        Reason::Unsettled { at: 67_108_863 },
+        b"refused web.xml unsettled at=67108863\n",
+    ),
     (
         b"A.class",
         Reason::Malformed(Malformed {

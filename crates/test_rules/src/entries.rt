@@ -1,9 +1,11 @@
 //! Entries of rule files, and which of them are refused.
 
 use desk_entries::{
-    EntryError, EntryFault, Mark, check_string, check_text_rule, read_mark, read_rename,
-    read_text_name, read_update, read_versions,
+    EntryError, EntryFault, check_string, check_text_rule, read_mark, read_rename, read_text_name,
+    read_update, read_versions,
 };
+use desk_packages::Reach;
+use desk_patterns::Mark;
 use std::test::Fail;
 
 #[test]
@@ -11,12 +13,12 @@ fn renames_have_packages_on_both_sides(rt: HostRuntime) -> Result<(), Fail> {
     let rename = read_rename(rt.alloc(), b"javax.servlet.*", b"jakarta.servlet \t")
         .ok()
         .ok_or("no rename")?;
-    assert!(rt; rename.below);
+    assert_eq!(rt; rename.reach, Reach::Below);
     assert_eq!(rt; rename.source.len(), 2);
     let last = rename.target.get(1).ok_or("no segment")?;
     assert_eq!(rt; last.as_bytes(), b"servlet".as_slice());
     let exact = read_rename(rt.alloc(), b"a", b"b").ok().ok_or("no rename")?;
-    assert!(rt; !exact.below);
+    assert_eq!(rt; exact.reach, Reach::Exact);
     let key = Some(EntryError::Fault(EntryFault::Key));
     let value = Some(EntryError::Fault(EntryFault::Value));
     assert_eq!(rt; read_rename(rt.alloc(), b"a..b", b"9").err(), key);

@@ -1,8 +1,7 @@
-//! Patterns of paths, and the text rules of paths.
+//! Patterns of paths.
 
 use desk_base::Text;
-use desk_patterns::{PatternTexts, Selection, TextHit, TextRules, fits};
-use std::process::Abort;
+use desk_patterns::{Mark, Selection, fits};
 use std::test::Fail;
 
 // The rows with `*` alone are those of fnmatch of the C library without flags, for which `*` stands for `/` too.
@@ -48,74 +47,15 @@ fn an_exclude_goes_before_an_include(rt: HostRuntime) -> Result<(), Fail> {
     let alloc = rt.alloc();
     let mut selection = Box::new(alloc, Selection::new(alloc))?;
     assert!(rt; selection.selects(b"a"));
-    selection.push(Text::from_bytes(alloc, b"legacy/*")?, true)?;
+    selection.push(Text::from_bytes(alloc, b"legacy/*")?, Mark::Exclude)?;
     assert!(rt; selection.selects(b"a"));
     assert!(rt; !selection.selects(b"legacy/a"));
-    selection.push(Text::from_bytes(alloc, b"*.class")?, false)?;
+    selection.push(Text::from_bytes(alloc, b"*.class")?, Mark::Include)?;
     assert!(rt; !selection.selects(b"a"));
     assert!(rt; selection.selects(b"a.class"));
     assert!(rt; !selection.selects(b"legacy/a.class"));
-    selection.push(Text::from_bytes(alloc, b"*.xml")?, false)?;
+    selection.push(Text::from_bytes(alloc, b"*.xml")?, Mark::Include)?;
     assert!(rt; selection.selects(b"a.xml"));
     assert!(rt; selection.selects(b"a.class"));
-    Ok(())
-}
-
-fn assert_hit(
-    rt: &impl Abort,
-    hit: Option<TextHit<'_>>,
-    taken: usize,
-    target: &[u8],
-) -> Result<(), Fail> {
-    let found = hit.ok_or("no hit")?;
-    assert_eq!(rt; found.taken, taken);
-    assert_eq!(rt; found.target, target);
-    Ok(())
-}
-
-#[test]
-fn the_longest_source_is_found(rt: HostRuntime) -> Result<(), Fail> {
-    let alloc = rt.alloc();
-    assert!(rt; TextRules::none(alloc).longest(b"abc", 0).is_none());
-    let mut rules = Box::new(alloc, TextRules::none(alloc))?;
-    let rows: &[(&[u8], &[u8])] = &[
-        (b"javax.", b"1"),
-        (b"javax.servlet.", b"2"),
-        (b"b", b""),
-        (b"java", b"3"),
-        (b"\xFF", b"4"),
-    ];
-    for (source, target) in rows {
-        let source = Text::from_bytes(alloc, source)?;
-        assert!(rt; !source.as_bytes().is_empty());
-        rules.push(source, Text::from_bytes(alloc, target)?)?;
-    }
-    assert_hit(&rt, rules.longest(b"javax.servlet.A", 0), 14, b"2")?;
-    assert_hit(&rt, rules.longest(b"javax.sql", 0), 6, b"1")?;
-    assert_hit(&rt, rules.longest(b"xjava.sql", 1), 4, b"3")?;
-    assert_hit(&rt, rules.longest(b"ab\xFF", 1), 1, b"")?;
-    assert_hit(&rt, rules.longest(b"ab\xFF", 2), 1, b"4")?;
-    assert!(rt; rules.longest(b"jav", 0).is_none());
-    assert!(rt; rules.longest(b"java", 4).is_none());
-    Ok(())
-}
-
-#[test]
-fn the_first_pattern_that_fits_is_used(rt: HostRuntime) -> Result<(), Fail> {
-    let alloc = rt.alloc();
-    let mut texts = Box::new(alloc, PatternTexts::new(alloc))?;
-    let rows: &[(&[u8], &[u8])] = &[(b"*.xml", b"1"), (b"*", b"2"), (b"web.xml", b"3")];
-    for (pattern, target) in rows {
-        let mut rules = TextRules::none(alloc);
-        let source = Text::from_bytes(alloc, b"a")?;
-        assert!(rt; !source.as_bytes().is_empty());
-        rules.push(source, Text::from_bytes(alloc, target)?)?;
-        texts.push(Text::from_bytes(alloc, pattern)?, rules)?;
-    }
-    let rules = texts.find(b"web.xml").ok_or("no rules")?;
-    assert_hit(&rt, rules.longest(b"a", 0), 1, b"1")?;
-    let rules = texts.find(b"web.txt").ok_or("no rules")?;
-    assert_hit(&rt, rules.longest(b"a", 0), 1, b"2")?;
-    assert!(rt; PatternTexts::new(alloc).find(b"a").is_none());
     Ok(())
 }

@@ -65,6 +65,9 @@ const STRINGS: &[(&[u8], &[u8])] = &[
     (b"javax.servlet.F", b"jakarta.servlet.F"),
     (b"javax.servlet.G", b""),
     (b"javax/servlet/G", b""),
+    (b"javax.servlet", b"jakarta.servlet"),
+    (b"javax.servlet.http.Cookie", b"jakarta.servlet.http.Cookie"),
+    (b"javax", b""),
 ];
 
 #[test]
@@ -72,6 +75,38 @@ fn a_direct_rule_goes_before_a_dotted_name(rt: HostRuntime) -> Result<(), Fail> 
     let alloc = rt.alloc();
     let rules = rules_of(alloc)?;
     for (text, image) in STRINGS {
+        assert!(rt;
+            gives(rename_string(alloc, &rules, text)?, image),
+            "{text:?}"
+        );
+    }
+    Ok(())
+}
+
+/// Strings under a rename and an exception below it, each with its image.
+const TRANSACTIONS: &[(&[u8], &[u8])] = &[
+    (b"javax.transaction", b"jakarta.transaction"),
+    (b"javax.transaction.xa", b""),
+    (b"javax.transaction.xa.XAResource", b""),
+    (b"javax.transaction.xb", b"jakarta.transaction.xb"),
+    (b"javax/transaction", b""),
+];
+
+#[test]
+fn a_string_that_is_a_package_follows_and_an_exception_protects_it(
+    rt: HostRuntime,
+) -> Result<(), Fail> {
+    let alloc = rt.alloc();
+    let rules = rule_set(
+        alloc,
+        &[(
+            b"renames.properties",
+            b"javax.transaction.*=jakarta.transaction\njavax.transaction.xa=javax.transaction.xa",
+        )],
+    )?;
+    assert!(rt; rules.is_source(b"javax.transaction.xa"));
+    assert!(rt; !rules.is_source(b"javax.transaction.xb"));
+    for (text, image) in TRANSACTIONS {
         assert!(rt;
             gives(rename_string(alloc, &rules, text)?, image),
             "{text:?}"

@@ -160,6 +160,76 @@ fn a_new_name_of_a_bundle_is_not_updated_again(rt: HostRuntime) -> Result<(), Fa
 }
 
 #[test]
+fn a_new_package_may_not_be_a_name_that_a_rename_changes(rt: HostRuntime) -> Result<(), Fail> {
+    let alloc = rt.alloc();
+    let files: &[File] = &[(RENAMES, b"a=a.b\n")];
+    assert_fault(
+        &rt,
+        alloc,
+        files,
+        chain(alloc, ChainKind::PackageThenName, b"a", b"a")?,
+    );
+    Ok(())
+}
+
+#[test]
+fn a_name_in_a_new_package_may_not_be_one_that_a_rename_changes(
+    rt: HostRuntime,
+) -> Result<(), Fail> {
+    let alloc = rt.alloc();
+    let files: &[File] = &[(RENAMES, b"a=b\nb.c=d\n")];
+    assert_fault(
+        &rt,
+        alloc,
+        files,
+        chain(alloc, ChainKind::NameThenPackage, b"a", b"b.c")?,
+    );
+    Ok(())
+}
+
+#[test]
+fn a_new_package_may_not_be_a_direct_string(rt: HostRuntime) -> Result<(), Fail> {
+    let alloc = rt.alloc();
+    let files: &[File] = &[(RENAMES, b"a.b=c.d\n"), (b"direct.properties", b"c.d=x\n")];
+    assert_fault(
+        &rt,
+        alloc,
+        files,
+        chain(alloc, ChainKind::PackageThenDirect, b"a.b", b"c.d")?,
+    );
+    Ok(())
+}
+
+#[test]
+fn a_direct_string_may_not_lead_to_a_package(rt: HostRuntime) -> Result<(), Fail> {
+    let alloc = rt.alloc();
+    let files: &[File] = &[ONE, (b"direct.properties", b"x=a\n")];
+    assert_fault(
+        &rt,
+        alloc,
+        files,
+        chain(alloc, ChainKind::DirectThenPackage, b"x", b"a")?,
+    );
+    Ok(())
+}
+
+#[test]
+fn the_least_of_two_chains_is_told(rt: HostRuntime) -> Result<(), Fail> {
+    let alloc = rt.alloc();
+    let files: &[File] = &[
+        (RENAMES, b"e=f\nf.h=h\nf.g=g\nc=d\n"),
+        (b"direct.properties", b"d=x\ny=c\n"),
+    ];
+    assert_fault(
+        &rt,
+        alloc,
+        files,
+        chain(alloc, ChainKind::NameThenPackage, b"e", b"f.g")?,
+    );
+    Ok(())
+}
+
+#[test]
 fn there_must_be_a_rename(rt: HostRuntime) -> Result<(), Fail> {
     let alloc = rt.alloc();
     assert_fault(&rt, alloc, &[], RuleFault::NoRenames);

@@ -8,6 +8,7 @@ use desk_ledger::{Digest, Header, Keeper, KeeperFault, Row};
 use desk_sqlite::SqliteKeeper;
 use sqlite::Connection;
 use std::alloc::Global;
+use std::process::Abort;
 use std::test::Fail;
 use std::{env, fs, process, str};
 
@@ -94,44 +95,97 @@ fn has(keeper: &mut SqliteKeeper<'_>, row: &Row) -> bool
     }
 }
 
-fn row(alloc: Global, target: &[u8], source: &[u8], byte: u8) -> Result<Row, Fail> {
-    Ok(Row {
+fn row(alloc: Global, target: &[u8], source: &[u8], byte: u8) -> Result<Box<Row>, Fail> {
+    let row = Row {
         target: Text::from_bytes(alloc, target)?,
         source: Text::from_bytes(alloc, source)?,
         digest: Digest([byte; 32]),
-    })
+    };
+    Ok(Box::new(alloc, row)?)
 }
 
-#[test]
-fn keeps_a_ledger_from_run_to_run(rt: HostRuntime) -> Result<(), Fail> {
-    let alloc = rt.alloc();
-    let root = own_folder(&rt, "kept")?;
-    let path = path_below(alloc, root.as_str(), "ledger")?;
+/// The header of a run from `in` to `out`.
+fn header(alloc: Global) -> Result<Box<Header>, Fail> {
     let header = Header {
         from: Text::from_bytes(alloc, b"in")?,
         to: Text::from_bytes(alloc, b"out")?,
         rules: Digest([7; 32]),
     };
+    Ok(Box::new(alloc, header)?)
+}
+
+/// A header, and rows of which two have one target.
+#[derive(Drop)]
+struct Rows {
+    header: Box<Header>,
+    old: Box<Row>,
+    new: Box<Row>,
+    other: Box<Row>,
+}
+
+fn own_rows(alloc: Global) -> Result<Box<Rows>, Fail> {
+    let header = header(alloc)?;
     let old = row(alloc, b"one", b"a", 1)?;
     let new = row(alloc, b"one", b"c", 3)?;
     let other = row(alloc, b"two", b"b", 2)?;
-    let mut first = attached(&rt, &path)?;
-    assert!(rt; !has_header(&mut first, &header));
-    assert_eq!(rt; set_header(&mut first, &header), None);
-    assert_eq!(rt; put(&mut first, &old)?, None);
-    assert_eq!(rt; put(&mut first, &other)?, None);
-    assert_eq!(rt; put(&mut first, &new)?, None);
-    assert_eq!(rt; forget(&mut first, &other.target), None);
-    assert!(rt; !has(&mut first, &other));
-    assert_eq!(rt; put(&mut first, &other)?, None);
-    assert_eq!(rt; commit(&mut first), None);
+    Ok(Box::new(
+        alloc,
+        Rows {
+            header,
+            old,
+            new,
+            other,
+        },
+    )?)
+}
+
+/// Writes the header and the rows to a new ledger, the other one twice.
+fn write_all(rt: &impl Abort, keeper: &mut SqliteKeeper<'_>, rows: &Rows) -> Result<(), Fail>
+    requires { IsSome (attached_in keeper.old) }
+{
+    assert!(rt; !has_header(keeper, &rows.header));
+    assert_eq!(rt; set_header(keeper, &rows.header), None);
+    assert_eq!(rt; put(keeper, &rows.old)?, None);
+    assert_eq!(rt; put(keeper, &rows.other)?, None);
+    assert_eq!(rt; put(keeper, &rows.new)?, None);
+    assert_eq!(rt; forget(keeper, &rows.other.target), None);
+    assert!(rt; !has(keeper, &rows.other));
+    assert_eq!(rt; put(keeper, &rows.other)?, None);
+    assert_eq!(rt; commit(keeper), None);
+    Ok(())
+}
+
+/// Finds the header and the last row of each target.
+fn find_all(rt: &impl Abort, keeper: &mut SqliteKeeper<'_>, rows: &Rows)
+    requires { IsSome (attached_in keeper.old) }
+{
+    assert!(rt; has_header(keeper, &rows.header));
+    assert!(rt; has(keeper, &rows.new));
+    assert!(rt; !has(keeper, &rows.old));
+    assert!(rt; has(keeper, &rows.other));
+}
+
+/// What one keeper writes at a path, a second one finds.
+fn write_and_find(
+    rt: &HostRuntime,
+    abort: &impl Abort,
+    path: &Text,
+    rows: &Rows,
+) -> Result<(), Fail> {
+    let mut first = attached(rt, path)?;
+    write_all(abort, &mut first, rows)?;
     drop(first);
-    let mut second = attached(&rt, &path)?;
-    assert!(rt; has_header(&mut second, &header));
-    assert!(rt; has(&mut second, &new));
-    assert!(rt; !has(&mut second, &old));
-    assert!(rt; has(&mut second, &other));
-    drop(second);
+    let mut second = attached(rt, path)?;
+    find_all(abort, &mut second, rows);
+    Ok(())
+}
+
+#[test]
+fn keeps_a_ledger_from_run_to_run(rt: HostRuntime) -> Result<(), Fail> {
+    let root = own_folder(&rt, "kept")?;
+    let path = path_below(rt.alloc(), root.as_str(), "ledger")?;
+    let rows = own_rows(rt.alloc())?;
+    write_and_find(&rt, &rt, &path, &rows)?;
     fs::remove_dir_all(&rt, root.as_str())?;
     Ok(())
 }
@@ -203,34 +257,71 @@ fn writes_fail(keeper: &mut SqliteKeeper<'_>, header: &Header, target: &Text) ->
     first && headed && forgotten && second
 }
 
-#[test]
-fn rows_go_on_waiting_while_the_file_is_damaged(rt: HostRuntime) -> Result<(), Fail> {
-    let alloc = rt.alloc();
-    let root = own_folder(&rt, "damaged")?;
-    let path = path_below(alloc, root.as_str(), "ledger")?;
-    let log = path_below(alloc, root.as_str(), "ledger-wal")?;
-    let header = Header {
-        from: Text::from_bytes(alloc, b"in")?,
-        to: Text::from_bytes(alloc, b"out")?,
-        rules: Digest([7; 32]),
-    };
+/// Two rows, one of them large, and a header that isn't written.
+#[derive(Drop)]
+struct Waiting {
+    header: Box<Header>,
+    large: Box<Row>,
+    small: Box<Row>,
+}
+
+fn two_rows(alloc: Global) -> Result<Box<Waiting>, Fail> {
+    let header = header(alloc)?;
     let large = row(alloc, b"one", vec![in alloc; b'a'; LARGE]?.as_slice(), 1)?;
     let small = row(alloc, b"two", b"b", 2)?;
-    write_one(&rt, &path, &large)?;
-    let mut keeper = attached(&rt, &path)?;
-    let whole = fs::read(&rt, path_of(&log)?)?;
-    fs::write(&rt, path_of(&log)?, b"")?;
-    assert_eq!(rt; put(&mut keeper, &small)?, None);
-    assert!(rt; writes_fail(&mut keeper, &header, &large.target));
-    assert!(rt; !has_header(&mut keeper, &header));
-    assert!(rt; has(&mut keeper, &large));
-    fs::write(&rt, path_of(&log)?, whole.as_slice())?;
-    assert_eq!(rt; commit(&mut keeper), None);
-    drop(keeper);
-    let mut again = attached(&rt, &path)?;
-    assert!(rt; !has_header(&mut again, &header));
-    assert!(rt; has(&mut again, &large));
-    assert!(rt; has(&mut again, &small));
+    Ok(Box::new(
+        alloc,
+        Waiting {
+            header,
+            large,
+            small,
+        },
+    )?)
+}
+
+/// The calls that fail while the log is empty, and the commit that doesn't once it is whole again.
+fn write_around_damage(
+    rt: &HostRuntime,
+    abort: &impl Abort,
+    path: &Text,
+    log: &str,
+    rows: &Waiting,
+) -> Result<(), Fail> {
+    let mut keeper = attached(rt, path)?;
+    let whole = fs::read(rt, log)?;
+    fs::write(rt, log, b"")?;
+    assert_eq!(abort; put(&mut keeper, &rows.small)?, None);
+    assert!(abort; writes_fail(&mut keeper, &rows.header, &rows.large.target));
+    assert!(abort; !has_header(&mut keeper, &rows.header));
+    assert!(abort; has(&mut keeper, &rows.large));
+    fs::write(rt, log, whole.as_slice())?;
+    assert_eq!(abort; commit(&mut keeper), None);
+    Ok(())
+}
+
+/// Both rows are found, and no header.
+fn find_both(
+    rt: &HostRuntime,
+    abort: &impl Abort,
+    path: &Text,
+    rows: &Waiting,
+) -> Result<(), Fail> {
+    let mut keeper = attached(rt, path)?;
+    assert!(abort; !has_header(&mut keeper, &rows.header));
+    assert!(abort; has(&mut keeper, &rows.large));
+    assert!(abort; has(&mut keeper, &rows.small));
+    Ok(())
+}
+
+#[test]
+fn rows_go_on_waiting_while_the_file_is_damaged(rt: HostRuntime) -> Result<(), Fail> {
+    let root = own_folder(&rt, "damaged")?;
+    let path = path_below(rt.alloc(), root.as_str(), "ledger")?;
+    let log = path_below(rt.alloc(), root.as_str(), "ledger-wal")?;
+    let rows = two_rows(rt.alloc())?;
+    write_one(&rt, &path, &rows.large)?;
+    write_around_damage(&rt, &rt, &path, path_of(&log)?, &rows)?;
+    find_both(&rt, &rt, &path, &rows)?;
     fs::remove_dir_all(&rt, root.as_str())?;
     Ok(())
 }

@@ -23,7 +23,8 @@ expected samples.OtherMagic = Some (record { kind = faults.Magic; at = 0 })
 expected samples.OneByteMore = Some (record { kind = faults.Trailing; at = 53 })
 expected samples.ZeroByte = Some (record { kind = faults.Utf8Form; at = 13 })
 expected samples.Major44 = Some (record { kind = faults.Version; at = 6 })
-expected samples.Major62 = Some (record { kind = faults.Version; at = 6 })
+expected samples.Major65 = None
+expected samples.Major66 = Some (record { kind = faults.Version; at = 6 })
 expected samples.Minor1 = Some (record { kind = faults.Version; at = 4 })
 expected samples.Preview = None
 expected samples.CountZero = Some (record { kind = faults.PoolCount; at = 8 })
@@ -59,7 +60,8 @@ faults_of samples.OtherMagic = refl
 faults_of samples.OneByteMore = refl
 faults_of samples.ZeroByte = refl
 faults_of samples.Major44 = refl
-faults_of samples.Major62 = refl
+faults_of samples.Major65 = refl
+faults_of samples.Major66 = refl
 faults_of samples.Minor1 = refl
 faults_of samples.Preview = refl
 faults_of samples.CountZero = refl

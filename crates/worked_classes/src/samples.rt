@@ -27,11 +27,13 @@ pub enum Sample {
     ZeroByte,
     /// Major version 44.
     Major44,
-    /// Major version 62.
-    Major62,
-    /// Major version 61 and minor version 1.
+    /// Major version 65, that of Java SE 21.
+    Major65,
+    /// Major version 66.
+    Major66,
+    /// Major version 56, the first with a rule for the minor version, and minor version 1.
     Minor1,
-    /// Major version 61 and minor version 65,535, a class that uses preview features.
+    /// Major version 65 and minor version 65,535, a class that uses preview features.
     Preview,
     /// The pool's count is 0.
     CountZero,
@@ -103,7 +105,8 @@ pub fn fault_of(sample: Sample) -> Option<Malformed>
         Sample::OneByteMore => fault(FaultKind::Trailing, 53),
         Sample::ZeroByte => fault(FaultKind::Utf8Form, 13),
         Sample::Major44 => fault(FaultKind::Version, 6),
-        Sample::Major62 => fault(FaultKind::Version, 6),
+        Sample::Major65 => None,
+        Sample::Major66 => fault(FaultKind::Version, 6),
         Sample::Minor1 => fault(FaultKind::Version, 4),
         Sample::Preview => None,
         Sample::CountZero => fault(FaultKind::PoolCount, 8),

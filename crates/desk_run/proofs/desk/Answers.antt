@@ -1,27 +1,38 @@
-use Rattle.desk_run.proofs.Promised.{files_clause, classes_clause, ledger_clause, remains_clause, status_clause, output_clause, last_write, causes_after}
+use Rattle.desk_run.specs.Named.{asked_of}
+use Rattle.desk_run.proofs.Promised.{files_clause, classes_clause, ledger_clause, remains_clause, status_clause, output_clause, last_write, causes_after, generates}
+use Rattle.desk_run.proofs.Following.{of_run_map, of_run_both, of_generate_map}
 use Rattle.desk_run.proofs.desk.Goals as goal
 
 pub returns-clause-files : goal.returns-clause-files
-returns-clause-files g c = λ m l ef ek. files_clause c.args.words.now m l _ _ _ (c.run_words-status.ensures.stands m l ef ek)
+returns-clause-files g c =
+    of_run_map c.args.words.now _ _ (λ s m l ef ek. files_clause (asked_of c.args.words.now) m l _ _ _ (s m l ef ek)) c.follow-status.ensures.stands
 
 pub returns-clause-ledger : goal.returns-clause-ledger
-returns-clause-ledger g c = ledger_clause c.args.words.now _ _ _ _ _ _ _ c.run_words-status.ensures.stands c.run_words-status.ensures.named
+returns-clause-ledger g c =
+    of_run_both c.args.words.now _ _ _ (λ s n. ledger_clause (asked_of c.args.words.now) _ _ _ _ _ _ _ s n) c.follow-status.ensures.stands c.follow-status.ensures.named
 
 pub returns-clause-output : goal.returns-clause-output
 returns-clause-output g c =
-    output_clause c.args.words.now _ _ c.run_words-status.result _ _ _ _ _ _ c.run_words-status.ensures.counts_o c.run_words-status.ensures.output
-    (last_write _ _ _ _ _ c.write_fault.result c.write_fault.ensures.ok c.write_fault.ensures.err c.write_fault.ensures.failed)
+    of_run_map c.args.words.now _ _ (λ r. output_clause (asked_of c.args.words.now) _ _ c.follow-status.result _ _ _ _ _ _ c.follow-status.ensures.counts_o r
+    (last_write _ _ _ _ _ c.write_fault.result c.write_fault.ensures.ok c.write_fault.ensures.err c.write_fault.ensures.failed)) c.follow-status.ensures.output
+
+pub returns-clause-generate : goal.returns-clause-generate
+returns-clause-generate g c =
+    of_generate_map c.args.words.now _ _ (λ n t. generates n c.follow-status.result _ _ _ _ _ _ c.follow-status.ensures.counts_o t
+    (last_write _ _ _ _ _ c.write_fault.result c.write_fault.ensures.ok c.write_fault.ensures.err c.write_fault.ensures.failed)) c.follow-status.ensures.generate
 
 pub returns-clause-causes : goal.returns-clause-causes
-returns-clause-causes g c = causes_after c.args.words.now c.run_words-status.result _ _ _ _ _ _ _ c.write_fault.ensures.counts c.run_words-status.ensures.causes
+returns-clause-causes g c = causes_after (asked_of c.args.words.now) c.follow-status.result _ _ _ _ _ _ _ c.write_fault.ensures.counts c.follow-status.ensures.causes
 
 pub returns-clause-status : goal.returns-clause-status
 returns-clause-status g c = λ m l ef ek.
-    status_clause c.args.words.now _ c.run_words-status.result _ _ _ _ _ _ (c.run_words-status.ensures.first m l ef ek)
-    (causes_after c.args.words.now c.run_words-status.result _ _ _ _ _ _ _ c.write_fault.ensures.counts c.run_words-status.ensures.causes)
+    status_clause (asked_of c.args.words.now) _ c.follow-status.result _ _ _ _ _ _ (c.follow-status.ensures.first m l ef ek)
+    (causes_after (asked_of c.args.words.now) c.follow-status.result _ _ _ _ _ _ _ c.write_fault.ensures.counts c.follow-status.ensures.causes)
 
 pub returns-clause-remains : goal.returns-clause-remains
-returns-clause-remains g c = λ m l ef ek. remains_clause c.args.words.now m l _ _ _ (c.run_words-status.ensures.stands m l ef ek)
+returns-clause-remains g c =
+    of_run_map c.args.words.now _ _ (λ s m l ef ek. remains_clause (asked_of c.args.words.now) m l _ _ _ (s m l ef ek)) c.follow-status.ensures.stands
 
 pub returns-clause-classes : goal.returns-clause-classes
-returns-clause-classes g c = λ m l ef ek. classes_clause c.args.words.now m l _ _ _ (c.run_words-status.ensures.stands m l ef ek)
+returns-clause-classes g c =
+    of_run_map c.args.words.now _ _ (λ s m l ef ek. classes_clause (asked_of c.args.words.now) m l _ _ _ (s m l ef ek)) c.follow-status.ensures.stands

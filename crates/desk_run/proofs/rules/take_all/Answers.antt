@@ -1,4 +1,4 @@
-use Rattle.std.proofs.Common.{rules, Some, ap, sym, ◌∙◌}
+use Rattle.std.proofs.Common.{rules, ◌∙◌}
 use Rattle.std.proofs.lemmas.Result.{err_from_is_err_and}
 use Rattle.desk_folders.specs.Contents.{file_at}
 use Rattle.desk_run.specs.RuleFolders.{Takes}

@@ -1,0 +1,4 @@
+pub mod Quotes
+pub mod Grammar
+pub mod Edits
+pub mod Cuts

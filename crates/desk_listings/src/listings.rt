@@ -1,0 +1,163 @@
+//! Header values as lists of clauses.
+
+ghost use Rattle.std.specs.Prelude.{◌≡◌, IfOk, map};
+ghost use Rattle.std.specs.Option.{option_copied};
+ghost use Rattle.desk_rules.specs.Images.{IsImage};
+ghost use Rattle.desk_clauses.specs.Grammar.{parts, clauses, clause_text, value_text};
+ghost use Rattle.desk_listings.specs.Images.{lists_packages, is_export, version_name, clause_version, clause_image, listing_image, identity_version};
+
+use crate::parts::{path_version, rename_part};
+use desk_base::{Memory, Text};
+use desk_clauses::{Edits, first_path, is_in_grammar, is_parameter, split_first_part};
+use desk_lines::trim_blanks;
+use desk_rules::RuleSet;
+use std::alloc::Global;
+
+/// What a header lists.
+#[derive(Clone, Copy, Debug, PartialEq, Eq)]
+pub enum Listing {
+    /// Packages that a bundle needs: Import-Package, DynamicImport-Package.
+    Imports,
+    /// Packages that a bundle offers: Export-Package.
+    Exports,
+    /// The bundle itself: Bundle-SymbolicName.
+    Identity,
+    /// Other bundles: Require-Bundle, Fragment-Host.
+    Bundles,
+}
+
+impl Listing {
+    /// Whether it lists packages.
+    pub(crate) fn lists_packages(self) -> bool
+        ensures { result ≡ lists_packages self }
+    {
+        match self {
+            Listing::Imports | Listing::Exports => true,
+            Listing::Identity | Listing::Bundles => false,
+        }
+    }
+
+    /// Whether it lists packages that the bundle offers.
+    pub(crate) fn is_export(self) -> bool
+        ensures { result ≡ is_export self }
+    {
+        match self {
+            Listing::Exports => true,
+            Listing::Imports | Listing::Identity | Listing::Bundles => false,
+        }
+    }
+
+    /// The attribute that takes a new version.
+    pub(crate) fn version_name(self) -> &'static [u8]
+        ensures { result.now ≡ version_name self }
+    {
+        match self {
+            Listing::Imports | Listing::Exports => b"version",
+            Listing::Identity | Listing::Bundles => b"bundle-version",
+        }
+    }
+}
+
+/// The version of the first path of a clause that brings one. The only error is want of memory.
+fn clause_version<'r>(
+    alloc: Global,
+    rules: &'r RuleSet,
+    listing: Listing,
+    clause: &[u8],
+) -> Result<Option<&'r [u8]>, Memory>
+    ensures { IfOk result (λ version. option_copied version ≡ clause_version rules.now listing (parts clause.now)) }
+{
+    let mut rest = Some(clause);
+    while let Some(text) = rest {
+        let (part, more) = split_first_part(text, b';');
+        if !is_parameter(part) {
+            let version = path_version(alloc, rules, listing, trim_blanks(part))?;
+            if version.is_some() {
+                return Ok(version);
+            }
+        }
+        rest = more;
+    }
+    Ok(None)
+}
+
+/// The image of a clause; none exactly where it is the clause itself. The only error is want of memory.
+fn rename_clause(
+    alloc: Global,
+    rules: &RuleSet,
+    listing: Listing,
+    clause: &[u8],
+) -> Result<Option<Text>, Memory>
+    ensures { IfOk result (IsImage clause.now (clause_text (clause_image rules.now listing (parts clause.now)))) }
+{
+    let version = clause_version(alloc, rules, listing, clause)?;
+    let mut edits = Edits::new(alloc);
+    let mut rest = Some(clause);
+    let mut from = 0;
+    while let Some(text) = rest {
+        let (part, more) = split_first_part(text, b';');
+        let to = from + part.len();
+        let image = rename_part(alloc, rules, listing, version, part)?;
+        edits.put(clause, from, to, image)?;
+        from = to + 1;
+        rest = more;
+    }
+    edits.finish(clause)
+}
+
+/// The image of the clauses of a value; none exactly where it is the value itself. The only error is want of memory.
+fn rename_clauses(
+    alloc: Global,
+    rules: &RuleSet,
+    listing: Listing,
+    value: &[u8],
+) -> Result<Option<Text>, Memory>
+    ensures { IfOk result (IsImage value.now (value_text (map (clause_image rules.now listing) (clauses value.now)))) }
+{
+    let mut edits = Edits::new(alloc);
+    let mut rest = Some(value);
+    let mut from = 0;
+    while let Some(text) = rest {
+        let (clause, more) = split_first_part(text, b',');
+        let to = from + clause.len();
+        let image = rename_clause(alloc, rules, listing, clause)?;
+        edits.put(value, from, to, image)?;
+        from = to + 1;
+        rest = more;
+    }
+    edits.finish(value)
+}
+
+/// The image of a header's value. In a list of packages each path that is a dotted name goes as a package, and so does what
+/// stands before `.*`; where a clause has a path that changes and whose new package has a version, the argument of each
+/// attribute `version` becomes the version of the first such path, in quotes; and the packages of each directive `uses` of an
+/// export go too. In a list of bundles each symbolic name that is updated becomes the new one, and the argument of each
+/// attribute `bundle-version` the version of the first updated one that has a version, but for the bundle's own name. A value
+/// outside the grammar stays. None exactly where the image is the value itself. The only error is want of memory.
+pub fn rename_listing(
+    alloc: Global,
+    rules: &RuleSet,
+    listing: Listing,
+    value: &[u8],
+) -> Result<Option<Text>, Memory>
+    ensures { IfOk result (IsImage value.now (listing_image rules.now listing value.now)) }
+{
+    if !is_in_grammar(value) {
+        return Ok(None);
+    }
+    rename_clauses(alloc, rules, listing, value)
+}
+
+/// The new version of the bundle that a Bundle-SymbolicName of this value names: that of the update of its first path; none
+/// where that doesn't change, or its update has no version, or the value isn't in the grammar. It takes no memory.
+pub fn identity_version<'r>(rules: &'r RuleSet, value: &[u8]) -> Option<&'r [u8]>
+    ensures { option_copied result ≡ identity_version rules.now value.now }
+{
+    if !is_in_grammar(value) {
+        return None;
+    }
+    match rules.bundle(first_path(value)) {
+        None => None,
+        Some(update) => update.version,
+    }
+}

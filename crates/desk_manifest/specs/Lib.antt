@@ -1,0 +1,4 @@
+pub mod Headers
+pub mod Manifests
+pub mod Reading
+pub mod Faults

@@ -1,0 +1,202 @@
+-- The clauses of what words ask for.
+use Rattle.std.proofs.Common.{◌≡◌, inl, ℕ, List, Option, refl, sym, ap, subst, true, Result, Ok, Err}
+use Rattle.desk_base.specs.Names.{Text}
+use Rattle.desk_folders.specs.Contents.{Contents}
+use Rattle.desk_ledger.specs.declared.keeper.Row.{Row}
+use Rattle.desk_ledger.specs.Ledger.{Ledger}
+use Rattle.desk_report.specs.declared.status.Status.{Status}
+use Rattle.desk_report.specs.declared.status.Status.TheVariants as status
+use Rattle.desk_words.specs.declared.roots.Roots.{Roots}
+use Rattle.desk_words.specs.declared.roots.Order.{Order}
+use Rattle.desk_words.specs.declared.roots.Order.TheVariants as order
+use Rattle.desk_words.specs.declared.roots.RootsFault.{RootsFault}
+use Rattle.desk_words.specs.declared.roots.RootsFault.TheVariants.{Usage, Nested, Memory}
+use Rattle.desk_words.specs.Roots.{order_of_words, RefusedBy}
+use Rattle.desk_run.specs.Named.{Asked, asked_roots, asked_by, asked_of, status_of_words, UnlessGenerate, OfRun, WhereGenerate, OfGenerate}
+use Rattle.desk_run.specs.Answers.{first_answer}
+use Rattle.desk_run.specs.Endings.{WhereTold, Tells, StandsAfter, ReportedOf, Named, Committed, HasCauses, is_final}
+use Rattle.desk_run.specs.Generated.{TellsTotals}
+
+-- ---- of all words, and from one fact to another
+
+unless_any : (o : Result Order RootsFault) (P : Type 0) → P → UnlessGenerate o P
+unless_any (Ok (order.Run roots)) P p = p
+unless_any (Ok (order.Generate count)) P p = tt
+unless_any (Err fault) P p = p
+
+pub of_run_any : (words : List Text) (P : Type 0) → P → OfRun words P
+of_run_any words P p = unless_any (order_of_words words) P p
+
+unless_both : (o : Result Order RootsFault) (A B C : Type 0) → (A → B → C) → UnlessGenerate o A → UnlessGenerate o B → UnlessGenerate o C
+unless_both (Ok (order.Run roots)) A B C h a b = h a b
+unless_both (Ok (order.Generate count)) A B C h a b = tt
+unless_both (Err fault) A B C h a b = h a b
+
+pub of_run_both : (words : List Text) (A B C : Type 0) → (A → B → C) → OfRun words A → OfRun words B → OfRun words C
+of_run_both words A B C h a b = unless_both (order_of_words words) A B C h a b
+
+pub of_run_map : (words : List Text) (A B : Type 0) → (A → B) → OfRun words A → OfRun words B
+of_run_map words A B h a = of_run_both words A A B (λ x _. h x) a a
+
+where_map : (o : Result Order RootsFault) (P Q : ℕ → Type 0) → ((n : ℕ) → P n → Q n) → WhereGenerate o P → WhereGenerate o Q
+where_map (Ok (order.Run roots)) P Q h p = tt
+where_map (Ok (order.Generate count)) P Q h p = h count p
+where_map (Err fault) P Q h p = tt
+
+pub of_generate_map : (words : List Text) (P Q : ℕ → Type 0) → ((n : ℕ) → P n → Q n) → OfGenerate words P → OfGenerate words Q
+of_generate_map words P Q h p = where_map (order_of_words words) P Q h p
+
+where_any : (o : Result Order RootsFault) (P : ℕ → Type 0) → ((n : ℕ) → P n) → WhereGenerate o P
+where_any (Ok (order.Run roots)) P p = tt
+where_any (Ok (order.Generate count)) P p = p count
+where_any (Err fault) P p = tt
+
+pub of_generate_any : (words : List Text) (P : ℕ → Type 0) → ((n : ℕ) → P n) → OfGenerate words P
+of_generate_any words P p = where_any (order_of_words words) P p
+
+-- ---- words of a run
+
+pub at_run : (words : List Text) (roots : Roots) (P : Asked → Type 0) → order_of_words words ≡ Ok (order.Run roots) → P (asked_roots roots) → P (asked_of words)
+at_run words roots P e p = let Q : Result Order RootsFault → Type 0 = λ o. P (asked_by o) in subst Q (sym e) p
+
+pub no_generate : (words : List Text) (roots : Roots) (P : ℕ → Type 0) → order_of_words words ≡ Ok (order.Run roots) → OfGenerate words P
+no_generate words roots P e = let Q : Result Order RootsFault → Type 0 = λ o. WhereGenerate o P in subst Q (sym e) tt
+
+-- ---- words of a generated application
+
+pub at_generate : (words : List Text) (count : ℕ) (P : ℕ → Type 0) → order_of_words words ≡ Ok (order.Generate count) → P count → OfGenerate words P
+at_generate words count P e p = let Q : Result Order RootsFault → Type 0 = λ o. WhereGenerate o P in subst Q (sym e) p
+
+pub no_run : (words : List Text) (count : ℕ) (P : Type 0) → order_of_words words ≡ Ok (order.Generate count) → OfRun words P
+no_run words count P e = let Q : Result Order RootsFault → Type 0 = λ o. UnlessGenerate o P in subst Q (sym e) tt
+
+pub asked_generate : (words : List Text) (count : ℕ) (P : Asked → Type 0) → order_of_words words ≡ Ok (order.Generate count) → P (Err status.Done) → P (asked_of words)
+asked_generate words count P e p = let Q : Result Order RootsFault → Type 0 = λ o. P (asked_by o) in subst Q (sym e) p
+
+-- a run that tells totals is done where it is final
+pub totals_first : (n : ℕ) (old new : Option Text) (s : Status) → TellsTotals n old new s → is_final s ≡ true → s ≡ status.Done
+totals_first n old new status.Done t e = refl
+totals_first n old new status.Refusals t e = absurd t
+totals_first n old new status.Memory t e = cc
+totals_first n old new (status.FolderFault done) t e = absurd t
+totals_first n old new (status.LedgerFault done) t e = absurd t
+totals_first n old new status.OutputFault t e = cc
+totals_first n old new status.Usage t e = absurd t
+totals_first n old new (status.NestedRoots first second) t e = absurd t
+totals_first n old new (status.BadRules fault) t e = absurd t
+totals_first n old new (status.OtherRun kept wanted) t e = absurd t
+totals_first n old new (status.Limit kind path) t e = absurd t
+totals_first n old new (status.PathClash first second) t e = absurd t
+
+-- ---- words that ask for nothing
+
+pub refused_stands : (asked : Asked) (fault : RootsFault) (f : Option Contents) (k : Option Ledger) → WhereTold f k (λ m0 l0. Tells f k (λ m l. StandsAfter asked m0 l0 m l (status_of_words fault)))
+refused_stands asked Usage f k = λ m l ef ek. record { m = m; l = l; folders = ef; ledger = ek; holds = record { folder = refl; ledger = refl; none = refl } }
+refused_stands asked (Nested first second) f k = λ m l ef ek. record { m = m; l = l; folders = ef; ledger = ek; holds = record { folder = refl; ledger = refl; none = refl } }
+refused_stands asked Memory f k = λ m l ef ek. record { m = m; l = l; folders = ef; ledger = ek; holds = record { done = 0; stands = inl (record { folder = refl; ledger = refl; none = refl }) } }
+
+pub refused_first : (words : List Text) (fault : RootsFault) (m : Contents) (l : Ledger) → RefusedBy (order_of_words words) fault → is_final (status_of_words fault) ≡ true → status_of_words fault ≡ first_answer (asked_of words) m l
+refused_first words Usage m l e h = let Q : Result Order RootsFault → Type 0 = λ o. status.Usage ≡ first_answer (asked_by o) m l in subst Q (sym e) refl
+refused_first words (Nested first second) m l e h =
+    let Q : Result Order RootsFault → Type 0 = λ o. status.NestedRoots first second ≡ first_answer (asked_by o) m l in subst Q (sym e) refl
+refused_first words Memory m l e h = cc
+
+pub refused_reported : (asked : Asked) (fault : RootsFault) (f : Option Contents) (k : Option Ledger) (o : Option Text) → ReportedOf asked f k o o (status_of_words fault)
+refused_reported asked Usage f k o = refl
+refused_reported asked (Nested first second) f k o = refl
+refused_reported asked Memory f k o = refl
+
+pub refused_named : (asked : Asked) (fault : RootsFault) (name : Option Text) → Named asked name name (status_of_words fault)
+refused_named (Err s) fault name = refl
+refused_named (Ok roots) Usage name = refl
+refused_named (Ok roots) (Nested first second) name = refl
+refused_named (Ok roots) Memory name = inl refl
+
+pub refused_causes : (words : List Text) (fault : RootsFault) (f k o : ℕ) → RefusedBy (order_of_words words) fault → HasCauses (asked_of words) (status_of_words fault) f f k k o o
+refused_causes words Usage f k o e = ap asked_by e
+refused_causes words (Nested first second) f k o e = ap asked_by e
+refused_causes words Memory f k o e = tt
+
+pub refused_tells : (words : List Text) (fault : RootsFault) (o : Option Text) → RefusedBy (order_of_words words) fault → OfGenerate words (λ n. TellsTotals n o o (status_of_words fault))
+refused_tells words Usage o e = let Q : Result Order RootsFault → Type 0 = λ r. WhereGenerate r (λ n. TellsTotals n o o status.Usage) in subst Q (sym e) tt
+refused_tells words (Nested first second) o e =
+    let Q : Result Order RootsFault → Type 0 = λ r. WhereGenerate r (λ n. TellsTotals n o o (status.NestedRoots first second)) in subst Q (sym e) tt
+refused_tells words Memory o e = of_generate_any words (λ n. TellsTotals n o o status.Memory) (λ n. refl)
+
+-- ---- the clauses of a run, as clauses of its words
+
+pub run_stands : (words : List Text) (roots : Roots) (f f' : Option Contents) (k k' : Option Ledger) (s : Status) → order_of_words words ≡ Ok (order.Run roots)
+    → WhereTold f k (λ m0 l0. Tells f' k' (λ m l. StandsAfter (asked_roots roots) m0 l0 m l s)) → OfRun words (WhereTold f k (λ m0 l0. Tells f' k' (λ m l. StandsAfter (asked_of words) m0 l0 m l s)))
+run_stands words roots f f' k k' s e h = of_run_any words _ (at_run words roots (λ a. WhereTold f k (λ m0 l0. Tells f' k' (λ m l. StandsAfter a m0 l0 m l s))) e h)
+
+pub run_first : (words : List Text) (roots : Roots) (m : Contents) (l : Ledger) (s : Status) → order_of_words words ≡ Ok (order.Run roots)
+    → (is_final s ≡ true → s ≡ first_answer (asked_roots roots) m l) → is_final s ≡ true → s ≡ first_answer (asked_of words) m l
+run_first words roots m l s e h i = at_run words roots (λ a. s ≡ first_answer a m l) e (h i)
+
+pub run_reported : (words : List Text) (roots : Roots) (f : Option Contents) (k : Option Ledger) (o o' : Option Text) (s : Status) → order_of_words words ≡ Ok (order.Run roots)
+    → ReportedOf (asked_roots roots) f k o o' s → OfRun words (ReportedOf (asked_of words) f k o o' s)
+run_reported words roots f k o o' s e h = of_run_any words _ (at_run words roots (λ a. ReportedOf a f k o o' s) e h)
+
+pub run_named : (words : List Text) (roots : Roots) (old new : Option Text) (s : Status) → order_of_words words ≡ Ok (order.Run roots)
+    → Named (asked_roots roots) old new s → OfRun words (Named (asked_of words) old new s)
+run_named words roots old new s e h = of_run_any words _ (at_run words roots (λ a. Named a old new s) e h)
+
+pub run_causes : (words : List Text) (roots : Roots) (f f' k k' o o' : ℕ) (s : Status) → order_of_words words ≡ Ok (order.Run roots)
+    → HasCauses (asked_roots roots) s f f' k k' o o' → HasCauses (asked_of words) s f f' k k' o o'
+run_causes words roots f f' k k' o o' s e h = at_run words roots (λ a. HasCauses a s f f' k k' o o') e h
+
+-- the clauses of a generated application, as clauses of its words
+pub generate_first : (words : List Text) (count : ℕ) (m : Contents) (l : Ledger) (old new : Option Text) (s : Status) → order_of_words words ≡ Ok (order.Generate count) → TellsTotals count old new s
+    → is_final s ≡ true → s ≡ first_answer (asked_of words) m l
+generate_first words count m l old new s e t i = asked_generate words count (λ a. s ≡ first_answer a m l) e (totals_first count old new s t i)
+
+pub generate_causes : (words : List Text) (count : ℕ) (f k o o' : ℕ) (old new : Option Text) (s : Status) → order_of_words words ≡ Ok (order.Generate count) → TellsTotals count old new s
+    → HasCauses (Err status.Done) s 0 0 0 0 o o' → HasCauses (asked_of words) s f f k k o o'
+generate_causes words count f k o o' old new s e t c = asked_generate words count (λ a. HasCauses a s f f k k o o') e (by s t c) where
+  by : (s : Status) → TellsTotals count old new s → HasCauses (Err status.Done) s 0 0 0 0 o o' → HasCauses (Err status.Done) s f f k k o o'
+  by status.Done t c = c
+  by status.OutputFault t c = c
+  by status.Memory t c = c
+  by status.Refusals t c = absurd t
+  by (status.FolderFault done) t c = absurd t
+  by (status.LedgerFault done) t c = absurd t
+  by status.Usage t c = absurd t
+  by (status.NestedRoots first second) t c = absurd t
+  by (status.BadRules fault) t c = absurd t
+  by (status.OtherRun kept wanted) t c = absurd t
+  by (status.Limit kind path) t c = absurd t
+  by (status.PathClash first second) t c = absurd t
+
+-- ---- the clauses of words that ask for nothing
+
+pub err_stands : (words : List Text) (fault : RootsFault) (s : Status) (f : Option Contents) (k : Option Ledger) → s ≡ status_of_words fault
+    → OfRun words (WhereTold f k (λ m0 l0. Tells f k (λ m l. StandsAfter (asked_of words) m0 l0 m l s)))
+err_stands words fault s f k e =
+    let P : Status → Type 0 = λ s. OfRun words (WhereTold f k (λ m0 l0. Tells f k (λ m l. StandsAfter (asked_of words) m0 l0 m l s))) in
+    subst P (sym e) (of_run_any words _ (refused_stands (asked_of words) fault f k))
+
+pub err_first : (words : List Text) (fault : RootsFault) (s : Status) (m : Contents) (l : Ledger) → RefusedBy (order_of_words words) fault → s ≡ status_of_words fault → is_final s ≡ true → s ≡ first_answer (asked_of words) m l
+err_first words fault s m l r e = let P : Status → Type 0 = λ s. is_final s ≡ true → s ≡ first_answer (asked_of words) m l in subst P (sym e) (refused_first words fault m l r)
+
+pub err_reported : (words : List Text) (fault : RootsFault) (s : Status) (f : Option Contents) (k : Option Ledger) (o : Option Text) → s ≡ status_of_words fault → OfRun words (ReportedOf (asked_of words) f k o o s)
+err_reported words fault s f k o e =
+    let P : Status → Type 0 = λ s. OfRun words (ReportedOf (asked_of words) f k o o s) in subst P (sym e) (of_run_any words _ (refused_reported (asked_of words) fault f k o))
+
+pub err_named : (words : List Text) (fault : RootsFault) (s : Status) (name : Option Text) → s ≡ status_of_words fault → OfRun words (Named (asked_of words) name name s)
+err_named words fault s name e =
+    let P : Status → Type 0 = λ s. OfRun words (Named (asked_of words) name name s) in subst P (sym e) (of_run_any words _ (refused_named (asked_of words) fault name))
+
+refused_committed : (fault : RootsFault) (waiting : Option (List Row)) → Committed waiting (status_of_words fault)
+refused_committed Usage waiting = tt
+refused_committed (Nested first second) waiting = tt
+refused_committed Memory waiting = tt
+
+pub err_committed : (words : List Text) (fault : RootsFault) (s : Status) (waiting : Option (List Row)) → s ≡ status_of_words fault → OfRun words (Committed waiting s)
+err_committed words fault s waiting e =
+    let P : Status → Type 0 = λ s. OfRun words (Committed waiting s) in subst P (sym e) (of_run_any words _ (refused_committed fault waiting))
+
+pub err_causes : (words : List Text) (fault : RootsFault) (s : Status) (f k o : ℕ) → RefusedBy (order_of_words words) fault → s ≡ status_of_words fault → HasCauses (asked_of words) s f f k k o o
+err_causes words fault s f k o r e = let P : Status → Type 0 = λ s. HasCauses (asked_of words) s f f k k o o in subst P (sym e) (refused_causes words fault f k o r)
+
+pub err_tells : (words : List Text) (fault : RootsFault) (s : Status) (o : Option Text) → RefusedBy (order_of_words words) fault → s ≡ status_of_words fault → OfGenerate words (λ n. TellsTotals n o o s)
+err_tells words fault s o r e = let P : Status → Type 0 = λ s. OfGenerate words (λ n. TellsTotals n o o s) in subst P (sym e) (refused_tells words fault o r)

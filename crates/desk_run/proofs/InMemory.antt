@@ -1,0 +1,85 @@
+-- The run over a generated application: its files, its roots and its totals.
+use Rattle.std.proofs.Common.{◌≡◌, ℕ, Bool, true, false, List, [], ◌∷◌, ◌++◌, Option, Some, None, refl, sym, ap, ◌∙◌, subst, map, get_or, arith, Result, Ok, Err}
+use Rattle.std.specs.Prelude.{◌||◌, IfOk, IsOkAnd, codes}
+use Rattle.std.specs.List.{list_all}
+use Rattle.std.specs.FinMap as fin
+use Rattle.std.proofs.lemmas.Bool.{and_parts, and_from}
+use Rattle.desk_base.specs.Names.{Text}
+use Rattle.desk_base.specs.Paths.{full, is_full_path, is_relative_path}
+use Rattle.desk_folders.specs.declared.folders.GenFile.{GenFile}
+use Rattle.desk_folders.specs.Contents.{Contents, files_below}
+use Rattle.desk_folders.specs.InMemory.{filled}
+use Rattle.desk_gen.specs.Application.{generated, rule_file}
+use Rattle.desk_ledger.specs.Ledger.{Ledger}
+use Rattle.desk_report.specs.declared.lines.Summary.{Summary}
+use Rattle.desk_report.specs.declared.status.Status.{Status}
+use Rattle.desk_words.specs.declared.roots.Roots.{Roots}
+use Rattle.desk_words.specs.Roots.{AreRoots, IsPathRoot, RootsApart}
+use Rattle.desk_run.specs.Named.{asked_roots}
+use Rattle.desk_run.specs.Runs.{Run}
+use Rattle.desk_run.specs.Meaning.{run_of_asked}
+use Rattle.desk_run.specs.Reports.{summary_of}
+use Rattle.desk_run.specs.Endings.{WhereTold}
+use Rattle.desk_run.specs.Generated.{placed, generated_roots, generated_files, generated_contents, generated_totals, totals_by}
+
+or_yes : (a b : Bool) → a ≡ true → a || b ≡ true
+or_yes true b e = refl
+or_yes false b e = cc
+
+-- paths below `in` and below `rules`
+below_in : (path : Text) → is_relative_path path ≡ true → is_full_path (full (codes "in") path) ≡ true
+below_in path e = or_yes _ _ e
+
+all_below_in : (files : List GenFile) → list_all (λ (file : GenFile). is_relative_path file.path) files ≡ true → list_all (λ (file : GenFile). is_full_path file.path) (map (placed (codes "in")) files) ≡ true
+all_below_in [] e = refl
+all_below_in (file ∷ files) e =
+    let p = and_parts _ _ e in and_from _ _ (below_in file.path p.0) (all_below_in files p.1)
+
+all_more : (files : List GenFile) (last : GenFile) → list_all (λ (file : GenFile). is_full_path file.path) files ≡ true → is_full_path last.path ≡ true
+    → list_all (λ (file : GenFile). is_full_path file.path) (files ++ last ∷ []) ≡ true
+all_more [] last e h = and_from _ _ h refl
+all_more (file ∷ files) last e h = let p = and_parts _ _ e in and_from _ _ p.0 (all_more files last p.1 h)
+
+pub all_full : (n : ℕ) → list_all (λ (file : GenFile). is_relative_path file.path) (generated n) ≡ true → list_all (λ (file : GenFile). is_full_path file.path) (generated_files n) ≡ true
+all_full n e = all_more (map (placed (codes "in")) (generated n)) (placed (codes "rules") rule_file) (all_below_in (generated n) e) refl
+
+-- paths stand below `out`, and none of them below `in`
+below_out : IsPathRoot (codes "out")
+below_out path e = or_yes _ _ e
+
+in_and_out : RootsApart (codes "in") (codes "out")
+in_and_out p q rp rq e = let h : 105 ≡ 111 = ap (λ t. get_or t 0 0) e in omega (arith, h)
+
+pub roots_in_memory : AreRoots generated_roots
+roots_in_memory = record { rules_is_root = refl; from_is_root = refl; below_to = below_out; apart = in_and_out }
+
+contents_are : (n : ℕ) → filled (generated_files n) fin.empty ≡ generated_contents n
+unfolding generated_contents
+contents_are n = refl
+
+ok_totals : (m : Contents) (r : Result Run Status) (totals : Summary) → IsOkAnd r (λ run. totals ≡ summary_of run fin.empty (files_below run.from m)) → totals_by m r ≡ Ok totals
+ok_totals m (Ok run) totals e = ap Ok (sym e)
+ok_totals m (Err status) totals e = absurd e
+
+-- the totals of the run over what the folders hold
+pub totals_told : (n : ℕ) (files : List GenFile) (roots : Roots) (totals : Summary) → files ≡ generated_files n → roots ≡ generated_roots
+    → WhereTold (Some (filled files fin.empty)) (Some (record { header = None; rows = fin.empty })) (λ m l. IsOkAnd (run_of_asked (asked_roots roots) m) (λ run. totals ≡ summary_of run l.rows (files_below run.from m)))
+    → generated_totals n ≡ Ok totals
+totals_told n files roots totals e f w =
+    let P : Contents → Roots → Type 0 = λ m r. IsOkAnd (run_of_asked (asked_roots r) m) (λ run. totals ≡ summary_of run fin.empty (files_below run.from m)) in
+    let h : P (filled files fin.empty) roots = w (filled files fin.empty) (record { header = None; rows = fin.empty }) refl refl in
+    let g : P (generated_contents n) generated_roots = subst (λ r. P (generated_contents n) r) f (subst (λ m. P m roots) (ap (λ xs. filled xs fin.empty) e ∙ contents_are n) h) in
+    ok_totals (generated_contents n) (run_of_asked (asked_roots generated_roots) (generated_contents n)) totals g
+
+pub totals_found : {E : Type 0} (n : ℕ) (files : List GenFile) (roots : Roots) (f : Option Contents) (k : Option Ledger) (r : Result Summary E) → files ≡ generated_files n → roots ≡ generated_roots
+    → f ≡ Some (filled files fin.empty) → k ≡ Some (record { header = None; rows = fin.empty })
+    → IfOk r (λ totals. WhereTold f k (λ m l. IsOkAnd (run_of_asked (asked_roots roots) m) (λ run. totals ≡ summary_of run l.rows (files_below run.from m))))
+    → IfOk r (λ totals. generated_totals n ≡ Ok totals)
+totals_found n files roots f k (Ok totals) e s ef ek w =
+    let P : Option Contents → Option Ledger → Type 0 = λ f k. WhereTold f k (λ m l. IsOkAnd (run_of_asked (asked_roots roots) m) (λ run. totals ≡ summary_of run l.rows (files_below run.from m))) in
+    totals_told n files roots totals e s (subst (λ f. P f (Some (record { header = None; rows = fin.empty }))) ef (subst (λ k. P f k) ek w))
+totals_found n files roots f k (Err stop) e s ef ek w = tt
+
+-- what is said of the totals is said of these
+pub of_totals : (n : ℕ) (totals : Summary) (P : Summary → Type 0) → generated_totals n ≡ Ok totals → P totals → IsOkAnd (generated_totals n) P
+of_totals n totals P e p = subst (λ r. IsOkAnd r P) (sym e) p

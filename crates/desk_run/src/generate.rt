@@ -1,0 +1,99 @@
+//! A run over a generated application, in folders and with a ledger of its own.
+
+ghost use Rattle.std.specs.Prelude.{◌≡◌, ◌≤◌, true, Err, Ok, IfOk, map};
+ghost use Rattle.std.specs.List.{list_all};
+ghost use Rattle.desk_base.specs.Paths.{is_full_path};
+ghost use Rattle.desk_report.specs.declared.status.Status.TheVariants.{Done};
+ghost use Rattle.desk_run.specs.Endings.{HasCauses};
+ghost use Rattle.desk_run.specs.Generated.{TellsTotals, generated_files, generated_roots, generated_totals, placed};
+
+use crate::finish::totals_of_run;
+use crate::sources::full_path;
+use desk_base::{Memory, Text};
+use desk_folders::{GenFile, MemoryFolders};
+use desk_gen::{generate, rule_file};
+use desk_ledger::MemoryKeeper;
+use desk_report::{Sink, Status, Summary, write_summary};
+use desk_words::Roots;
+use std::alloc::Global;
+
+/// The roots of the run.
+fn roots_in_memory(alloc: Global) -> Result<Roots, Memory>
+    ensures { IfOk result (λ roots. roots ≡ generated_roots) }
+{
+    let rules = Text::from_bytes(alloc, b"rules")?;
+    let from = Text::from_bytes(alloc, b"in")?;
+    let to = Text::from_bytes(alloc, b"out")?;
+    let ledger = Text::from_bytes(alloc, b"ledger")?;
+    Ok(Roots {
+        rules,
+        from,
+        to,
+        ledger,
+    })
+}
+
+/// A file with its path below a root.
+fn placed(alloc: Global, root: &Text, file: GenFile) -> Result<GenFile, Memory>
+    ensures { IfOk result (λ below. below ≡ placed root.now file) }
+{
+    let GenFile { path, content } = file;
+    let path = full_path(alloc, root, &path)?;
+    Ok(GenFile { path, content })
+}
+
+/// Files with their paths below a root.
+fn all_placed(alloc: Global, root: &Text, files: Vec<GenFile>) -> Result<Vec<GenFile>, Memory>
+    ensures { IfOk result (λ below. below.items ≡ map (placed root.now) files.items) }
+{
+    let mut below = Vec::new(alloc);
+    for file in files {
+        below.push(placed(alloc, root, file)?)?;
+    }
+    Ok(below)
+}
+
+/// The files of the run: the application below `in`, and its rule file below `rules`.
+fn files_in_memory(alloc: Global, roots: &Roots, count: u32) -> Result<Vec<GenFile>, Memory>
+    requires { roots.now ≡ generated_roots }
+    ensures files { IfOk result (λ files. files.items ≡ generated_files count) }
+    ensures full { IfOk result (λ files. list_all (λ file. is_full_path file.path) files.items ≡ true) }
+{
+    match generate(alloc, count) {
+        Ok(files) => {
+            let mut files = all_placed(alloc, &roots.from, files)?;
+            files.push(placed(alloc, &roots.rules, rule_file(alloc)?)?)?;
+            Ok(files)
+        }
+        Err(_) => Err(Memory),
+    }
+}
+
+/// The totals of the run over a generated application of so many classes.
+fn totals(alloc: Global, count: u32) -> Result<Summary, Memory>
+    ensures { IfOk result (λ totals. generated_totals count ≡ Ok totals) }
+{
+    let roots = roots_in_memory(alloc)?;
+    let files = files_in_memory(alloc, &roots, count)?;
+    let mut folders = MemoryFolders::new(alloc, files, Vec::new(alloc))?;
+    let mut keeper = MemoryKeeper::new(alloc, Vec::new(alloc))?;
+    totals_of_run(alloc, roots, &mut folders, &mut keeper)
+}
+
+/// Runs over a generated application of so many classes, in folders and with a ledger in memory, and
+/// writes the line of the totals alone.
+///
+/// The statuses: `Done`; `OutputFault` where the line could not be written; `Memory`.
+pub(crate) fn run_generated<O: Sink>(alloc: Global, count: u32, out: &mut O) -> Status
+    ensures told { TellsTotals count (O.told out.old) (O.told out.new) result }
+    ensures causes { HasCauses (Err Done) result 0 0 0 0 (O.faults out.old) (O.faults out.new) }
+    ensures counts { O.faults out.old ≤ O.faults out.new }
+{
+    match totals(alloc, count) {
+        Ok(totals) => match write_summary(&totals, out) {
+            Ok(()) => Status::Done,
+            Err(_) => Status::OutputFault,
+        },
+        Err(Memory) => Status::Memory,
+    }
+}

@@ -1,0 +1,3 @@
+pub mod TextImages
+pub mod Reading
+pub mod Faults
