@@ -4,3 +4,6 @@ pub mod Sought
 pub mod Migrating
 pub mod ClassNames
 pub mod Moved
+pub mod Settled
+pub mod HeaderImages
+pub mod Stays

@@ -8,7 +8,7 @@ ghost use Rattle.desk_listings.specs.Images.{identity_version};
 ghost use Rattle.desk_lines.specs.Cuts.{onward};
 ghost use Rattle.desk_sections.specs.Sections.{is_colon, grouped, unfolded};
 ghost use Rattle.desk_manifest.specs.Reading.{begins_identity};
-ghost use Rattle.desk_manifest.specs.Manifests.{manifest, bundle_version, fold_end};
+ghost use Rattle.desk_manifest.specs.Manifests.{manifest, bundle_version, fold_end, ManifestStays};
 ghost use Rattle.desk_manifest.specs.Faults.{IsManifestFault};
 
 use crate::headers::{Header, rename_header, unfolded_value};
@@ -90,12 +90,14 @@ fn bundle_version<'r>(
 /// and doesn't continue one of its section, with the offset of the first byte of the first such line. A header whose value has
 /// another image is written as its name, `: ` and that image, in lines of at most 72 bytes, cut between characters, with the line
 /// end of the file's first line, or CR LF where it has none, between them; all other bytes stay. The only other error is want of
-/// memory.
+/// memory. The image is its own image, without a changed header.
 pub fn migrate_manifest(alloc: Global, rules: &RuleSet, text: &[u8]) -> Result<Changed, MetaFault>
     requires { length text.now ≤ file_size }
     ensures image { IfOk result (λ new. manifest rules.now text.now ≡ Ok new) }
     ensures refused { IfErr result (IsManifestFault rules.now text.now) }
+    ensures again { IfOk result (λ new. ManifestStays rules.now new.bytes) }
 {
+    let _ = rules.is_settled();
     let version = bundle_version(alloc, rules, text)?;
     let between = fold_end(text);
     let mut edits = Edits::new(alloc);

@@ -8,7 +8,7 @@ use Rattle.desk_packages.specs.Renames.{Renaming}
 use Rattle.desk_rules.specs.Rules.{Rules, Versions}
 use Rattle.desk_rules.specs.Settled.{Exchange, BundleUpdate, first_chain_in, first_chain}
 use Rattle.desk_packages.specs.Keys.{IsTable, RiseBy}
-use Rattle.desk_rules.specs.RuleSets.{IsRuleSet, IsKept, HaveUtf8Targets, HaveUtf8Texts, rules_of}
+use Rattle.desk_rules.specs.RuleSets.{IsRuleSet, IsKept, HaveUtf8Targets, HaveUtf8Texts, HaveVersions, HaveUpdates, rules_of}
 use Rattle.desk_rules.proofs.TextMaps.{entries_rising}
 
 -- the first chain of the rules is that of the lists
@@ -17,14 +17,17 @@ chain_is renames versions bundles direct selection texts b d =
     ap (λ (es : List Exchange). first_chain_in renames es (finite.entries (rules_of renames versions bundles direct selection texts).bundles)) (entries_rising direct d)
     ∙ ap (first_chain_in renames direct) (entries_rising bundles b)
 
-pub settled_by : (renames : List Renaming) (versions : List (Text × Versions)) (bundles : List BundleUpdate) (direct : List Exchange) (selection : List Choice) (texts : List PatternText) → IsTable renames → RiseBy (λ b. b.0) bundles → RiseBy (λ d. d.0) direct → first_chain_in renames direct bundles ≡ None → HaveUtf8Targets renames → HaveUtf8Texts (finite.from_entries direct) → IsRuleSet (rules_of renames versions bundles direct selection texts)
-settled_by renames versions bundles direct selection texts table b d none targets values = record {
+pub settled_by : (renames : List Renaming) (versions : List (Text × Versions)) (bundles : List BundleUpdate) (direct : List Exchange) (selection : List Choice) (texts : List PatternText) → IsTable renames → RiseBy (λ b. b.0) bundles → RiseBy (λ d. d.0) direct → first_chain_in renames direct bundles ≡ None → HaveUtf8Targets renames → HaveUtf8Texts (finite.from_entries direct)
+    → HaveVersions (finite.from_entries versions) → HaveUpdates (finite.from_entries bundles) → IsRuleSet (rules_of renames versions bundles direct selection texts)
+settled_by renames versions bundles direct selection texts table b d none targets values vs us = record {
   formed = table.formed;
   settled = chain_is renames versions bundles direct selection texts b d ∙ none;
   utf8 = targets;
   direct_utf8 = values;
+  versioned = vs;
+  updated = us;
 }
 
 pub rule_set_by : {renames : List Renaming} {versions : List (Text × Versions)} {bundles : List BundleUpdate} {direct : List Exchange} {selection : List Choice} {texts : List PatternText} → IsKept renames versions bundles direct → (rules : Rules) → rules_of renames versions bundles direct selection texts ≡ rules → IsRuleSet rules
 rule_set_by {renames} {versions} {bundles} {direct} {selection} {texts} kept rules is =
-    subst IsRuleSet is (settled_by renames versions bundles direct selection texts kept.table kept.bundles_rise kept.direct_rise kept.settled kept.utf8 kept.direct_utf8)
+    subst IsRuleSet is (settled_by renames versions bundles direct selection texts kept.table kept.bundles_rise kept.direct_rise kept.settled kept.utf8 kept.direct_utf8 kept.versioned kept.updated)

@@ -18,3 +18,4 @@ pub mod LoadedTexts
 pub mod TextBuilds
 pub mod Utf8Rules
 pub mod Chains
+pub mod FormedEntries

@@ -34,7 +34,8 @@ none_is (Some x) h = absurd cc
 stored_is : (t : Text) → is_stored t ≡ true → bad_form t ≡ None
 stored_is t h = none_is (bad_form t) (and_parts _ _ h).1
 
-all_at : {A : Type 0} (P : A → Type 0) (xs : List A) (x : A) → AllByRecursion P xs → In xs x → P x
+-- what holds of each is had at any one of them
+pub all_at : {A : Type 0} (P : A → Type 0) (xs : List A) (x : A) → AllByRecursion P xs → In xs x → P x
 all_at P [] x h is = absurd is
 all_at P (y ∷ ys) x h (inl same) = subst P same h.0
 all_at P (y ∷ ys) x h (inr later) = all_at P ys x h.1 later
@@ -50,7 +51,8 @@ module _ {X : Type 0} (P : X → Type 0) (file : Text) (read : Text → Text →
   each_all [] xs h = let same : [] ≡ xs = cc in subst (AllByRecursion P) same tt
   each_all (e ∷ es) xs h = one_all xs e.0 (read e.0 e.1) (each file read es) (λ x k. fine e.0 e.1 x k) (λ ys k. each_all es ys k) h
 
-  entries_all : (r : Result (List Entry) RuleFault) (xs : List X) → (r >>= (λ entries. each file read (in_order entries))) ≡ Ok xs → AllByRecursion P xs
+  -- what holds of each entry of a file that is read holds of all that were read
+  pub entries_all : (r : Result (List Entry) RuleFault) (xs : List X) → (r >>= (λ entries. each file read (in_order entries))) ≡ Ok xs → AllByRecursion P xs
   entries_all (Ok es) xs h = each_all (in_order es) xs h
   entries_all (Err fault) xs h = absurd cc
 

@@ -1,10 +1,11 @@
 -- What a rule set keeps, and what it answers.
-use Rattle.std.specs.Prelude.{◌≡◌, ◌≤◌, ℕ, Bool, List, Option, Some, None, length, option_map, if◌then◌else◌, IsTrue}
+use Rattle.std.specs.Prelude.{◌≡◌, ◌≤◌, ℕ, Bool, List, Option, Some, None, length, option_map, if◌then◌else◌, IsTrue, ⊤}
 use Rattle.std.specs.List.{list_all, AllByRecursion}
 use Rattle.std.specs.Str.{bytes_eq}
 use Rattle.std.specs.FinMap as finite
 use Rattle.desk_base.specs.Names.{Text, Package, segments, written, is_dotted, is_class_name, front, simple, dot, slash}
 use Rattle.desk_base.specs.Utf8.{bad_form}
+use Rattle.desk_entries.specs.Forms.{is_version, is_symbolic_name}
 use Rattle.desk_patterns.specs.Selections.{Choice}
 use Rattle.desk_patterns.specs.PatternTexts.{PatternText}
 use Rattle.desk_packages.specs.Renames.{Renaming, pick, pkg, changes, is_rename}
@@ -32,8 +33,31 @@ HaveUtf8Targets = AllByRecursion (λ r. bad_form (written dot r.target) ≡ None
 abbrev pub HaveUtf8Texts : TextMap Text → Type 0
 HaveUtf8Texts direct = (text value : Text) → finite.get direct text ≡ Some value → bad_form value ≡ None
 
+-- both versions of a new package are versions, or ranges of versions
+pub record AreVersions (versions : Versions) : Type 0 where
+  pub imported : IsTrue (is_version versions.imported)
+  pub exported : IsTrue (is_version versions.exported)
+
+-- each new package of the versions has versions of that form
+abbrev pub HaveVersions : TextMap Versions → Type 0
+HaveVersions versions = (text : Text) (value : Versions) → finite.get versions text ≡ Some value → AreVersions value
+
+-- a version, where there is one, has that form too
+abbrev pub IsVersionOrNone : Option Text → Type 0
+IsVersionOrNone None = ⊤
+IsVersionOrNone (Some version) = IsTrue (is_version version)
+
+-- the new name of a bundle is a symbolic name, and its new version a version
+pub record IsUpdate (update : Update) : Type 0 where
+  pub named : IsTrue (is_symbolic_name update.name)
+  pub versioned : IsVersionOrNone update.version
+
+-- each bundle's update has that form
+abbrev pub HaveUpdates : TextMap Update → Type 0
+HaveUpdates bundles = (text : Text) (value : Update) → finite.get bundles text ≡ Some value → IsUpdate value
+
 -- what a rule set keeps: lists in byte order of their keys without a chain, whose new packages and direct texts are modified
--- UTF-8
+-- UTF-8, and whose versions and new symbolic names have their form
 pub record IsKept (renames : List Renaming) (versions : List (Text × Versions)) (bundles : List BundleUpdate) (direct : List Exchange) : Type 0 where
   pub table : IsTable renames
   pub versions_rise : RiseBy (λ v. v.0) versions
@@ -42,13 +66,18 @@ pub record IsKept (renames : List Renaming) (versions : List (Text × Versions))
   pub settled : first_chain_in renames direct bundles ≡ None
   pub utf8 : HaveUtf8Targets renames
   pub direct_utf8 : HaveUtf8Texts (finite.from_entries direct)
+  pub versioned : HaveVersions (finite.from_entries versions)
+  pub updated : HaveUpdates (finite.from_entries bundles)
 
--- sources and targets are packages, no image is changed again, and targets and direct texts are modified UTF-8
+-- sources and targets are packages, no image is changed again, targets and direct texts are modified UTF-8, versions are
+-- versions, and new names of bundles symbolic names
 pub record IsRuleSet (rules : Rules) : Type 0 where
   pub formed : IsTrue (list_all is_rename rules.renames)
   pub settled : IsSettled rules
   pub utf8 : HaveUtf8Targets rules.renames
   pub direct_utf8 : HaveUtf8Texts rules.direct
+  pub versioned : HaveVersions rules.versions
+  pub updated : HaveUpdates rules.bundles
 
 abbrev pub only_changing : Option Renaming → Option Renaming
 only_changing None = None

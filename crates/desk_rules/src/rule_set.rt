@@ -12,7 +12,7 @@ ghost use Rattle.desk_packages.specs.Renames.{key_of, has_source};
 ghost use Rattle.desk_rules.specs.Builds.{IsFaultOf};
 ghost use Rattle.desk_rules.specs.RuleFiles.{rules_of_files, settled};
 ghost use Rattle.desk_rules.specs.Sides.{exports};
-ghost use Rattle.desk_rules.specs.RuleSets.{changing_pick, IsFrontOf, IsRuleSet, HaveUtf8Targets, HaveUtf8Texts, PackagesStay, ClassesStay, ClassesKeepForm, DottedStay, DottedKeepForm, StringsStay, BundlesStay, version_of, changing_update, update_of, rules_of};
+ghost use Rattle.desk_rules.specs.RuleSets.{changing_pick, IsFrontOf, IsRuleSet, HaveUtf8Targets, HaveUtf8Texts, HaveVersions, HaveUpdates, PackagesStay, ClassesStay, ClassesKeepForm, DottedStay, DottedKeepForm, StringsStay, BundlesStay, version_of, changing_update, update_of, rules_of};
 
 use crate::chain::first_chain;
 use crate::keyed::{BundleRule, DirectRule, VersionRule};
@@ -107,6 +107,8 @@ impl RuleSet {
         requires direct { RiseBy (λ d. d.0) direct.items }
         requires utf8 { HaveUtf8Targets renames.items }
         requires direct_utf8 { HaveUtf8Texts (finite.from_entries direct.items) }
+        requires versioned { HaveVersions (finite.from_entries versions.items) }
+        requires updated { HaveUpdates (finite.from_entries bundles.items) }
         ensures built { IfOk result (λ rules. settled (rules_of renames.items versions.items bundles.items direct.items selection texts) ≡ Ok rules) }
         ensures refused { IfErr result (IsFaultOf (settled (rules_of renames.items versions.items bundles.items direct.items selection texts))) }
         ensures settled { IfOk result IsRuleSet }
@@ -148,7 +150,8 @@ impl RuleSet {
         RuleSet::settled(alloc, renames, versions, bundles, direct, selection, texts)
     }
 
-    /// True: the rules are well-formed and settled, and their new packages and direct texts are modified UTF-8 (JVMS 4.4.7).
+    /// True: the rules are well-formed and settled, their new packages and direct texts are modified UTF-8 (JVMS 4.4.7), their
+    /// versions are versions or ranges of versions, and the new names of bundles symbolic names (OSGi Core 3.2.4, 3.2.5).
     pub fn is_settled(&self) -> bool
         ensures yes { IsTrue result }
         ensures settled { IsRuleSet self.now }

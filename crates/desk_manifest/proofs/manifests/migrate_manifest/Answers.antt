@@ -1,5 +1,4 @@
-use Rattle.std.proofs.Common.{rules, ◌≡◌, ◌++◌, ◌-◌, ◌∙◌, ℕ, List, Option, None, true, false, length, sym, ap₂, subst}
-use Rattle.std.specs.Option.{option_copied}
+use Rattle.std.proofs.Common.{rules, ◌≡◌, ◌++◌, ◌-◌, ◌∙◌, ℕ, List, None, true, false, length, sym, ap₂, subst}
 use Rattle.desk_base.specs.Names.{Text}
 use Rattle.desk_lines.specs.Cuts.{until}
 use Rattle.desk_lines.specs.Lines.{Line, lines}
@@ -11,6 +10,7 @@ use Rattle.desk_manifest.specs.Reading.{IsHeaderImage}
 use Rattle.desk_manifest.proofs.Sought.{empty_by, further_of}
 use Rattle.desk_manifest.proofs.Moved.{told_by}
 use Rattle.desk_manifest.proofs.Migrating.{IsMigratedTo, AtHeader, items_of, value_in, migrated_none, empty_line, bad_here, all_migrated, header_stays, header_changes}
+use Rattle.desk_manifest.proofs.Stays.{manifest_stays}
 use Rattle.desk_manifest.proofs.manifests.migrate_manifest.Goals as goal
 use Rattle.desk_manifest.proofs.manifests.migrate_manifest.Goals.{in-Some-2+in_ok-exchange, in_default-2}
 
@@ -71,3 +71,9 @@ pub returns-clause-image : goal.returns-clause-image
 returns-clause-image c =
     all_migrated c.args.rules.now c.args.text.now c.loop-line.rest.now c.loop-line.edits c.loop-line.changed c.loop-line.main c.loop-line.invariant (search rules)
     c.in_ok-bytes.bytes c.in_ok-bytes.ensures
+
+pub returns-clause-again : goal.returns-clause-again
+returns-clause-again c =
+    manifest_stays c.args.rules.now c.is_settled.ensures.settled c.args.text.now _
+    (all_migrated c.args.rules.now c.args.text.now c.loop-line.rest.now c.loop-line.edits c.loop-line.changed c.loop-line.main c.loop-line.invariant (search rules)
+    c.in_ok-bytes.bytes c.in_ok-bytes.ensures)

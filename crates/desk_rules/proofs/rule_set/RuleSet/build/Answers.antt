@@ -4,6 +4,7 @@ use Rattle.desk_rules.specs.RuleFiles.{rules_of_files, settled}
 use Rattle.desk_rules.proofs.Faults.{read_whole, refused_whole}
 use Rattle.desk_rules.proofs.Builds.{versions_refused, bundles_refused, direct_refused, selection_refused, texts_refused, all_read}
 use Rattle.desk_rules.proofs.Utf8Rules.{renames_utf8, direct_utf8}
+use Rattle.desk_rules.proofs.FormedEntries.{versions_formed, updates_formed}
 use Rattle.desk_rules.proofs.rule_set.RuleSet.build.Goals as goal
 
 pub settled-requires-clause-utf8 : goal.settled-requires-clause-utf8
@@ -11,6 +12,12 @@ settled-requires-clause-utf8 c = renames_utf8 c.args.files.now c.in_ok-renames.r
 
 pub settled-requires-clause-direct_utf8 : goal.settled-requires-clause-direct_utf8
 settled-requires-clause-direct_utf8 c = direct_utf8 c.args.files.now c.in_ok-direct.direct.items c.in_ok-direct.ensures.read
+
+pub settled-requires-clause-versioned : goal.settled-requires-clause-versioned
+settled-requires-clause-versioned c = versions_formed c.args.files.now c.in_ok-versions.versions.items c.in_ok-versions.ensures.read
+
+pub settled-requires-clause-updated : goal.settled-requires-clause-updated
+settled-requires-clause-updated c = updates_formed c.args.files.now c.in_ok-bundles.bundles.items c.in_ok-bundles.ensures.read
 
 pub returns-in_err-versions-clause-refused : goal.returns-in_err-versions-clause-refused
 returns-in_err-versions-clause-refused c =

@@ -30,4 +30,4 @@ returns-clause-settled c =
     (ap (λ (rs : List Renaming). first_chain_in rs c.args.direct.items c.args.bundles.items) (sym c.deref.ensures.value)
     ∙ ap (λ (ds : List Exchange). first_chain_in c.deref.result.now ds c.args.bundles.items) (sym c.deref-2.ensures.value)
     ∙ ap (λ (bs : List BundleUpdate). first_chain_in c.deref.result.now c.deref-2.result.now bs) (sym c.deref-3.ensures.value)
-    ∙ c.in_default.ensures) c.requires.utf8 c.requires.direct_utf8
+    ∙ c.in_default.ensures) c.requires.utf8 c.requires.direct_utf8 c.requires.versioned c.requires.updated

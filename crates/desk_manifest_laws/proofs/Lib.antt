@@ -1,0 +1,13 @@
+pub mod Bare
+pub mod Trimmed
+pub mod Plain
+pub mod Ends
+pub mod Folding
+pub mod Grouping
+pub mod PathImages
+pub mod Uses
+pub mod Parts
+pub mod Listings
+pub mod Spaced
+pub mod Flat
+pub mod SpacedPaths
