@@ -95,7 +95,7 @@ def rows(ledger):
         return []
     connection = sqlite3.connect("seen")
     tables = [name for (name,) in connection.execute("SELECT name FROM sqlite_schema WHERE type = 'table' ORDER BY name")]
-    if tables not in ([], ["header", "written"]):
+    if tables not in ([], ["folder", "header", "written"]):
         sys.exit(f"the ledger has the tables {tables}")
     found = connection.execute("SELECT target, source, digest FROM written").fetchall() if tables else []
     connection.close()

@@ -43,9 +43,11 @@ check 'first run' "$report" "$(run rules out ledger 2>&1)"
 cp -r . "$place.seen"
 seen=$place.seen/ledger
 check 'integrity' ok "$(sqlite3 "$seen" 'PRAGMA integrity_check')"
-check 'tables' 'header
+check 'tables' 'folder
+header
 written' "$(sqlite3 "$seen" "SELECT name FROM sqlite_schema WHERE type = 'table' ORDER BY name")"
 check 'kinds' 'blob|blob|blob' "$(sqlite3 "$seen" 'SELECT DISTINCT typeof(target), typeof(source), typeof(digest) FROM written')"
+check 'folder' "$PWD" "$(sqlite3 "$seen" 'SELECT CAST(path AS TEXT) FROM folder')"
 check 'header' 'app|out|32' "$(sqlite3 "$seen" 'SELECT CAST(from_root AS TEXT), CAST(to_root AS TEXT), length(rules) FROM header')"
 wanted=
 for pair in META-INF/services/jakarta.servlet.Filter:META-INF/services/javax.servlet.Filter readme.txt:readme.txt sub/empty:sub/empty; do
@@ -87,7 +89,7 @@ refused() {
   local before after
   before=$(tree .)
   check "$1" 'migrate: 12 ledger fault done=0
-status 12' "$(run rules new "$2" 2>&1)"
+status 12' "$(run rules new "$2" 2>/dev/null)"
   after=$(tree .)
   check "$1: all is as it was" "$before" "$after"
 }
@@ -130,7 +132,7 @@ fi
 mkdir small
 if mount -t tmpfs -o size=400k none small 2>/dev/null; then
   for i in $(seq 4000); do printf '%s' "$i" >"app/sub/file-with-a-name-that-takes-some-room-$i"; done
-  ending=$(run rules full small/ledger 2>&1 | tail -2)
+  ending=$(run rules full small/ledger 2>/dev/null | tail -2)
   case $ending in
     'migrate: 12 ledger fault done='*'
 status 12') passed=$((passed + 1)) ;;
@@ -149,7 +151,7 @@ if mount -t tmpfs -o size=340k none small 2>/dev/null; then
   mkdir many
   for i in $(seq 900); do printf '%s' "$i" >"many/$(printf '%0200d' "$i")"; done
   check 'a full disk at the end' 'migrate: 12 ledger fault done=900
-status 12' "$("$program" run --rules rules --from many --to last --ledger small/ledger; echo "status $?")"
+status 12' "$("$program" run --rules rules --from many --to last --ledger small/ledger 2>/dev/null; echo "status $?")"
   check 'whose files were written' '' "$(diff -r many last)"
   cp small/ledger* . && umount small
   check 'and whose ledger opens' 'status 0' "$("$program" run --rules rules --from many --to last --ledger ledger >got; echo "status $?")"

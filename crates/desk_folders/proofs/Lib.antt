@@ -3,3 +3,4 @@ pub mod Members
 pub mod Entries
 pub mod FirstPaths
 mod Listings
+mod Outcomes

@@ -1,6 +1,6 @@
 //! Folders on a disk.
 
-ghost use Rattle.std.specs.Prelude.{◌≡◌, ◌≤◌, ◌+◌, length, None, Err, IsTrue, IfOk};
+ghost use Rattle.std.specs.Prelude.{◌≡◌, ◌≤◌, ◌+◌, ◌↔◌, length, None, Ok, Err, IsTrue, IfOk, IfSome, OnOk, option_map};
 ghost use Rattle.std.specs.List.{list_all};
 ghost use Rattle.std.specs.List.Sorted.{IsStrictlySortedBy};
 ghost use Rattle.std.specs.Ordering.{nat_cmp};
@@ -8,31 +8,48 @@ ghost use Rattle.std.specs.Cmp.Lexicographic.{slice_cmp};
 ghost use Rattle.desk_base.specs.Paths.{is_relative_path};
 ghost use Rattle.desk_base.specs.Counts.{Rose};
 
-use crate::open::{Open, Reading, Writing};
-use crate::walk::{files_below, first_of};
+use crate::guard::no_link_on_the_way;
+use crate::open::{Open, Reading, Writing, text_of};
+use crate::progress::Progress;
+use crate::walk::{Stopped, files_below, first_of};
 use crate::{FolderFault, Folders};
 use desk_base::{Text, TextList};
+use desk_faults::{Fault, Refusal, Tried};
 use std::marker::Model;
 use std::mem;
 
+/// How many faults there were, and the last of them.
+#[derive(Debug, Drop)]
+pub struct Faults {
+    pub count: u64,
+    pub last: Option<Fault>,
+}
+
 /// Folders on a disk. They tell nothing. Each error counts as a fault, and so do a name that isn't UTF-8,
 /// a path that isn't there, an entry that is neither a file nor a folder (a symbolic link isn't followed),
-/// and a listing with more than 1,000,000 entries, folders included.
+/// and a listing with more than 1,000,000 entries, folders included. The last fault is remembered, with what was
+/// tried, on which path, and why it failed.
 ///
 /// The file that is read, or written, stays open until another path is named, so that the next part needs
-/// no look-up. What stands at a path that is created is taken away and the file is made anew: a link, a
-/// pipe or a device there is replaced, and never written through. A folder there is a fault.
+/// no look-up. What stands at a path that is read must be a file: a pipe there, or a device, is a fault and is not
+/// waited for. What stands at a path that is created is taken away and the file is made anew: a link, a
+/// pipe or a device there is replaced, and never written through. A folder there is a fault, and so is a link in
+/// place of a folder below the target that `keep_within` names.
 #[derive(Drop)]
 pub struct DiskFolders<'r> {
     rt: &'r HostRuntime,
     open: Open,
-    faults: u64,
+    faults: Faults,
+    at: Option<Text>,
+    target: Option<Text>,
+    looked: Text,
+    progress: Progress,
 }
 
 impl<'r> Model for DiskFolders<'r> {
-    ghost use Rattle.std.specs.Prelude.{ℕ};
+    ghost use Rattle.desk_folders.specs.declared.disk.Faults.{Faults};
 
-    ghost Value = { ℕ };
+    ghost Value = { Faults };
 
     ghost view = { λ f. f.faults };
 }
@@ -40,25 +57,85 @@ impl<'r> Model for DiskFolders<'r> {
 impl<'r> DiskFolders<'r> {
     /// The folders of the disk. It takes no memory.
     pub fn new(rt: &'r HostRuntime) -> DiskFolders<'r>
-        ensures { result ≡ 0 }
+        ensures { result ≡ record { count = 0; last = None } }
     {
         DiskFolders {
             rt,
             open: Open::Nothing,
-            faults: 0,
+            faults: Faults {
+                count: 0,
+                last: None,
+            },
+            at: None,
+            target: None,
+            looked: Text::empty(rt.alloc()),
+            progress: Progress::new(),
         }
     }
 
-    /// Counts a fault where a call failed.
-    fn count<T>(&mut self, outcome: Result<T, FolderFault>) -> Result<T, FolderFault>
-        ensures same { result ≡ outcome }
-        ensures counts { self.old ≤ self.new }
-        ensures failed { result ≡ Err FolderFault.Failed → Rose self.old self.new }
+    /// Names the folder below which no link may stand in place of a folder where files are made.
+    pub fn keep_within(&mut self, target: Text)
+        ensures { self.new ≡ self.old }
     {
-        if let Err(FolderFault::Failed) = &outcome {
-            self.faults = self.faults.saturating_add(1);
+        self.target = Some(target);
+    }
+
+    /// Shows on standard error how many files were read and made, where that is a terminal.
+    pub fn show_progress(&mut self)
+        ensures { self.new ≡ self.old }
+    {
+        self.progress.show(self.rt);
+    }
+
+    /// Takes away what is shown.
+    pub fn end_progress(&mut self)
+        ensures { self.new ≡ self.old }
+    {
+        self.progress.end(self.rt);
+    }
+
+    /// The last fault, where there was one and memory sufficed to remember it.
+    pub fn last_fault(&self) -> Option<&Fault>
+        ensures { option_map (λ fault. fault.now) result ≡ self.now.last }
+    {
+        self.faults.last.as_ref()
+    }
+
+    /// Counts a fault and remembers it.
+    fn note(&mut self, tried: Tried, path: &Text, refusal: Refusal) -> FolderFault
+        ensures memory { result ≡ FolderFault.Memory → self.new ≡ self.old }
+        ensures counts { self.old.count ≤ self.new.count }
+        ensures failed { result ≡ FolderFault.Failed → Rose self.old.count self.new.count }
+        ensures last { result ≡ FolderFault.Failed → IfSome self.new.last (λ fault. fault.tried ≡ tried) }
+    {
+        let at = self.at.take();
+        let Refusal::Failed(cause) = refusal else {
+            return FolderFault::Memory;
+        };
+        self.faults.count = self.faults.count.saturating_add(1);
+        let place = at.as_ref().unwrap_or(path);
+        self.faults.last = Fault::of(self.rt.alloc(), tried, place, cause).ok();
+        FolderFault::Failed
+    }
+
+    /// Counts a fault where a call failed, and remembers it. After an answer the last fault stays.
+    fn count<T>(
+        &mut self,
+        tried: Tried,
+        path: &Text,
+        outcome: Result<T, Refusal>,
+    ) -> Result<T, FolderFault>
+        ensures same { (x : T) → (result ≡ Ok x) ↔ (outcome ≡ Ok x) }
+        ensures counts { self.old.count ≤ self.new.count }
+        ensures failed { result ≡ Err FolderFault.Failed → Rose self.old.count self.new.count }
+        ensures last { result ≡ Err FolderFault.Failed → IfSome self.new.last (λ fault. fault.tried ≡ tried) }
+        ensures stays { OnOk result (self.new ≡ self.old) }
+        ensures memory { result ≡ Err FolderFault.Memory → self.new ≡ self.old }
+    {
+        match outcome {
+            Ok(answer) => Ok(answer),
+            Err(refusal) => Err(self.note(tried, path, refusal)),
         }
-        outcome
     }
 
     /// Closes the file that is open, and answers it.
@@ -69,7 +146,7 @@ impl<'r> DiskFolders<'r> {
     }
 
     /// The file at a path, open to be read from a byte on.
-    fn reading(&mut self, path: &Text, at: u64) -> Result<Reading, FolderFault>
+    fn reading(&mut self, path: &Text, at: u64) -> Result<Reading, Refusal>
         ensures same { self.new ≡ self.old }
         ensures path { IfOk result (λ file. file.path ≡ path.now) }
         ensures at { IfOk result (λ file. file.at ≡ at) }
@@ -83,10 +160,13 @@ impl<'r> DiskFolders<'r> {
     }
 
     /// A part of the file at a path.
-    fn part(&mut self, path: &Text, at: u64, want: u32) -> Result<Text, FolderFault>
+    fn part(&mut self, path: &Text, at: u64, want: u32) -> Result<Text, Refusal>
         ensures same { self.new ≡ self.old }
         ensures few { IfOk result (λ part. length part ≤ want) }
     {
+        if at == 0 {
+            self.progress.note_read(self.rt);
+        }
         let mut file = self.reading(path, at)?;
         let part = file.read(self.rt.alloc(), want)?;
         self.open = Open::Reading(file);
@@ -94,7 +174,7 @@ impl<'r> DiskFolders<'r> {
     }
 
     /// The file at a path, open to be written at its end.
-    fn writing(&mut self, path: &Text) -> Result<Writing, FolderFault>
+    fn writing(&mut self, path: &Text) -> Result<Writing, Refusal>
         ensures same { self.new ≡ self.old }
         ensures path { IfOk result (λ file. file.path ≡ path.now) }
     {
@@ -106,18 +186,36 @@ impl<'r> DiskFolders<'r> {
         Writing::open(self.rt, path)
     }
 
+    /// Looks for a link in place of a folder between the target and a path, unless that folder was looked at last.
+    fn look(&mut self, path: &Text) -> Result<(), Refusal>
+        ensures { self.new ≡ self.old }
+    {
+        let Some(target) = &self.target else {
+            return Ok(());
+        };
+        let folder = folder_of(path.as_bytes());
+        if self.looked.as_bytes() == folder {
+            return Ok(());
+        }
+        no_link_on_the_way(self.rt, text_of(target)?, text_of(path)?)?;
+        self.looked = Text::from_bytes(self.rt.alloc(), folder)?;
+        Ok(())
+    }
+
     /// Makes the file at a path anew.
-    fn make(&mut self, path: &Text) -> Result<(), FolderFault>
+    fn make(&mut self, path: &Text) -> Result<(), Refusal>
         ensures { self.new ≡ self.old }
     {
         let _ = self.close();
+        self.look(path)?;
         let file = Writing::create(self.rt, path)?;
+        self.progress.note_made(self.rt);
         self.open = Open::Writing(file);
         Ok(())
     }
 
     /// Adds bytes at the end of the file at a path.
-    fn add(&mut self, path: &Text, bytes: &[u8]) -> Result<(), FolderFault>
+    fn add(&mut self, path: &Text, bytes: &[u8]) -> Result<(), Refusal>
         ensures { self.new ≡ self.old }
     {
         let mut file = self.writing(path)?;
@@ -126,40 +224,62 @@ impl<'r> DiskFolders<'r> {
         Ok(())
     }
 
+    /// The files below a root, as they were found.
+    fn found(&mut self, root: &Text) -> Result<Vec<Text>, Refusal>
+        ensures { self.new ≡ self.old }
+    {
+        match files_below(self.rt, root) {
+            Ok(found) => Ok(found),
+            Err(Stopped { refusal, path }) => {
+                self.at = path;
+                Err(refusal)
+            }
+        }
+    }
+
     /// The paths below a root.
-    fn listed(&self, root: &Text, most: u32) -> Result<TextList, FolderFault>
+    fn listed(&mut self, root: &Text, most: u32) -> Result<TextList, Refusal>
         requires { most ≤ 1000000 }
+        ensures same { self.new ≡ self.old }
         ensures few { IfOk result (λ paths. length paths ≤ most + 1) }
         ensures rising { IfOk result (λ paths. IsStrictlySortedBy (slice_cmp nat_cmp) paths) }
         ensures relative { IfOk result (λ paths. IsTrue (list_all is_relative_path paths)) }
     {
-        let found = files_below(self.rt, root)?;
+        let found = self.found(root)?;
         first_of(self.rt.alloc(), found, most)
+    }
+}
+
+/// What stands before the last `/` of a path.
+fn folder_of(path: &[u8]) -> &[u8] {
+    match path.iter().rposition(|byte| *byte == b'/') {
+        Some(end) => &path[..end],
+        None => b"",
     }
 }
 
 impl Folders for DiskFolders<'_> {
     ghost told = { λ _. None };
 
-    ghost faults = { λ f. f };
+    ghost faults = { λ f. f.count };
 
     fn list(&mut self, root: &Text, most: u32) -> Result<TextList, FolderFault> {
         let listed = self.listed(root, most);
-        self.count(listed)
+        self.count(Tried::Listing, root, listed)
     }
 
     fn read_part(&mut self, path: &Text, at: u64, want: u32) -> Result<Text, FolderFault> {
         let part = self.part(path, at, want);
-        self.count(part)
+        self.count(Tried::Reading, path, part)
     }
 
     fn create(&mut self, path: &Text) -> Result<(), FolderFault> {
         let made = self.make(path);
-        self.count(made)
+        self.count(Tried::Making, path, made)
     }
 
     fn append(&mut self, path: &Text, bytes: &[u8]) -> Result<(), FolderFault> {
         let added = self.add(path, bytes);
-        self.count(added)
+        self.count(Tried::Writing, path, added)
     }
 }

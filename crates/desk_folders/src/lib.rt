@@ -11,12 +11,14 @@
 
 mod disk;
 mod folders;
+mod guard;
 mod listing;
 mod memory;
 mod open;
+mod progress;
 mod walk;
 
-pub use disk::DiskFolders;
+pub use disk::{DiskFolders, Faults};
 pub use folders::{FolderFault, Folders, GenFile};
 pub use listing::is_full;
 pub use memory::MemoryFolders;

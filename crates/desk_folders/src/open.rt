@@ -1,13 +1,15 @@
 //! Files that are open.
 
-ghost use Rattle.std.specs.Prelude.{◌≡◌, ◌≢◌, ◌+◌, ◌-◌, ◌<◌, ◌≤◌, ◌↔◌, ◌^◌, length, min, IfErr, IfOk, IsTrue, OnOk};
+ghost use Rattle.std.specs.Prelude.{◌≡◌, ◌≢◌, ◌+◌, ◌-◌, ◌<◌, ◌≤◌, ◌↔◌, ◌^◌, length, min, Ok, Err, IfErr, IfOk, IsTrue, OnOk};
 ghost use Rattle.std.specs.IoError.{error_kind};
+ghost use Rattle.std.specs.Fs.{IsDir, IsFile, IsSymlink};
 ghost use Rattle.std.specs.Str.{IsUtf8};
+ghost use Rattle.desk_faults.specs.declared.causes.Cause.TheVariants as cause;
 
-use crate::FolderFault;
 use desk_base::Text;
+use desk_faults::{Cause, Refusal, refusal_of};
 use std::alloc::Global;
-use std::fs::{self, File, OpenOptions};
+use std::fs::{self, File, FileType, OpenOptions};
 use std::io::{self, ErrorKind, Read, Seek, SeekFrom, Write};
 use std::path::Path;
 use std::str;
@@ -38,37 +40,41 @@ pub(crate) struct Writing {
 }
 
 /// What an error of the system means: want of memory is told apart from all others.
-pub(crate) fn fault_of(error: io::Error) -> FolderFault
-    ensures memory { error_kind error ≡ ErrorKind.OutOfMemory → result ≡ FolderFault.Memory }
-    ensures failed { error_kind error ≢ ErrorKind.OutOfMemory → result ≡ FolderFault.Failed }
+pub(crate) fn fault_of(error: io::Error) -> Refusal
+    ensures memory { error_kind error ≡ ErrorKind.OutOfMemory → result ≡ Refusal.Memory }
+    ensures failed { error_kind error ≢ ErrorKind.OutOfMemory → result ≡ Refusal.Failed (Cause.System error) }
 {
-    if error.kind() == ErrorKind::OutOfMemory {
-        FolderFault::Memory
-    } else {
-        FolderFault::Failed
-    }
+    refusal_of(error)
 }
 
 /// A path as the system takes it, which is UTF-8.
-pub(crate) fn text_of(path: &Text) -> Result<&str, FolderFault>
+pub(crate) fn text_of(path: &Text) -> Result<&str, Refusal>
     ensures text { IfOk result (λ text. text.now ≡ path.now) }
-    ensures refused { IfErr result (λ fault. (fault ≡ FolderFault.Failed) × ¬ (IsUtf8 path.now)) }
+    ensures refused { IfErr result (λ refusal. (refusal ≡ Refusal.Failed cause.NotText) × ¬ (IsUtf8 path.now)) }
 {
     match str::from_utf8(path.as_bytes()) {
         Ok(text) => Ok(text),
-        Err(_) => Err(FolderFault::Failed),
+        Err(_) => Err(Refusal::Failed(Cause::NotText)),
     }
 }
 
-/// How many bytes a part of a file takes: those that the file has from a byte on, and at most `want`.
+/// How many bytes of a file are read at once whose length the system tells as 0.
+const UNKNOWN: u32 = 65_536;
+
+/// How many bytes a part of a file takes: those that the file has from a byte on, and at most `want`. A file whose
+/// length the system tells as 0 may hold some nevertheless, as those of `/proc` do.
 fn part_size(len: u64, at: u64, want: u32) -> usize
-    ensures { result ≡ min (len - at) want }
+    ensures told { len ≢ 0 → result ≡ min (len - at) want }
+    ensures untold { len ≡ 0 → result ≡ min 65536 want }
 {
+    if len == 0 {
+        return UNKNOWN.min(want) as usize;
+    }
     len.saturating_sub(at).min(want as u64) as usize
 }
 
 /// Reads so many bytes of a file, or those that are left where it got shorter.
-fn read_bytes(alloc: Global, file: &mut File, size: usize) -> Result<Text, FolderFault>
+fn read_bytes(alloc: Global, file: &mut File, size: usize) -> Result<Text, Refusal>
     requires { size < 2 ^ 32 }
     ensures { IfOk result (λ part. length part ≤ size) }
 {
@@ -85,21 +91,48 @@ fn read_bytes(alloc: Global, file: &mut File, size: usize) -> Result<Text, Folde
     Ok(Text::from(bytes))
 }
 
-/// Opens a file, and answers how many bytes it has.
-fn open_at(rt: &HostRuntime, path: &str, at: u64) -> io::Result<(File, u64)> {
-    let mut file = File::open(rt, path)?;
+/// Why what isn't a file isn't read.
+fn file_in(kind: FileType) -> Result<(), Cause>
+    ensures file { IsFile kind → result ≡ Ok tt }
+    ensures link { ¬ IsFile kind → IsSymlink kind → result ≡ Err cause.Link }
+    ensures folder { ¬ IsFile kind → ¬ IsSymlink kind → IsDir kind → result ≡ Err cause.Folder }
+    ensures other { ¬ IsFile kind → ¬ IsSymlink kind → ¬ IsDir kind → result ≡ Err cause.Special }
+{
+    if kind.is_file() {
+        Ok(())
+    } else if kind.is_symlink() {
+        Err(Cause::Link)
+    } else if kind.is_dir() {
+        Err(Cause::Folder)
+    } else {
+        Err(Cause::Special)
+    }
+}
+
+/// The length of a file that is open, set to be read from a byte on.
+fn seek_in(file: &mut File, at: u64) -> io::Result<u64> {
     let len = file.metadata()?.len();
     file.seek(SeekFrom::Start(at))?;
+    Ok(len)
+}
+
+/// Opens a file, and answers how many bytes it has. What stands at the path is looked at before, since opening a
+/// pipe waits for its other end.
+fn open_at(rt: &HostRuntime, path: &str, at: u64) -> Result<(File, u64), Refusal> {
+    let found = fs::symlink_metadata(rt, path).map_err(fault_of)?;
+    file_in(found.file_type())?;
+    let mut file = File::open(rt, path).map_err(fault_of)?;
+    let len = seek_in(&mut file, at).map_err(fault_of)?;
     Ok((file, len))
 }
 
 impl Reading {
     /// Opens the file at a path, to be read from a byte on.
-    pub(crate) fn open(rt: &HostRuntime, path: &Text, at: u64) -> Result<Reading, FolderFault>
+    pub(crate) fn open(rt: &HostRuntime, path: &Text, at: u64) -> Result<Reading, Refusal>
         ensures path { IfOk result (λ file. file.path ≡ path.now) }
         ensures at { IfOk result (λ file. file.at ≡ at) }
     {
-        let (file, len) = open_at(rt, text_of(path)?, at).map_err(fault_of)?;
+        let (file, len) = open_at(rt, text_of(path)?, at)?;
         let path = path.clone()?;
         Ok(Reading {
             path,
@@ -116,15 +149,17 @@ impl Reading {
         self.at == at && self.path == *path
     }
 
-    /// The next part: as many bytes as the file has and are wanted, or fewer where it got shorter.
-    pub(crate) fn read(&mut self, alloc: Global, want: u32) -> Result<Text, FolderFault>
-        ensures few { IfOk result (λ part. length part ≤ min (self.old.len - self.old.at) want) }
-        ensures next { IfOk result (λ part. self.new.at ≡ self.old.at + length part) }
+    /// The next part: as many bytes as the file has and are wanted, or fewer where it got shorter. Of a file whose
+    /// length is told as 0 it is what is there, at most 65,536 bytes.
+    pub(crate) fn read(&mut self, alloc: Global, want: u32) -> Result<Text, Refusal>
+        ensures few { IfOk result (λ part. length part ≤ want) }
+        ensures told { self.old.len ≢ 0 → IfOk result (λ part. length part ≤ min (self.old.len - self.old.at) want) }
+        ensures next { IfOk result (λ part. self.new.at ≡ min (self.old.at + length part) (2 ^ 64 - 1)) }
         ensures path { self.new.path ≡ self.old.path }
     {
         let size = part_size(self.len, self.at, want);
         let part = read_bytes(alloc, &mut self.file, size)?;
-        self.at += part.as_bytes().len() as u64;
+        self.at = self.at.saturating_add(part.as_bytes().len() as u64);
         Ok(part)
     }
 }
@@ -149,7 +184,7 @@ fn create_anew(rt: &HostRuntime, path: &str) -> io::Result<File> {
 
 impl Writing {
     /// Opens the file at a path, to be written at its end.
-    pub(crate) fn open(rt: &HostRuntime, path: &Text) -> Result<Writing, FolderFault>
+    pub(crate) fn open(rt: &HostRuntime, path: &Text) -> Result<Writing, Refusal>
         ensures { IfOk result (λ file. file.path ≡ path.now) }
     {
         let file = OpenOptions::new()
@@ -161,7 +196,7 @@ impl Writing {
     }
 
     /// Makes the file at a path anew, in place of what stands there, and the folders on the way.
-    pub(crate) fn create(rt: &HostRuntime, path: &Text) -> Result<Writing, FolderFault>
+    pub(crate) fn create(rt: &HostRuntime, path: &Text) -> Result<Writing, Refusal>
         ensures { IfOk result (λ file. file.path ≡ path.now) }
     {
         let file = create_anew(rt, text_of(path)?).map_err(fault_of)?;
@@ -177,7 +212,7 @@ impl Writing {
     }
 
     /// Writes bytes behind those that were written.
-    pub(crate) fn write(&mut self, bytes: &[u8]) -> Result<(), FolderFault>
+    pub(crate) fn write(&mut self, bytes: &[u8]) -> Result<(), Refusal>
         ensures { self.new.path ≡ self.old.path }
     {
         self.file.write_all(bytes).map_err(fault_of)

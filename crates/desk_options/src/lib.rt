@@ -3,6 +3,8 @@
 
 mod joining;
 mod parsing;
+mod telling;
 mod values;
 
+pub use telling::{message_of_generate, message_of_run};
 pub use values::{GenerateValues, RunValues, generate_values, run_values};

@@ -4,8 +4,8 @@
 ghost use Rattle.std.specs.Prelude.{◌≡◌, ◌≢◌, IsErr, OnOk, OnErr};
 ghost use Rattle.desk_base.specs.Counts.{counted};
 
-use crate::files::Log;
-use desk_ledger::KeeperFault;
+use crate::files::{Log, why_not_made};
+use desk_faults::{Cause, Refusal};
 use sqlite::types::ValueRef;
 use sqlite::{Connection, Error, ErrorCode, File, FileStore, Row};
 use std::marker::Model;
@@ -35,13 +35,19 @@ impl Drop for Database {
 }
 
 /// What an error of a statement means: want of memory is told apart from all others.
-fn fault_of(error: Error) -> KeeperFault
-    ensures memory { error ≡ Error.SqliteFailure ErrorCode.OutOfMemory → result ≡ KeeperFault.Memory }
-    ensures failed { error ≢ Error.SqliteFailure ErrorCode.OutOfMemory → result ≡ KeeperFault.Failed }
+fn fault_of(error: Error) -> Refusal
+    ensures memory { error ≡ Error.SqliteFailure ErrorCode.OutOfMemory → result ≡ Refusal.Memory }
+    ensures failed { error ≢ Error.SqliteFailure ErrorCode.OutOfMemory → result ≢ Refusal.Memory }
 {
     match error {
-        Error::SqliteFailure(ErrorCode::OutOfMemory) => KeeperFault::Memory,
-        _ => KeeperFault::Failed,
+        Error::SqliteFailure(ErrorCode::OutOfMemory) => Refusal::Memory,
+        Error::SqliteFailure(ErrorCode::DiskFull) => Refusal::Failed(Cause::Full),
+        Error::SqliteFailure(ErrorCode::DatabaseBusy) => Refusal::Failed(Cause::Busy),
+        Error::SqliteFailure(ErrorCode::DatabaseCorrupt | ErrorCode::NotADatabase) => {
+            Refusal::Failed(Cause::Unsound)
+        }
+        Error::SqliteFailure(ErrorCode::CannotOpen) => Refusal::Failed(Cause::Unopened),
+        _ => Refusal::Failed(Cause::Statement),
     }
 }
 
@@ -53,9 +59,17 @@ fn is_unsound(error: &Error) -> bool {
     )
 }
 
+/// Why a file isn't opened: as the system says it, where the database doesn't.
+fn why_not_opened(rt: &HostRuntime, path: &str, error: Error) -> Refusal {
+    match fault_of(error) {
+        Refusal::Failed(Cause::Unopened) => why_not_made(rt, path),
+        refusal => refusal,
+    }
+}
+
 impl Database {
     /// Counts a refusal, and answers what it means.
-    fn refuse(&mut self, error: Error) -> KeeperFault
+    fn refuse(&mut self, error: Error) -> Refusal
         ensures { self.new ≡ counted self.old }
     {
         self.refused = self.refused.saturating_add(1);
@@ -64,7 +78,7 @@ impl Database {
 
     /// Opens the database file at a path, and makes an empty one where there is no file. A file that holds
     /// no sound database is left as it was.
-    pub(crate) fn open(rt: &HostRuntime, path: &str, log: &Log) -> Result<Database, KeeperFault> {
+    pub(crate) fn open(rt: &HostRuntime, path: &str, log: &Log) -> Result<Database, Refusal> {
         match Connection::open(rt, path) {
             Ok(connection) => Ok(Database {
                 connection,
@@ -74,17 +88,13 @@ impl Database {
                 if is_unsound(&error) {
                     let _ = log.remove_new(rt);
                 }
-                Err(fault_of(error))
+                Err(why_not_opened(rt, path, error))
             }
         }
     }
 
     /// Runs one statement that is no query, with these values for its parameters.
-    pub(crate) fn run(
-        &mut self,
-        statement: &str,
-        values: &[ValueRef<'_>],
-    ) -> Result<(), KeeperFault>
+    pub(crate) fn run(&mut self, statement: &str, values: &[ValueRef<'_>]) -> Result<(), Refusal>
         ensures ok { OnOk result (self.new ≡ self.old) }
         ensures err { OnErr result (self.new ≡ counted self.old) }
     {
@@ -95,7 +105,7 @@ impl Database {
     }
 
     /// All rows that a query gives.
-    pub(crate) fn query(&mut self, query: &str) -> Result<Vec<Row>, KeeperFault>
+    pub(crate) fn query(&mut self, query: &str) -> Result<Vec<Row>, Refusal>
         ensures ok { OnOk result (self.new ≡ self.old) }
         ensures err { OnErr result (self.new ≡ counted self.old) }
     {
@@ -106,7 +116,7 @@ impl Database {
     }
 
     /// Ends a transaction in which this was done: what it wrote stays, or nothing of it where it failed.
-    pub(crate) fn end(&mut self, done: Result<(), KeeperFault>) -> Result<(), KeeperFault>
+    pub(crate) fn end(&mut self, done: Result<(), Refusal>) -> Result<(), Refusal>
         ensures done { IsErr done → IsErr result }
         ensures ok { OnOk result (self.new ≡ self.old) }
     {

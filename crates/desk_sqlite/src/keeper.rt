@@ -1,13 +1,14 @@
 //! A keeper over an SQLite file.
 
-ghost use Rattle.std.specs.Prelude.{◌≡◌, ◌≤◌, ◌⊎◌, None, Some, Err, [], IsTrue, IsSome, IfOk, IfSome, OnOk, OnErr, option_map};
+ghost use Rattle.std.specs.Prelude.{◌≡◌, ◌≤◌, ◌⊎◌, None, Some, Ok, Err, ◌↔◌, [], IsTrue, IsSome, IfOk, IfSome, OnOk, OnErr, option_map};
 ghost use Rattle.std.specs.FinMap as fin;
 ghost use Rattle.desk_base.specs.Counts.{Rose};
 ghost use Rattle.desk_ledger.specs.Ledger.{NoneWaits, row_at, with_header, with_row, without_row};
 ghost use Rattle.desk_sqlite.specs.OverFile.{all_written, attached_in, held_in_memory, told_by, waiting_in, with_put, with_room};
 
 use crate::opened::Opened;
-use desk_base::Text;
+use desk_base::{Memory, Text};
+use desk_faults::{Cause, Fault, Refusal, Tried};
 use desk_ledger::{Header, Keeper, KeeperFault, Row};
 use std::marker::Model;
 
@@ -21,6 +22,7 @@ pub struct SqliteKeeper<'r> {
     rt: &'r HostRuntime,
     opened: Option<Box<Opened>>,
     faults: u64,
+    last: Option<Fault>,
 }
 
 impl<'r> Model for SqliteKeeper<'r> {
@@ -43,20 +45,62 @@ impl<'r> SqliteKeeper<'r> {
             rt,
             opened: None,
             faults: 0,
+            last: None,
         }
     }
 
-    /// Counts a fault where a call failed.
-    fn count<T>(&mut self, outcome: Result<T, KeeperFault>) -> Result<T, KeeperFault>
-        ensures same { result ≡ outcome }
+    /// The fault of a cause, at this path, or at the ledger that is open.
+    fn fault_at(&self, tried: Tried, path: Option<&Text>, cause: Cause) -> Result<Fault, Memory> {
+        match (path, &self.opened) {
+            (Some(path), _) => Fault::of(self.rt.alloc(), tried, path, cause),
+            (None, Some(opened)) => opened.fault(tried, cause),
+            (None, None) => Fault::of(self.rt.alloc(), tried, &Text::empty(self.rt.alloc()), cause),
+        }
+    }
+
+    /// Counts a fault and remembers it.
+    fn note(&mut self, tried: Tried, path: Option<&Text>, refusal: Refusal) -> KeeperFault
+        ensures opened { self.new.opened ≡ self.old.opened }
+        ensures counts { self.old.faults ≤ self.new.faults }
+        ensures failed { result ≡ KeeperFault.Failed → Rose self.old.faults self.new.faults }
+    {
+        let Refusal::Failed(cause) = refusal else {
+            return KeeperFault::Memory;
+        };
+        self.faults = self.faults.saturating_add(1);
+        self.last = self.fault_at(tried, path, cause).ok();
+        KeeperFault::Failed
+    }
+
+    /// Counts a fault where a call failed, and remembers it. After an answer the last fault stays.
+    fn count<T>(
+        &mut self,
+        tried: Tried,
+        path: Option<&Text>,
+        outcome: Result<T, Refusal>,
+    ) -> Result<T, KeeperFault>
+        ensures same { (x : T) → (result ≡ Ok x) ↔ (outcome ≡ Ok x) }
         ensures opened { self.new.opened ≡ self.old.opened }
         ensures counts { self.old.faults ≤ self.new.faults }
         ensures failed { result ≡ Err KeeperFault.Failed → Rose self.old.faults self.new.faults }
     {
-        if let Err(KeeperFault::Failed) = &outcome {
-            self.faults = self.faults.saturating_add(1);
+        match outcome {
+            Ok(answer) => Ok(answer),
+            Err(refusal) => Err(self.note(tried, path, refusal)),
         }
-        outcome
+    }
+
+    /// The last fault, where there was one and memory sufficed to remember it.
+    pub fn last_fault(&self) -> Option<&Fault> {
+        self.last.as_ref()
+    }
+
+    /// Removes the log beside the ledger's file where this keeper made it and it holds no page, so that a run which
+    /// wrote no row leaves none. The ledger stays attached.
+    pub fn remove_new_log(&self) {
+        if let Some(opened) = &self.opened {
+            opened.remove_new_log(self.rt);
+        }
     }
 
     /// Whether this name is attached.
@@ -70,7 +114,7 @@ impl<'r> SqliteKeeper<'r> {
     }
 
     /// Writes the rows that wait.
-    fn write_waiting(&mut self) -> Result<(), KeeperFault>
+    fn write_waiting(&mut self) -> Result<(), Refusal>
         ensures ok { OnOk result (self.new.opened ≡ option_map all_written self.old.opened) }
         ensures err { OnErr result (self.new ≡ self.old) }
         ensures counts { self.new.faults ≡ self.old.faults }
@@ -82,7 +126,7 @@ impl<'r> SqliteKeeper<'r> {
     }
 
     /// Opens the ledger of a name in place of the one that is open, unless it is open already.
-    fn open(&mut self, name: &Text) -> Result<(), KeeperFault>
+    fn open(&mut self, name: &Text) -> Result<(), Refusal>
         ensures ok { OnOk result (attached_in self.new ≡ Some name.now) }
         ensures waiting { OnOk result (IfSome (waiting_in self.new) (λ rows. rows ≡ [])) }
         ensures err { OnErr result (attached_in self.new ≡ attached_in self.old) }
@@ -95,7 +139,7 @@ impl<'r> SqliteKeeper<'r> {
         }
         let opened = Opened::at(self.rt, name)?;
         let Ok(boxed) = Box::new(self.rt.alloc(), opened) else {
-            return Err(KeeperFault::Memory);
+            return Err(Refusal::Memory);
         };
         self.opened = Some(boxed);
         Ok(())
@@ -122,7 +166,7 @@ impl Keeper for SqliteKeeper<'_> {
         ensures failed { result ≡ Err KeeperFault.Failed → Rose self.old.faults self.new.faults }
     {
         let opened = self.open(name);
-        self.count(opened)
+        self.count(Tried::Opening, Some(name), opened)
     }
 
     /// It answers from memory.
@@ -155,10 +199,10 @@ impl Keeper for SqliteKeeper<'_> {
         ensures failed { result ≡ Err KeeperFault.Failed → Rose self.old.faults self.new.faults }
     {
         let set = match &mut self.opened {
-            Some(opened) => opened.set_header(header),
+            Some(opened) => opened.set_header(self.rt, header),
             None => unreachable!(),
         };
-        self.count(set)
+        self.count(Tried::Keeping, None, set)
     }
 
     /// It answers from memory.
@@ -195,7 +239,7 @@ impl Keeper for SqliteKeeper<'_> {
             Some(opened) => opened.put(row),
             None => unreachable!(),
         };
-        self.count(put)
+        self.count(Tried::Keeping, None, put)
     }
 
     /// The rows that wait are written, and the row is gone from the file, when it answers.
@@ -214,7 +258,7 @@ impl Keeper for SqliteKeeper<'_> {
             Some(opened) => opened.forget(target),
             None => unreachable!(),
         };
-        self.count(forgotten)
+        self.count(Tried::Keeping, None, forgotten)
     }
 
     /// Writes the rows that wait, in one transaction; after an error they go on waiting.
@@ -229,6 +273,6 @@ impl Keeper for SqliteKeeper<'_> {
         ensures failed { result ≡ Err KeeperFault.Failed → Rose self.old.faults self.new.faults }
     {
         let written = self.write_waiting();
-        self.count(written)
+        self.count(Tried::Keeping, None, written)
     }
 }

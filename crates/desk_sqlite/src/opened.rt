@@ -6,14 +6,18 @@ ghost use Rattle.desk_ledger.specs.Ledger.{row_at, with_header, without_row};
 ghost use Rattle.desk_sqlite.specs.OverFile.{all_written, nothing, with_put, with_room};
 
 use crate::database::Database;
-use crate::files::{Log, may_be_database};
-use crate::tables::{make_tables, read_contents, write_header, write_rows, write_then_remove};
+use crate::files::{Log, fault_of, file_path, has_room_beside, may_be_database};
+use crate::tables::{
+    make_tables, read_contents, read_folder, write_folder, write_header, write_rows,
+    write_then_remove,
+};
 use crate::waiting::Waiting;
 use desk_base::{Memory, Text};
-use desk_ledger::{Contents, Header, KeeperFault, Row};
+use desk_faults::{Cause, Fault, Refusal, Tried};
+use desk_ledger::{Contents, Header, Row};
 use std::alloc::Global;
 use std::marker::Model;
-use std::str;
+use std::{env, str};
 
 /// A ledger that is open: its name, its file, what it holds, and those of its rows that wait to be written.
 /// Contracts see all but the file.
@@ -22,6 +26,7 @@ pub(crate) struct Opened {
     alloc: Global,
     name: Text,
     database: Database,
+    log: Log,
     contents: Contents,
     waiting: Waiting,
 }
@@ -37,55 +42,118 @@ impl Model for Opened {
 }
 
 /// What the tables of a database hold. They are made where it holds nothing.
-fn tables_in(alloc: Global, database: &mut Database) -> Result<Contents, KeeperFault> {
+fn tables_in(rt: &HostRuntime, database: &mut Database) -> Result<Contents, Refusal> {
     make_tables(database)?;
-    read_contents(alloc, database)
+    let contents = read_contents(rt.alloc(), database)?;
+    check_folder(rt, database, &contents)?;
+    Ok(contents)
+}
+
+/// A ledger's file: the database, what its tables hold, and its log.
+#[derive(Drop)]
+struct Ledger {
+    database: Database,
+    contents: Contents,
+    log: Log,
 }
 
 /// The database at a path, and what its tables hold. A database with other tables is left as it was.
-fn open_tables(
-    rt: &HostRuntime,
-    path: &str,
-    log: &Log,
-) -> Result<(Database, Contents), KeeperFault> {
-    let mut database = Database::open(rt, path, log)?;
-    match tables_in(rt.alloc(), &mut database) {
-        Ok(contents) => Ok((database, contents)),
-        Err(fault) => {
+fn open_tables(rt: &HostRuntime, path: &str, log: Log) -> Result<Ledger, Refusal> {
+    let mut database = Database::open(rt, path, &log)?;
+    match tables_in(rt, &mut database) {
+        Ok(contents) => Ok(Ledger {
+            database,
+            contents,
+            log,
+        }),
+        Err(refusal) => {
             let _ = log.remove_new(rt);
-            Err(fault)
+            Err(refusal)
         }
     }
 }
 
 /// The database of a name, and what its tables hold. A file that is none is left as it was.
-fn ledger_at(rt: &HostRuntime, name: &Text) -> Result<(Database, Contents), KeeperFault> {
-    let Ok(path) = str::from_utf8(name.as_bytes()) else {
-        return Err(KeeperFault::Failed);
+fn ledger_at(rt: &HostRuntime, name: &Text) -> Result<Ledger, Refusal> {
+    let Ok(name) = str::from_utf8(name.as_bytes()) else {
+        return Err(Refusal::Failed(Cause::NotText));
     };
-    let log = Log::beside(rt, path)?;
-    if !may_be_database(rt, path, log.was_there())? {
-        return Err(KeeperFault::Failed);
+    let path = file_path(rt, name)?;
+    let log = Log::beside(rt, path.as_str())?;
+    may_be_database(rt, path.as_str(), log.was_there())?;
+    has_room_beside(rt, path.as_str())?;
+    open_tables(rt, path.as_str(), log)
+}
+
+/// Whether a root is relative.
+fn is_relative(root: &Text) -> bool {
+    !root.as_bytes().starts_with(b"/")
+}
+
+/// Whether a header has a relative root.
+fn has_relative_root(header: &Header) -> bool {
+    is_relative(&header.from) || is_relative(&header.to)
+}
+
+/// The working folder.
+fn working_folder(rt: &HostRuntime) -> Result<Text, Refusal> {
+    let folder = env::current_dir(rt).map_err(fault_of)?;
+    Ok(Text::from_bytes(rt.alloc(), folder.as_str().as_bytes())?)
+}
+
+/// Compares the working folder that is noted with this one. Where none is noted, this one is.
+fn settle_folder(rt: &HostRuntime, database: &mut Database) -> Result<(), Refusal> {
+    let folder = working_folder(rt)?;
+    match read_folder(rt.alloc(), database)? {
+        Some(noted) if noted == folder => Ok(()),
+        Some(_) => Err(Refusal::Failed(Cause::Elsewhere)),
+        None => write_folder(database, &folder),
     }
-    open_tables(rt, path, &log)
+}
+
+/// Refuses a ledger whose header has a relative root, where the working folder is another one than is noted.
+fn check_folder(
+    rt: &HostRuntime,
+    database: &mut Database,
+    contents: &Contents,
+) -> Result<(), Refusal> {
+    match contents.header()? {
+        Some(header) if has_relative_root(&header) => settle_folder(rt, database),
+        _ => Ok(()),
+    }
 }
 
 impl Opened {
     /// Opens the ledger of a name, and makes it where there is no file.
-    pub(crate) fn at(rt: &HostRuntime, name: &Text) -> Result<Opened, KeeperFault>
+    pub(crate) fn at(rt: &HostRuntime, name: &Text) -> Result<Opened, Refusal>
         ensures name { IfOk result (λ opened. opened.name ≡ name.now) }
         ensures waiting { IfOk result (λ opened. opened.waiting ≡ nothing) }
     {
         let alloc = rt.alloc();
-        let (database, contents) = ledger_at(rt, name)?;
+        let Ledger {
+            database,
+            contents,
+            log,
+        } = ledger_at(rt, name)?;
         let name = name.clone()?;
         Ok(Opened {
             alloc,
             name,
             database,
+            log,
             contents,
             waiting: Waiting::new(alloc),
         })
+    }
+
+    /// Removes the log beside the file where it is new and holds no page. The file is still locked.
+    pub(crate) fn remove_new_log(&self, rt: &HostRuntime) {
+        let _ = self.log.remove_new(rt);
+    }
+
+    /// The fault of a cause at this ledger.
+    pub(crate) fn fault(&self, tried: Tried, cause: Cause) -> Result<Fault, Memory> {
+        Fault::of(self.alloc, tried, &self.name, cause)
     }
 
     /// Whether this is its name.
@@ -110,7 +178,7 @@ impl Opened {
     }
 
     /// Writes the rows that wait.
-    pub(crate) fn write_waiting(&mut self) -> Result<(), KeeperFault>
+    pub(crate) fn write_waiting(&mut self) -> Result<(), Refusal>
         ensures ok { OnOk result (self.new ≡ all_written self.old) }
         ensures err { OnErr result (self.new ≡ self.old) }
     {
@@ -119,12 +187,15 @@ impl Opened {
         Ok(())
     }
 
-    /// Makes this the header, in the file first.
-    pub(crate) fn set_header(&mut self, header: &Header) -> Result<(), KeeperFault>
+    /// Makes this the header, in the file first, with the working folder where a root is relative.
+    pub(crate) fn set_header(&mut self, rt: &HostRuntime, header: &Header) -> Result<(), Refusal>
         ensures ok { OnOk result (self.new ≡ record self.old { ledger = with_header header.now self.old.ledger }) }
         ensures err { OnErr result (self.new ≡ self.old) }
     {
         let copy = header.clone()?;
+        if has_relative_root(header) {
+            write_folder(&mut self.database, &working_folder(rt)?)?;
+        }
         write_header(&mut self.database, header)?;
         self.contents.set_header(copy);
         Ok(())
@@ -151,7 +222,7 @@ impl Opened {
     }
 
     /// Writes the rows that wait where no other may.
-    fn make_room(&mut self) -> Result<(), KeeperFault>
+    fn make_room(&mut self) -> Result<(), Refusal>
         ensures ok { OnOk result (self.new ≡ with_room self.old) }
         ensures room { OnOk result (length self.new.waiting.rows < 1024) }
         ensures err { OnErr result (self.new ≡ self.old) }
@@ -164,7 +235,7 @@ impl Opened {
 
     /// Takes a row in place of its target's, and lets it wait. The rows that waited before are written
     /// where they are 1,024.
-    pub(crate) fn put(&mut self, row: Row) -> Result<(), KeeperFault>
+    pub(crate) fn put(&mut self, row: Row) -> Result<(), Refusal>
         ensures ok { OnOk result (self.new ≡ with_put row (with_room self.old)) }
         ensures err { OnErr result ((self.new ≡ self.old) ⊎ (self.new ≡ with_room self.old)) }
     {
@@ -174,7 +245,7 @@ impl Opened {
     }
 
     /// Writes the rows that wait, and removes the row of a target.
-    pub(crate) fn forget(&mut self, target: &Text) -> Result<(), KeeperFault>
+    pub(crate) fn forget(&mut self, target: &Text) -> Result<(), Refusal>
         ensures ok { OnOk result (self.new ≡ record self.old { ledger = without_row target.now self.old.ledger; waiting = nothing }) }
         ensures err { OnErr result (self.new ≡ self.old) }
     {

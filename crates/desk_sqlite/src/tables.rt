@@ -1,4 +1,5 @@
-//! The two tables of a ledger: one holds the header, the other the rows by their targets.
+//! The tables of a ledger: one holds the header, one the rows by their targets, and one notes the working folder of
+//! relative roots.
 
 ghost use Rattle.std.specs.Prelude.{◌≡◌, ◌≢◌, string_bytes, IfOk, OnOk};
 ghost use Rattle.sqlite.specs.Values.{bound};
@@ -7,7 +8,8 @@ ghost use Rattle.desk_sqlite.specs.Statements.{insertion, values_in, verb};
 use crate::database::Database;
 use crate::waiting::Waiting;
 use desk_base::Text;
-use desk_ledger::{Contents, Digest, Header, KeeperFault, Row};
+use desk_faults::{Cause, Refusal};
+use desk_ledger::{Contents, Digest, Header, Row};
 use sqlite::types::ValueRef;
 use sqlite::{Row as Found, params};
 use std::alloc::{AllocError, Global};
@@ -20,19 +22,23 @@ const HEADER: &str =
 const WRITTEN: &str =
     "CREATE TABLE written (target BLOB NOT NULL PRIMARY KEY, source BLOB NOT NULL, digest BLOB NOT NULL) STRICT";
 
-fn make_both(database: &mut Database) -> Result<(), KeeperFault>
+/// The table with the working folder of relative roots, whose only row has the number 1.
+const FOLDER: &str = "CREATE TABLE folder (number INTEGER PRIMARY KEY, path BLOB NOT NULL) STRICT";
+
+fn make_all(database: &mut Database) -> Result<(), Refusal>
     ensures { OnOk result (database.new ≡ database.old) }
 {
     database.run(HEADER, &[])?;
-    database.run(WRITTEN, &[])
+    database.run(WRITTEN, &[])?;
+    database.run(FOLDER, &[])
 }
 
-/// Makes both tables or none.
-fn make(database: &mut Database) -> Result<(), KeeperFault>
+/// Makes all tables or none.
+fn make(database: &mut Database) -> Result<(), Refusal>
     ensures { OnOk result (database.new ≡ database.old) }
 {
     database.run("BEGIN", &[])?;
-    let made = make_both(database);
+    let made = make_all(database);
     database.end(made)
 }
 
@@ -41,8 +47,9 @@ fn is_made_by(found: &Found, statement: &str) -> bool {
     matches!(found.get_ref(0), Ok(ValueRef::Text(text)) if text == statement.as_bytes())
 }
 
-/// Makes the tables in a database that holds nothing. One that holds anything but them is refused.
-pub(crate) fn make_tables(database: &mut Database) -> Result<(), KeeperFault>
+/// Makes the tables in a database that holds nothing, and the one of the working folder where it lacks. One that
+/// holds anything but them is refused.
+pub(crate) fn make_tables(database: &mut Database) -> Result<(), Refusal>
     ensures { OnOk result (database.new ≡ database.old) }
 {
     let found = database.query(
@@ -50,34 +57,40 @@ pub(crate) fn make_tables(database: &mut Database) -> Result<(), KeeperFault>
     )?;
     match found.as_slice() {
         [] => make(database),
-        [first, second] if is_made_by(first, HEADER) && is_made_by(second, WRITTEN) => Ok(()),
-        _ => Err(KeeperFault::Failed),
+        [first, second] if is_made_by(first, HEADER) && is_made_by(second, WRITTEN) => {
+            database.run(FOLDER, &[])
+        }
+        [first, second, third]
+            if is_made_by(first, FOLDER)
+                && is_made_by(second, HEADER)
+                && is_made_by(third, WRITTEN) => Ok(()),
+        _ => Err(Refusal::Failed(Cause::Tables)),
     }
 }
 
 /// The bytes that a row has in a column.
-fn bytes_at(found: &Found, column: usize) -> Result<&[u8], KeeperFault> {
+fn bytes_at(found: &Found, column: usize) -> Result<&[u8], Refusal> {
     match found.get_ref(column) {
         Ok(ValueRef::Blob(bytes)) => Ok(bytes),
-        _ => Err(KeeperFault::Failed),
+        _ => Err(Refusal::Failed(Cause::Unsound)),
     }
 }
 
-fn text_at(alloc: Global, found: &Found, column: usize) -> Result<Text, KeeperFault> {
+fn text_at(alloc: Global, found: &Found, column: usize) -> Result<Text, Refusal> {
     Ok(Text::from_bytes(alloc, bytes_at(found, column)?)?)
 }
 
-fn digest_at(found: &Found, column: usize) -> Result<Digest, KeeperFault> {
+fn digest_at(found: &Found, column: usize) -> Result<Digest, Refusal> {
     let bytes = bytes_at(found, column)?;
     if bytes.len() != 32 {
-        return Err(KeeperFault::Failed);
+        return Err(Refusal::Failed(Cause::Unsound));
     }
     let mut digest = [0; 32];
     digest.copy_from_slice(bytes);
     Ok(Digest(digest))
 }
 
-fn header_in(alloc: Global, found: &Found) -> Result<Header, KeeperFault> {
+fn header_in(alloc: Global, found: &Found) -> Result<Header, Refusal> {
     Ok(Header {
         from: text_at(alloc, found, 0)?,
         to: text_at(alloc, found, 1)?,
@@ -85,7 +98,7 @@ fn header_in(alloc: Global, found: &Found) -> Result<Header, KeeperFault> {
     })
 }
 
-fn row_in(alloc: Global, found: &Found) -> Result<Row, KeeperFault> {
+fn row_in(alloc: Global, found: &Found) -> Result<Row, Refusal> {
     Ok(Row {
         target: text_at(alloc, found, 0)?,
         source: text_at(alloc, found, 1)?,
@@ -98,7 +111,7 @@ fn read_header(
     alloc: Global,
     database: &mut Database,
     contents: &mut Contents,
-) -> Result<(), KeeperFault>
+) -> Result<(), Refusal>
     ensures { OnOk result (database.new ≡ database.old) }
 {
     let found = database.query("SELECT from_root, to_root, rules FROM header")?;
@@ -108,22 +121,18 @@ fn read_header(
             contents.set_header(header_in(alloc, one)?);
             Ok(())
         }
-        _ => Err(KeeperFault::Failed),
+        _ => Err(Refusal::Failed(Cause::Unsound)),
     }
 }
 
 /// Takes a row that was found.
-fn take_row(alloc: Global, found: &Found, contents: &mut Contents) -> Result<(), KeeperFault> {
+fn take_row(alloc: Global, found: &Found, contents: &mut Contents) -> Result<(), Refusal> {
     contents.put(row_in(alloc, found)?)?;
     Ok(())
 }
 
 /// Takes the rows that the tables hold.
-fn read_rows(
-    alloc: Global,
-    database: &mut Database,
-    contents: &mut Contents,
-) -> Result<(), KeeperFault>
+fn read_rows(alloc: Global, database: &mut Database, contents: &mut Contents) -> Result<(), Refusal>
     ensures { OnOk result (database.new ≡ database.old) }
 {
     for found in database.query("SELECT target, source, digest FROM written")? {
@@ -133,7 +142,7 @@ fn read_rows(
 }
 
 /// All that the tables hold.
-pub(crate) fn read_contents(alloc: Global, database: &mut Database) -> Result<Contents, KeeperFault>
+pub(crate) fn read_contents(alloc: Global, database: &mut Database) -> Result<Contents, Refusal>
     ensures { OnOk result (database.new ≡ database.old) }
 {
     let mut contents = Contents::new(alloc);
@@ -142,8 +151,30 @@ pub(crate) fn read_contents(alloc: Global, database: &mut Database) -> Result<Co
     Ok(contents)
 }
 
+/// The working folder that the tables note, if they note one.
+pub(crate) fn read_folder(alloc: Global, database: &mut Database) -> Result<Option<Text>, Refusal>
+    ensures { OnOk result (database.new ≡ database.old) }
+{
+    let found = database.query("SELECT path FROM folder")?;
+    match found.as_slice() {
+        [] => Ok(None),
+        [one] => Ok(Some(text_at(alloc, one, 0)?)),
+        _ => Err(Refusal::Failed(Cause::Unsound)),
+    }
+}
+
+/// Notes a working folder.
+pub(crate) fn write_folder(database: &mut Database, path: &Text) -> Result<(), Refusal>
+    ensures { OnOk result (database.new ≡ database.old) }
+{
+    database.run(
+        "INSERT OR REPLACE INTO folder VALUES (1, ?1)",
+        params![path.as_bytes()],
+    )
+}
+
 /// Makes this the header.
-pub(crate) fn write_header(database: &mut Database, header: &Header) -> Result<(), KeeperFault>
+pub(crate) fn write_header(database: &mut Database, header: &Header) -> Result<(), Refusal>
     ensures { OnOk result (database.new ≡ database.old) }
 {
     database.run(
@@ -209,7 +240,7 @@ pub(crate) fn write_rows(
     database: &mut Database,
     alloc: Global,
     waiting: &Waiting,
-) -> Result<(), KeeperFault>
+) -> Result<(), Refusal>
     ensures { OnOk result (database.new ≡ database.old) }
 {
     let rows = waiting.rows();
@@ -227,7 +258,7 @@ pub(crate) fn write_rows(
     database.run(statement.as_str(), values.as_slice())
 }
 
-fn remove(database: &mut Database, target: &Text) -> Result<(), KeeperFault>
+fn remove(database: &mut Database, target: &Text) -> Result<(), Refusal>
     ensures { OnOk result (database.new ≡ database.old) }
 {
     database.run(
@@ -241,7 +272,7 @@ fn write_and_remove(
     alloc: Global,
     waiting: &Waiting,
     target: &Text,
-) -> Result<(), KeeperFault>
+) -> Result<(), Refusal>
     ensures { OnOk result (database.new ≡ database.old) }
 {
     write_rows(database, alloc, waiting)?;
@@ -254,7 +285,7 @@ pub(crate) fn write_then_remove(
     alloc: Global,
     waiting: &Waiting,
     target: &Text,
-) -> Result<(), KeeperFault>
+) -> Result<(), Refusal>
     ensures { OnOk result (database.new ≡ database.old) }
 {
     database.run("BEGIN", &[])?;

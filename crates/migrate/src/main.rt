@@ -1,20 +1,29 @@
-//! The program: it hands its words, the real folders, the ledger on disk and the real output to the desk, and exits
-//! with the status that the desk answers.
+//! The program: it hands its words, the real folders, the ledger on disk and the real output to the desk, exits with
+//! the status that the desk answers, and tells people on standard error what stands behind it.
 #![tactic(auto)]
 
 ghost use Rattle.std.specs.Prelude.{◌≡◌, ◌≢◌, IfOk, drop, map, string_bytes};
 ghost use Rattle.std.specs.Process.{exit_status};
 ghost use Rattle.desk_report.specs.Texts.{code_of};
 
+mod after;
+mod before;
+mod telling;
+
+use after::tell_end;
+use before::nested_on_disk;
 use desk_base::{Memory, Text};
 use desk_folders::DiskFolders;
+use desk_notes::Overheard;
 use desk_report::{Status, StdSink, write_fault};
 use desk_run::desk;
 use desk_sqlite::SqliteKeeper;
+use desk_words::{Order, Roots, read_order};
 use std::alloc::Global;
 use std::io::ErrorKind;
 use std::process::ExitCode;
 use std::{env, io};
+use telling::tell_unread;
 
 /// Words as texts, as they were given.
 fn texts_of(alloc: Global, given: &[String]) -> Result<Vec<Text>, Memory>
@@ -59,17 +68,55 @@ fn unread(kind: ErrorKind) -> Status
     }
 }
 
+/// The roots of words that ask for a run.
+fn roots_of(alloc: Global, words: &[Text]) -> Option<Roots> {
+    match read_order(alloc, words) {
+        Ok(Order::Run(roots)) => Some(roots),
+        _ => None,
+    }
+}
+
+/// Follows the words, and tells what stands behind the status.
+fn follow(rt: &HostRuntime, words: &[Text], roots: &Option<Roots>) -> Status {
+    let mut out = Overheard::new(rt, StdSink::new(rt));
+    let mut folders = DiskFolders::new(rt);
+    let mut keeper = SqliteKeeper::new(rt);
+    if let Some(roots) = roots {
+        if let Some(status) = nested_on_disk(rt, roots) {
+            let _ = write_fault(&status, &mut out);
+            tell_end(rt, words, &status, &folders, &keeper, &out.notes, None);
+            return status;
+        }
+        if let Ok(target) = roots.to.clone() {
+            folders.keep_within(target);
+        }
+        folders.show_progress();
+    }
+    let status = desk(rt.alloc(), words, &mut folders, &mut keeper, &mut out);
+    folders.end_progress();
+    keeper.remove_new_log();
+    tell_end(
+        rt,
+        words,
+        &status,
+        &folders,
+        &keeper,
+        &out.notes,
+        roots.as_ref(),
+    );
+    status
+}
+
 fn run(rt: &HostRuntime) -> Status {
-    let mut out = StdSink::new(rt);
     match read_words(rt) {
         Ok(words) => {
-            let mut folders = DiskFolders::new(rt);
-            let mut keeper = SqliteKeeper::new(rt);
-            desk(rt.alloc(), &words, &mut folders, &mut keeper, &mut out)
+            let roots = roots_of(rt.alloc(), &words);
+            follow(rt, &words, &roots)
         }
         Err(error) => {
             let status = unread(error.kind());
-            let _ = write_fault(&status, &mut out);
+            let _ = write_fault(&status, &mut StdSink::new(rt));
+            tell_unread(rt, &status);
             status
         }
     }

@@ -1,7 +1,9 @@
 //! Folders on a disk, in folders of this process alone.
 
 use crate::place::{Place, own_place};
-use desk_folders::FolderFault;
+use desk_base::Text;
+use desk_faults::Tried;
+use desk_folders::{DiskFolders, FolderFault, Folders};
 use std::alloc::Global;
 use std::test::Fail;
 
@@ -141,5 +143,88 @@ fn a_file_that_got_shorter_gives_what_is_left(rt: HostRuntime) -> Result<(), Fai
     place.overwrite(&rt, b"file", b"abcdef")?;
     assert!(rt; place.reads(b"file", 4, 4, b"ef")?);
     assert!(rt; place.reads(b"file", 6, 4, b"")?);
+    place.remove(&rt)
+}
+
+#[test]
+fn the_last_fault_is_remembered_after_later_successes(rt: HostRuntime) -> Result<(), Fail> {
+    let mut place = own_place(&rt, "fault")?;
+    place.write(b"b.txt", &[])?;
+    assert!(rt; place.last_fault().is_none());
+    assert_eq!(rt; place.unread(b"missing")?, Some(FolderFault::Failed));
+    assert!(rt; place.fails_as(Tried::Reading, b"missing", b"No such file or directory")?);
+    assert!(rt; place.reads(b"b.txt", 0, 1, b"")?);
+    assert!(rt; place.fails_as(Tried::Reading, b"missing", b"No such file or directory")?);
+    assert_eq!(rt; place.refused(b"b.txt/c")?, Some(FolderFault::Failed));
+    assert!(rt; place.fails_as(Tried::Making, b"b.txt/c", b"Not a directory")?);
+    assert_eq!(rt; place.append(b"gone", b"x")?, Some(FolderFault::Failed));
+    assert!(rt; place.fails_as(Tried::Writing, b"gone", b"No such file or directory")?);
+    place.symlink(&rt, "b.txt", b"link")?;
+    assert_eq!(rt; place.listed(9).err(), Some(FolderFault::Failed));
+    assert!(rt;
+        place.fails_as(
+            Tried::Listing,
+            b"link",
+            b"it is a symbolic link, which isn't followed"
+        )?
+    );
+    place.remove(&rt)
+}
+
+#[test]
+fn what_is_no_file_is_not_read(rt: HostRuntime) -> Result<(), Fail> {
+    let mut place = own_place(&rt, "nofile")?;
+    place.write(b"folder/file", &[b"x"])?;
+    place.symlink(&rt, "folder/file", b"link")?;
+    assert_eq!(rt; place.unread(b"link")?, Some(FolderFault::Failed));
+    assert!(rt;
+        place.fails_as(
+            Tried::Reading,
+            b"link",
+            b"it is a symbolic link, which isn't followed"
+        )?
+    );
+    assert_eq!(rt; place.unread(b"folder")?, Some(FolderFault::Failed));
+    assert!(rt; place.fails_as(Tried::Reading, b"folder", b"it is a folder")?);
+    place.remove(&rt)
+}
+
+#[test]
+fn a_file_of_length_0_is_read_to_its_end(rt: HostRuntime) -> Result<(), Fail> {
+    let mut folders = DiskFolders::new(&rt);
+    // The system tells 0 as the length of each file of `/proc`, and this one holds 32 hexadecimal digits and a line end.
+    let path = Text::from_bytes(rt.alloc(), b"/proc/sys/kernel/random/boot_id")?;
+    let first = folders.read_part(&path, 0, 8)?;
+    let rest = folders.read_part(&path, 8, 1_048_576)?;
+    assert_eq!(rt; first.as_bytes().len(), 8);
+    assert_eq!(rt; rest.as_bytes().len(), 29);
+    assert!(rt; folders.read_part(&path, 37, 9)?.as_bytes().is_empty());
+    Ok(())
+}
+
+#[test]
+fn a_folder_of_the_target_that_is_a_link_is_a_fault(rt: HostRuntime) -> Result<(), Fail> {
+    let mut place = own_place(&rt, "within")?;
+    place.write(b"other/file", &[b"x"])?;
+    place.write(b"to/a/file", &[b"x"])?;
+    place.symlink(&rt, "../other", b"to/link")?;
+    place.symlink(&rt, "to", b"root")?;
+    place.keep_within(b"to")?;
+    assert_eq!(rt; place.refused(b"to/link/new")?, Some(FolderFault::Failed));
+    assert!(rt;
+        place.fails_as(
+            Tried::Making,
+            b"to/link/new",
+            b"it is a symbolic link, which isn't followed"
+        )?
+    );
+    assert_eq!(rt;
+        place.refused(b"to/link/below/new")?,
+        Some(FolderFault::Failed)
+    );
+    assert_eq!(rt; place.refused(b"to/a/new")?, None);
+    assert_eq!(rt; place.refused(b"to/b/c/new")?, None);
+    place.keep_within(b"root")?;
+    assert_eq!(rt; place.refused(b"root/d/new")?, None);
     place.remove(&rt)
 }

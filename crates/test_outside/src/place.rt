@@ -3,6 +3,7 @@
 ghost use Rattle.std.specs.Prelude.{◌≤◌};
 
 use desk_base::{Text, TextList};
+use desk_faults::{Fault, Tried};
 use desk_folders::{DiskFolders, FolderFault, Folders, is_full};
 use std::test::Fail;
 use std::{fs, process, str};
@@ -140,6 +141,29 @@ impl Place<'_> {
             return Err(Fail::from("no full path"));
         }
         Ok(self.folders.list(&path, 9).err())
+    }
+
+    /// The last fault that the folders remember.
+    pub fn last_fault(&self) -> Option<&Fault> {
+        self.folders.last_fault()
+    }
+
+    /// Whether the last fault is this one, at a name below the folder.
+    pub fn fails_as(&self, tried: Tried, name: &[u8], words: &[u8]) -> Result<bool, Fail> {
+        let path = self.path(name)?;
+        Ok(match self.last_fault() {
+            Some(fault) => fault.tried == tried
+                && fault.path == path
+                && fault.words.as_bytes() == words,
+            None => false,
+        })
+    }
+
+    /// Names the folder below which no link may stand in place of a folder.
+    pub fn keep_within(&mut self, name: &[u8]) -> Result<(), Fail> {
+        let path = self.path(name)?;
+        self.folders.keep_within(path);
+        Ok(())
     }
 
     /// Gives a file one more name.

@@ -4,6 +4,7 @@ ghost use Rattle.std.specs.Prelude.{IfOk, IsSome};
 ghost use Rattle.desk_sqlite.specs.OverFile.{attached_in};
 
 use desk_base::Text;
+use desk_faults::Tried;
 use desk_ledger::{Digest, Header, Keeper, KeeperFault, Row};
 use desk_sqlite::SqliteKeeper;
 use sqlite::Connection;
@@ -322,6 +323,125 @@ fn rows_go_on_waiting_while_the_file_is_damaged(rt: HostRuntime) -> Result<(), F
     write_one(&rt, &path, &rows.large)?;
     write_around_damage(&rt, &rt, &path, path_of(&log)?, &rows)?;
     find_both(&rt, &rt, &path, &rows)?;
+    fs::remove_dir_all(&rt, root.as_str())?;
+    Ok(())
+}
+
+/// Whether the last fault of a keeper is this one.
+fn fails_as(keeper: &SqliteKeeper<'_>, tried: Tried, path: &Text, words: &[u8]) -> bool {
+    match keeper.last_fault() {
+        Some(fault) => {
+            fault.tried == tried && fault.path == *path && fault.words.as_bytes() == words
+        }
+        None => false,
+    }
+}
+
+/// Writes the header of relative roots to a new ledger.
+fn write_relative(rt: &HostRuntime, abort: &impl Abort, path: &Text) -> Result<(), Fail> {
+    let header = header(rt.alloc())?;
+    let mut keeper = attached(rt, path)?;
+    assert_eq!(abort; set_header(&mut keeper, &header), None);
+    Ok(())
+}
+
+/// Attaches a ledger of relative roots from another working folder.
+fn attach_elsewhere(rt: &HostRuntime, abort: &impl Abort, path: &Text) -> Result<(), Fail> {
+    let mut keeper = SqliteKeeper::new(rt);
+    assert_eq!(abort; keeper.attach(path).err(), Some(KeeperFault::Failed));
+    let words = b"its relative roots belong to another working folder";
+    assert!(abort; fails_as(&keeper, Tried::Opening, path, words));
+    Ok(())
+}
+
+#[test]
+fn a_ledger_of_relative_roots_belongs_to_its_working_folder(rt: HostRuntime) -> Result<(), Fail> {
+    let root = own_folder(&rt, "folder")?;
+    let path = path_below(rt.alloc(), root.as_str(), "ledger")?;
+    let here = env::current_dir(&rt)?;
+    write_relative(&rt, &rt, &path)?;
+    env::set_current_dir(&rt, root.as_str())?;
+    attach_elsewhere(&rt, &rt, &path)?;
+    env::set_current_dir(&rt, here.as_str())?;
+    let keeper = attached(&rt, &path)?;
+    assert!(rt; keeper.last_fault().is_none());
+    drop(keeper);
+    fs::remove_dir_all(&rt, root.as_str())?;
+    Ok(())
+}
+
+/// A keeper's fault stays after a later success.
+fn fail_then_attach(
+    rt: &HostRuntime,
+    abort: &impl Abort,
+    missing: &Text,
+    path: &Text,
+) -> Result<(), Fail> {
+    let mut keeper = SqliteKeeper::new(rt);
+    assert_eq!(abort; keeper.attach(missing).err(), Some(KeeperFault::Failed));
+    assert!(abort;
+        fails_as(
+            &keeper,
+            Tried::Opening,
+            missing,
+            b"No such file or directory"
+        )
+    );
+    assert_eq!(abort; keeper.attach(path).err(), None);
+    assert!(abort;
+        fails_as(
+            &keeper,
+            Tried::Opening,
+            missing,
+            b"No such file or directory"
+        )
+    );
+    Ok(())
+}
+
+#[test]
+fn the_last_fault_is_remembered_after_later_successes(rt: HostRuntime) -> Result<(), Fail> {
+    let root = own_folder(&rt, "fault")?;
+    let missing = path_below(rt.alloc(), root.as_str(), "missing/ledger")?;
+    let path = path_below(rt.alloc(), root.as_str(), "ledger")?;
+    fail_then_attach(&rt, &rt, &missing, &path)?;
+    fs::remove_dir_all(&rt, root.as_str())?;
+    Ok(())
+}
+
+/// Names that the database takes for no files.
+const NAMES: &[&str] = &[":memory:", "file:x", "file:x?mode=memory"];
+
+#[test]
+fn names_of_no_files_are_files(rt: HostRuntime) -> Result<(), Fail> {
+    let rows = own_rows(rt.alloc())?;
+    for name in NAMES {
+        let path = Text::from_bytes(rt.alloc(), name.as_bytes())?;
+        write_and_find(&rt, &rt, &path, &rows)?;
+        assert!(rt; fs::metadata(&rt, format!(in rt.alloc(); "./{name}")?.as_str())?.is_file());
+        fs::remove_file(&rt, format!(in rt.alloc(); "./{name}")?.as_str())?;
+        fs::remove_file(&rt, format!(in rt.alloc(); "./{name}-wal")?.as_str())?;
+    }
+    Ok(())
+}
+
+/// Attaches a ledger, and removes the log that this made.
+fn look_at(rt: &HostRuntime, path: &Text) -> Result<(), Fail> {
+    let keeper = attached(rt, path)?;
+    keeper.remove_new_log();
+    Ok(())
+}
+
+#[test]
+fn a_keeper_that_writes_no_row_leaves_no_new_log(rt: HostRuntime) -> Result<(), Fail> {
+    let root = own_folder(&rt, "log")?;
+    let path = path_below(rt.alloc(), root.as_str(), "ledger")?;
+    let log = path_below(rt.alloc(), root.as_str(), "ledger-wal")?;
+    let rows = own_rows(rt.alloc())?;
+    write_and_find(&rt, &rt, &path, &rows)?;
+    assert!(rt; fs::exists(&rt, path_of(&log)?)?);
+    look_at(&rt, &path)?;
+    assert!(rt; fs::exists(&rt, path_of(&log)?)?);
     fs::remove_dir_all(&rt, root.as_str())?;
     Ok(())
 }

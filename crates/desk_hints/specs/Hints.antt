@@ -1,0 +1,121 @@
+-- The hints behind a status.
+use Rattle.std.specs.Prelude.{codes, Bool, true, false, not, Option, Some, None, List, ℕ}
+use Rattle.std.specs.Str.{bytes_eq}
+use Rattle.desk_base.specs.Names.{Text}
+use Rattle.desk_ledger.specs.declared.keeper.Header.{Header}
+use Rattle.desk_properties.specs.declared.PropFault.{PropFault}
+use Rattle.desk_properties.specs.declared.PropFault.TheVariants.{NotUtf8, Escape}
+use Rattle.desk_rules.specs.declared.ChainKind.{ChainKind}
+use Rattle.desk_rules.specs.declared.ChainKind.TheVariants as chain
+use Rattle.desk_rules.specs.declared.RuleFault.{RuleFault}
+use Rattle.desk_rules.specs.declared.RuleFault.TheVariants as rule
+use Rattle.desk_report.specs.declared.status.LimitKind.{LimitKind}
+use Rattle.desk_report.specs.declared.status.LimitKind.TheVariants as limit
+use Rattle.desk_report.specs.declared.status.Status.{Status}
+use Rattle.desk_report.specs.declared.status.Status.TheVariants as status
+use Rattle.desk_hints.specs.declared.hints.Hint.{Hint}
+use Rattle.desk_hints.specs.declared.hints.Hint.TheVariants as hint
+
+-- what stands against a run, and what to do
+abbrev pub hint_text : Hint → Text
+hint_text hint.Refusals = codes "migrate: some files were refused, and nothing was written for them\n         the target isn't ready to be used until each line `refused` is dealt with: see the counts by reason\n"
+hint_text hint.Memory = codes "migrate: memory ran out, so the run stopped\n         give it more memory and run again: what was written and noted in the ledger is kept\n"
+hint_text hint.Folders = codes "migrate: a file or folder could not be used as it should, so the run stopped\n         put right what is said below and run again: the run goes on where it stopped\n"
+hint_text hint.Ledger = codes "migrate: the ledger could not be used, so the run stopped\n         put right what is said below and run again, or name another ledger, which starts anew\n"
+hint_text hint.Output = codes "migrate: standard output took no more, so the report isn't whole; all files are done\n         run again with an output that takes it: the files are kept, and the report is printed\n"
+hint_text hint.Usage = codes "migrate: these words ask for nothing that can be done\n         give the words as in the line of usage; README.md says each\n"
+hint_text hint.Nested = codes "migrate: no root may lie where another would be changed: source and target, rules and target, the ledger in any\n         name a target and a ledger that lie in none of the other folders\n"
+hint_text hint.NoRenames = codes "migrate: the rule folder has no `renames.properties`, or it has no key\n         write into it a line for each package, as `javax.servlet.*=jakarta.servlet`\n"
+hint_text hint.NotUtf8 = codes "migrate: a rule file isn't in UTF-8, from the byte on that is told\n         store the file in UTF-8 without a byte order mark\n"
+hint_text hint.Escape = codes "migrate: a rule file has a `\\u` that isn't followed by four hexadecimal digits of a character, at the byte that is told\n         write the character itself, or two backslashes where one is meant\n"
+hint_text hint.BadKey = codes "migrate: a key of a rule file hasn't the form that the file asks for\n         mend that line: a package is identifiers joined by `.`, with `.*` at its end for all below it\n"
+hint_text hint.BadValue = codes "migrate: a value of a rule file hasn't the form that the file asks for\n         mend that line: README.md lists for each file what a value may be\n"
+hint_text hint.MissingText = codes "migrate: `text.properties` names a file that the rule folder lacks\n         add the file, or mend its name\n"
+hint_text hint.Chain1 = codes "migrate: rules must not change what another rule gives: the first rename gives a package that the second renames\n         let the first give the last name at once, or remove one of the two\n"
+hint_text hint.Chain2 = codes "migrate: rules must not change what another rule gives: a rename gives a name that a direct rule changes\n         remove one of the two rules, or let both give the same name\n"
+hint_text hint.Chain3 = codes "migrate: rules must not change what another rule gives: a direct rule gives a string that the second direct rule changes\n         let the first give the last string at once, or remove one of the two\n"
+hint_text hint.Chain4 = codes "migrate: rules must not change what another rule gives: a direct rule gives a name that a rename changes\n         let the direct rule give the renamed name, or remove one of the two\n"
+hint_text hint.Chain5 = codes "migrate: rules must not change what another rule gives: a bundle update gives a name that the second update changes\n         let the first give the last name at once, or remove one of the two\n"
+hint_text hint.Chain6 = codes "migrate: the package that the first rename gives is itself, read as a class name, renamed by the second\n         give the first another package, or remove one of the two\n"
+hint_text hint.Chain7 = codes "migrate: the first rename gives, read as a class name, the very package that the second renames\n         give the first another package, or remove one of the two\n"
+hint_text hint.Chain8 = codes "migrate: the package that a rename gives is a string that a direct rule changes\n         remove the direct rule, or give the rename another package\n"
+hint_text hint.Chain9 = codes "migrate: a direct rule gives the package of a rename, which would change it once more\n         let the direct rule give the new package, or remove it\n"
+hint_text hint.Files = codes "migrate: the source holds more than 200,000 files\n         migrate it in parts, each with a target and a ledger of its own\n"
+hint_text hint.PathLength = codes "migrate: a path of the source, or its target, has more than 1,024 bytes\n         shorten the names of its folders, or leave the file out of the source\n"
+hint_text hint.FileSize = codes "migrate: a file of the source has more than 67,108,864 bytes\n         leave it out of the source, and copy it by hand\n"
+hint_text hint.Sum = codes "migrate: the files of the source have more than 1,073,741,824 bytes together\n         migrate it in parts, each with a target and a ledger of its own\n"
+hint_text hint.RuleFiles = codes "migrate: the rule folder holds more than 1,000 files\n         keep nothing but rule files there\n"
+hint_text hint.RuleSize = codes "migrate: a rule file has more than 1,048,576 bytes\n         keep nothing but rule files there, or split a long one\n"
+hint_text hint.Clash = codes "migrate: two files of the source would get one target, or the target of one would be a folder of the other's\n         rename or remove one of the two, or leave one out by `selection.properties`\n"
+hint_text hint.Other = codes "migrate: the ledger belongs to another run\n         name what it was made with, or another ledger: another one starts anew, and writes every file\n"
+hint_text hint.OtherRules = codes "migrate: the ledger belongs to a run with other rules\n         name what it was made with, or another ledger: another one starts anew, and writes every file\n"
+hint_text hint.OtherTarget = codes "migrate: the ledger belongs to a run with another target\n         name what it was made with, or another ledger: another one starts anew, and writes every file\n"
+hint_text hint.OtherTargetRules = codes "migrate: the ledger belongs to a run with other target and rules\n         name what it was made with, or another ledger: another one starts anew, and writes every file\n"
+hint_text hint.OtherSource = codes "migrate: the ledger belongs to a run with another source\n         name what it was made with, or another ledger: another one starts anew, and writes every file\n"
+hint_text hint.OtherSourceRules = codes "migrate: the ledger belongs to a run with other source and rules\n         name what it was made with, or another ledger: another one starts anew, and writes every file\n"
+hint_text hint.OtherSourceTarget = codes "migrate: the ledger belongs to a run with other source and target\n         name what it was made with, or another ledger: another one starts anew, and writes every file\n"
+hint_text hint.OtherSourceTargetRules = codes "migrate: the ledger belongs to a run with other source, target and rules\n         name what it was made with, or another ledger: another one starts anew, and writes every file\n"
+
+-- the hint of a chain of rules, by its kind
+abbrev pub chain_hint : ChainKind → Hint
+chain_hint chain.RenameThenRename = hint.Chain1
+chain_hint chain.RenameThenDirect = hint.Chain2
+chain_hint chain.DirectThenDirect = hint.Chain3
+chain_hint chain.DirectThenRename = hint.Chain4
+chain_hint chain.BundleThenBundle = hint.Chain5
+chain_hint chain.PackageThenName = hint.Chain6
+chain_hint chain.NameThenPackage = hint.Chain7
+chain_hint chain.PackageThenDirect = hint.Chain8
+chain_hint chain.DirectThenPackage = hint.Chain9
+
+-- the hint of a file that isn't one of properties
+abbrev pub prop_hint : PropFault → Hint
+prop_hint (NotUtf8 at) = hint.NotUtf8
+prop_hint (Escape at) = hint.Escape
+
+-- the hint of a fault of rule files
+abbrev pub rule_hint : RuleFault → Hint
+rule_hint rule.NoRenames = hint.NoRenames
+rule_hint (rule.Properties file fault) = prop_hint fault
+rule_hint (rule.BadKey file key) = hint.BadKey
+rule_hint (rule.BadValue file key) = hint.BadValue
+rule_hint (rule.MissingText key name) = hint.MissingText
+rule_hint (rule.Chain kind first second) = chain_hint kind
+
+-- the hint of a limit
+abbrev pub limit_hint : LimitKind → Hint
+limit_hint limit.Files = hint.Files
+limit_hint limit.PathLength = hint.PathLength
+limit_hint limit.FileSize = hint.FileSize
+limit_hint limit.Sum = hint.Sum
+limit_hint limit.RuleFiles = hint.RuleFiles
+limit_hint limit.RuleSize = hint.RuleSize
+
+-- the hint of a ledger of another run, by what of source, target and rules is the same
+abbrev pub same_hint : Bool → Bool → Bool → Hint
+same_hint true true true = hint.Other
+same_hint true true false = hint.OtherRules
+same_hint true false true = hint.OtherTarget
+same_hint true false false = hint.OtherTargetRules
+same_hint false true true = hint.OtherSource
+same_hint false true false = hint.OtherSourceRules
+same_hint false false true = hint.OtherSourceTarget
+same_hint false false false = hint.OtherSourceTargetRules
+
+abbrev pub other_hint : Header → Header → Hint
+other_hint kept wanted = same_hint (bytes_eq kept.from wanted.from) (bytes_eq kept.to wanted.to) (bytes_eq kept.rules.0 wanted.rules.0)
+
+-- the hint of a status
+abbrev pub hint_of : Status → Option Hint
+hint_of status.Done = None
+hint_of status.Refusals = Some hint.Refusals
+hint_of status.Memory = Some hint.Memory
+hint_of (status.FolderFault done) = Some hint.Folders
+hint_of (status.LedgerFault done) = Some hint.Ledger
+hint_of status.OutputFault = Some hint.Output
+hint_of status.Usage = Some hint.Usage
+hint_of (status.NestedRoots first second) = Some hint.Nested
+hint_of (status.BadRules fault) = Some (rule_hint fault)
+hint_of (status.Limit kind path) = Some (limit_hint kind)
+hint_of (status.PathClash first second) = Some hint.Clash
+hint_of (status.OtherRun kept wanted) = Some (other_hint kept wanted)

@@ -1,0 +1,164 @@
+//! Which word stands against words that ask for nothing.
+
+use desk_base::{Memory, Text, show_byte};
+use desk_options::{
+    GenerateValues, RunValues, generate_values, message_of_generate, message_of_run, run_values,
+};
+use std::alloc::Global;
+
+/// Adds the bytes of a text, each as it is shown.
+fn append_shown(line: &mut Text, text: &[u8]) -> Result<(), Memory> {
+    for byte in text {
+        line.append(show_byte(*byte).as_bytes())?;
+    }
+    Ok(())
+}
+
+/// The line of a word, and what is said of it.
+fn line_of(alloc: Global, word: &[u8], said: &[u8]) -> Result<Text, Memory> {
+    let mut line = Text::from_bytes(alloc, b"migrate: `")?;
+    append_shown(&mut line, word)?;
+    line.append(b"` ")?;
+    line.append(said)?;
+    line.append(b"\n")?;
+    Ok(line)
+}
+
+/// Whether a word is an option that holds its value, `--name=value`.
+fn holds_value(word: &[u8]) -> bool {
+    word.contains(&b'=')
+}
+
+/// The line of the first word that is no option, and no value of one: where an option is wanted, a word that doesn't
+/// begin with `--`; where a value is wanted, one that begins with `-`, or none.
+fn loose_word(alloc: Global, words: &[Text]) -> Result<Option<Text>, Memory> {
+    let mut name = None;
+    for word in words {
+        let bytes = word.as_bytes();
+        match name {
+            Some(_) if !bytes.starts_with(b"-") => name = None,
+            Some(option) => return Ok(Some(line_of(alloc, option, NO_VALUE)?)),
+            None if !bytes.starts_with(b"--") => return Ok(Some(line_of(alloc, bytes, NO_OPTION)?)),
+            None if !holds_value(bytes) => name = Some(bytes),
+            None => {}
+        }
+    }
+    match name {
+        Some(option) => Ok(Some(line_of(alloc, option, NO_VALUE)?)),
+        None => Ok(None),
+    }
+}
+
+const NO_VALUE: &[u8] =
+    b"has no value; one that begins with `-` is written in one word, as `--name=value`";
+
+const NO_OPTION: &[u8] = b"stands where an option is wanted, as `--rules R`";
+
+const NO_TASK: &[u8] = b"is no task: the first word is `run` or `generate`";
+
+const UPWARD: &[u8] =
+    b"leads to a folder above: a root holds no part `..`, so write its path without one";
+
+const NO_ROOT: &[u8] = b"is no root: one has 1 to 1,024 bytes";
+
+const NO_WORKERS: &[u8] = b"is no number of workers: 1 to 64, in decimal digits";
+
+const NO_COUNT: &[u8] = b"is no count: 1 to 20,000, in decimal digits";
+
+/// Whether a path has a part `..`.
+fn leads_upward(path: &[u8]) -> bool {
+    path.split(|byte| *byte == b'/')
+        .any(|part| part == b"..".as_slice())
+}
+
+/// The line of a root that is none.
+fn root_line(alloc: Global, root: &Text) -> Result<Option<Text>, Memory> {
+    let bytes = root.as_bytes();
+    if leads_upward(bytes) {
+        return Ok(Some(line_of(alloc, bytes, UPWARD)?));
+    }
+    if bytes.is_empty() || bytes.len() > 1024 {
+        return Ok(Some(line_of(alloc, bytes, NO_ROOT)?));
+    }
+    Ok(None)
+}
+
+/// The line of the first root that is none.
+fn roots_line(alloc: Global, values: &RunValues) -> Result<Option<Text>, Memory> {
+    for root in [&values.rules, &values.from, &values.to, &values.ledger] {
+        if let Some(line) = root_line(alloc, root)? {
+            return Ok(Some(line));
+        }
+    }
+    Ok(None)
+}
+
+/// The line of a number of workers that is none. It is asked where nothing else stands against the words.
+fn workers_line(alloc: Global, workers: &Option<Text>) -> Result<Option<Text>, Memory> {
+    match workers {
+        Some(number) => Ok(Some(line_of(alloc, number.as_bytes(), NO_WORKERS)?)),
+        None => Ok(None),
+    }
+}
+
+/// The line of words behind `run`.
+fn run_line(alloc: Global, words: &[Text]) -> Result<Option<Text>, Memory> {
+    if let Some(line) = loose_word(alloc, words)? {
+        return Ok(Some(line));
+    }
+    match run_values(alloc, words)? {
+        Some(values) => match roots_line(alloc, &values)? {
+            Some(line) => Ok(Some(line)),
+            None => workers_line(alloc, &values.workers),
+        },
+        None => message_of_run(alloc, words),
+    }
+}
+
+/// Whether a text is a number from 1 to 20,000 in decimal digits, without a leading zero.
+fn is_count(text: &[u8]) -> bool {
+    let digits = text.iter().all(|byte| byte.is_ascii_digit());
+    digits
+        && !text.is_empty()
+        && !text.starts_with(b"0")
+        && (text.len() < 5 || text.len() == 5 && text <= b"20000".as_slice())
+}
+
+/// The line of the values of `generate`.
+fn generate_value(alloc: Global, values: &GenerateValues) -> Result<Option<Text>, Memory> {
+    if !is_count(values.count.as_bytes()) {
+        return Ok(Some(line_of(alloc, values.count.as_bytes(), NO_COUNT)?));
+    }
+    workers_line(alloc, &values.workers)
+}
+
+/// The line of words behind `generate`.
+fn generate_line(alloc: Global, words: &[Text]) -> Result<Option<Text>, Memory> {
+    if let Some(line) = loose_word(alloc, words)? {
+        return Ok(Some(line));
+    }
+    match generate_values(alloc, words)? {
+        Some(values) => generate_value(alloc, &values),
+        None => message_of_generate(alloc, words),
+    }
+}
+
+/// Which word stands against words that ask for nothing (status 20), in a line of its own; where it is an option, in
+/// the words of `clap`. None where it can't be told. The only error is want of memory.
+pub fn words_hint(alloc: Global, words: &[Text]) -> Result<Option<Text>, Memory> {
+    match words {
+        [] => Ok(Some(Text::from_bytes(
+            alloc,
+            b"migrate: no words are given: the first is `run` or `generate`\n",
+        )?)),
+        [first, behind @ ..] => {
+            if first.as_bytes() == b"run".as_slice() {
+                run_line(alloc, behind)
+            } else if first.as_bytes() == b"generate".as_slice() {
+                generate_line(alloc, behind)
+            } else {
+                Ok(Some(line_of(alloc, first.as_bytes(), NO_TASK)?))
+            }
+        }
+    }
+}

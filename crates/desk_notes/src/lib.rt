@@ -1,0 +1,23 @@
+//! What the lines of a report and the keys of rule files say beside what they are for: archives that were copied unread,
+//! signatures that no longer fit, files by the reason of their refusal, and keys that look like a slip.
+//!
+//! ```text
+//! let mut notes = Notes::new(alloc);
+//! notes.take(b"written lib/a.jar lib/a.jar copy\n");
+//! notes.append_to(&mut text)?;                          // migrate: 1 archive was copied unread: ..
+//! ```
+#![tactic(auto)]
+
+mod keys;
+mod lines;
+mod names;
+mod notes;
+mod overheard;
+mod rules;
+
+pub use keys::{Slip, slip_of};
+pub use lines::{Said, is_archive, is_signature, read_line, unshown};
+pub use names::Names;
+pub use notes::{Notes, Refusals};
+pub use overheard::Overheard;
+pub use rules::rule_notes;

@@ -1,0 +1,111 @@
+//! The lines of a report, as they are read.
+
+use desk_base::{Memory, Text};
+use std::alloc::Global;
+
+/// What a line of a report says of a file, by its path as it is shown.
+#[derive(Clone, Copy, Debug, PartialEq, Eq)]
+pub enum Said<'a> {
+    /// The file was copied.
+    Copied(&'a [u8]),
+    /// Its target stands from an earlier run.
+    Kept,
+    /// It was refused, for the reason of this word and of the one behind it, which is empty where there is none.
+    Refused {
+        path: &'a [u8],
+        reason: &'a [u8],
+        kind: &'a [u8],
+    },
+    /// Anything else.
+    Other,
+}
+
+/// Reads a line of a report, without its line end. No text that is shown holds a space.
+pub fn read_line(line: &[u8]) -> Said<'_> {
+    let mut words = line.split(|byte| *byte == b' ');
+    let (first, second, third, fourth) = (words.next(), words.next(), words.next(), words.next());
+    match (first, second, third, fourth) {
+        (Some(b"written"), Some(path), Some(_), Some(b"copy")) => Said::Copied(path),
+        (Some(b"kept"), Some(_), Some(_), None) => Said::Kept,
+        (Some(b"refused"), Some(path), Some(reason), kind) => Said::Refused {
+            path,
+            reason,
+            kind: kind.unwrap_or(b""),
+        },
+        _ => Said::Other,
+    }
+}
+
+/// Whether a text ends with another, in small or capital letters of ASCII.
+fn ends_as(text: &[u8], end: &[u8]) -> bool {
+    match text.len().checked_sub(end.len()) {
+        Some(start) => text[start..].eq_ignore_ascii_case(end),
+        None => false,
+    }
+}
+
+/// Whether a path is that of an archive: `.jar`, `.war`, `.ear`, `.rar` or `.zip` at its end.
+pub fn is_archive(path: &[u8]) -> bool {
+    [b".jar", b".war", b".ear", b".rar", b".zip"]
+        .iter()
+        .any(|end| ends_as(path, end.as_slice()))
+}
+
+/// What stands behind the last `/` of a path.
+fn name_of(path: &[u8]) -> &[u8] {
+    match path.iter().rposition(|byte| *byte == b'/') {
+        Some(end) => &path[end + 1..],
+        None => path,
+    }
+}
+
+/// Whether a name is that of a signature file (JAR File Specification, Signed JAR File): `.SF`, `.RSA`, `.DSA` or `.EC`
+/// at its end, or `SIG-` at its start.
+fn is_signature_name(name: &[u8]) -> bool {
+    let front = name.len().min(4);
+    name[..front].eq_ignore_ascii_case(b"SIG-")
+        || ends_as(name, b".sf")
+        || ends_as(name, b".rsa")
+        || ends_as(name, b".dsa")
+        || ends_as(name, b".ec")
+}
+
+/// Whether a path is that of a signature file of an archive: directly in a folder `META-INF`.
+pub fn is_signature(path: &[u8]) -> bool {
+    let name = name_of(path);
+    let folder = &path[..path.len().saturating_sub(name.len())];
+    is_signature_name(name)
+        && (folder == b"META-INF/".as_slice() || folder.ends_with(b"/META-INF/"))
+}
+
+/// The value of a hexadecimal digit.
+fn digit_of(byte: u8) -> u8 {
+    match byte {
+        b'0'..=b'9' => byte.saturating_sub(b'0'),
+        b'a'..=b'f' => byte.saturating_sub(b'a').saturating_add(10),
+        _ => 0,
+    }
+}
+
+/// The text that is shown so: `\` and two hexadecimal digits are one byte. The only error is want of memory.
+pub fn unshown(alloc: Global, shown: &[u8]) -> Result<Text, Memory> {
+    let mut text = Text::empty(alloc);
+    let mut left = shown;
+    while let [first, rest @ ..] = left {
+        match (first, rest) {
+            (b'\\', [high, low, behind @ ..]) => {
+                text.push(
+                    digit_of(*high)
+                        .wrapping_mul(16)
+                        .wrapping_add(digit_of(*low)),
+                )?;
+                left = behind;
+            }
+            _ => {
+                text.push(*first)?;
+                left = rest;
+            }
+        }
+    }
+    Ok(text)
+}

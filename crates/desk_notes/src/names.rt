@@ -1,0 +1,57 @@
+//! The first ten of some names.
+
+ghost use Rattle.std.specs.Prelude.{◌≡◌, ◌≤◌, length};
+
+use desk_base::{Memory, Text, TextList};
+use std::alloc::Global;
+
+/// How many names are told.
+const MOST: usize = 10;
+
+/// Names, of which the first ten are kept, and how many they are.
+#[derive(Debug, Drop)]
+pub struct Names {
+    pub first: TextList,
+    pub count: u32,
+}
+
+impl Names {
+    /// No names. It takes no memory.
+    pub fn new(alloc: Global) -> Names
+        ensures first { length result.first ≡ 0 }
+        ensures count { result.count ≡ 0 }
+    {
+        Names {
+            first: TextList::empty(alloc),
+            count: 0,
+        }
+    }
+
+    /// Takes a name; it is kept where fewer than ten are. The only error is want of memory.
+    pub fn take(&mut self, alloc: Global, name: &[u8]) -> Result<(), Memory>
+        ensures { length self.old.first ≤ 10 → length self.new.first ≤ 10 }
+    {
+        self.count = self.count.saturating_add(1);
+        if self.first.len() < MOST {
+            self.first.push(Text::from_bytes(alloc, name)?)?;
+        }
+        Ok(())
+    }
+
+    /// Adds the line of what is said of these names, and a line for each that is kept. Where there are none it adds
+    /// nothing.
+    pub fn append_to(&self, text: &mut Text, said: &[u8]) -> Result<(), Memory> {
+        if self.count == 0 {
+            return Ok(());
+        }
+        text.append(b"migrate: ")?;
+        text.append(said)?;
+        text.append(b"\n")?;
+        for name in self.first.as_slice() {
+            text.append(b"migrate:   ")?;
+            text.append(name.as_bytes())?;
+            text.append(b"\n")?;
+        }
+        Ok(())
+    }
+}

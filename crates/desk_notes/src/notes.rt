@@ -1,0 +1,185 @@
+//! What is noted of a report.
+
+use crate::lines::{Said, is_archive, is_signature, read_line};
+use crate::names::Names;
+use desk_base::{Memory, Text};
+use itoa::Buffer;
+use std::alloc::Global;
+
+/// How long a line is at most that is read: two paths of 1,024 bytes, each byte shown by three, and some words.
+const LINE: usize = 8192;
+
+/// How many files were refused, by their reason.
+#[derive(Clone, Copy, Debug, PartialEq, Eq)]
+pub struct Refusals {
+    pub version: u32,
+    pub malformed: u32,
+    pub overlong: u32,
+    pub pool_full: u32,
+    pub twins: u32,
+    pub bad_line: u32,
+    pub unsettled: u32,
+    pub other: u32,
+}
+
+impl Refusals {
+    fn none() -> Refusals {
+        Refusals {
+            version: 0,
+            malformed: 0,
+            overlong: 0,
+            pool_full: 0,
+            twins: 0,
+            bad_line: 0,
+            unsettled: 0,
+            other: 0,
+        }
+    }
+
+    /// The count of a reason.
+    fn of(&mut self, reason: &[u8], kind: &[u8]) -> &mut u32 {
+        match (reason, kind) {
+            (b"malformed", b"version") => &mut self.version,
+            (b"malformed", _) => &mut self.malformed,
+            (b"overlong", _) => &mut self.overlong,
+            (b"pool-full", _) => &mut self.pool_full,
+            (b"twins", _) => &mut self.twins,
+            (b"bad-line", _) => &mut self.bad_line,
+            (b"unsettled", _) => &mut self.unsettled,
+            _ => &mut self.other,
+        }
+    }
+
+    /// Each count with what it counts.
+    fn rows(&self) -> [(u32, &'static [u8]); 8] {
+        [
+            (self.version, b"classes of a release that isn't read"),
+            (self.malformed, b"classes that aren't well-formed"),
+            (self.overlong, b"classes with a text that would be too long"),
+            (self.pool_full, b"classes whose constant pool is full"),
+            (self.twins, b"classes of which two members would become one"),
+            (
+                self.bad_line,
+                b"service files and manifests with a line that is none",
+            ),
+            (
+                self.unsettled,
+                b"texts that a second migration would change again",
+            ),
+            (self.other, b"others"),
+        ]
+    }
+}
+
+/// What is noted of a report whose bytes are taken one after another.
+#[derive(Debug, Drop)]
+pub struct Notes {
+    alloc: Global,
+    line: Text,
+    /// Archives that were copied unread.
+    pub archives: Names,
+    /// Signature files of archives.
+    pub signatures: Names,
+    /// Classes of a release that isn't read, by their paths as they are shown.
+    pub versions: Names,
+    pub refusals: Refusals,
+    pub kept: u32,
+}
+
+impl Notes {
+    /// No notes. It takes no memory.
+    pub fn new(alloc: Global) -> Notes {
+        Notes {
+            alloc,
+            line: Text::empty(alloc),
+            archives: Names::new(alloc),
+            signatures: Names::new(alloc),
+            versions: Names::new(alloc),
+            refusals: Refusals::none(),
+            kept: 0,
+        }
+    }
+
+    /// Takes a file that was copied.
+    fn copied(&mut self, path: &[u8]) -> Result<(), Memory> {
+        if is_archive(path) {
+            self.archives.take(self.alloc, path)
+        } else if is_signature(path) {
+            self.signatures.take(self.alloc, path)
+        } else {
+            Ok(())
+        }
+    }
+
+    /// Takes a file that was refused.
+    fn refused(&mut self, path: &[u8], reason: &[u8], kind: &[u8]) -> Result<(), Memory> {
+        let count = self.refusals.of(reason, kind);
+        *count = count.saturating_add(1);
+        if kind == b"version".as_slice() {
+            self.versions.take(self.alloc, path)
+        } else {
+            Ok(())
+        }
+    }
+
+    /// Takes a whole line. What memory doesn't suffice for is left out.
+    fn take_line(&mut self, line: &[u8]) {
+        let _ = match read_line(line) {
+            Said::Copied(path) => self.copied(path),
+            Said::Refused { path, reason, kind } => self.refused(path, reason, kind),
+            Said::Kept => {
+                self.kept = self.kept.saturating_add(1);
+                Ok(())
+            }
+            Said::Other => Ok(()),
+        };
+    }
+
+    /// Takes a byte of the report.
+    fn take_byte(&mut self, byte: u8) {
+        if byte == b'\n' {
+            let line = std::mem::replace(&mut self.line, Text::empty(self.alloc));
+            self.take_line(line.as_bytes());
+        } else if self.line.as_bytes().len() < LINE {
+            let _ = self.line.push(byte);
+        }
+    }
+
+    /// Takes bytes of the report, behind those that were taken.
+    pub fn take(&mut self, bytes: &[u8]) {
+        for byte in bytes {
+            self.take_byte(*byte);
+        }
+    }
+
+    /// Adds a line with the counts of refused files by their reasons, where there are some.
+    fn append_refusals(&self, text: &mut Text) -> Result<(), Memory> {
+        let mut front: &[u8] = b"migrate: refused: ";
+        for (count, what) in self.refusals.rows().iter() {
+            if *count > 0 {
+                text.append(front)?;
+                text.append(Buffer::new().format(*count).as_bytes())?;
+                text.append(b" ")?;
+                text.append(what)?;
+                front = b", ";
+            }
+        }
+        if front == b", ".as_slice() {
+            text.append(b"\n")?;
+        }
+        Ok(())
+    }
+
+    /// Adds what was noted, in lines that begin with `migrate: `. The only error is want of memory.
+    pub fn append_to(&self, text: &mut Text) -> Result<(), Memory> {
+        self.append_refusals(text)?;
+        self.archives.append_to(text, ARCHIVES)?;
+        self.signatures.append_to(text, SIGNATURES)
+    }
+}
+
+const ARCHIVES: &[u8] =
+    b"archives were copied unread; unpack them into folders of their names to have them migrated, the first of them:";
+
+const SIGNATURES: &[u8] =
+    b"signature files no longer fit what they sign; remove them, or sign anew, the first of them:";

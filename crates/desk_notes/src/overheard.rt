@@ -1,0 +1,53 @@
+//! A sink that is listened to.
+
+ghost use Rattle.std.specs.Prelude.{◌≡◌};
+
+use crate::notes::Notes;
+use desk_report::{Sink, SinkFault};
+use std::io::{IsTerminal, Write};
+
+/// A sink whose bytes are noted on their way. It tells what the sink tells. Before the first of them the line that
+/// stands on standard error is taken away, where that is a terminal, so that the report doesn't begin within it.
+#[derive(Drop)]
+pub struct Overheard<'r, O> {
+    rt: &'r HostRuntime,
+    is_begun: bool,
+    pub out: O,
+    pub notes: Notes,
+}
+
+/// Takes the line away that stands on a terminal.
+fn clear_line(rt: &HostRuntime) {
+    if rt.stderr().is_terminal() {
+        let _ = rt.stderr().write_all(b"\r\x1B[K");
+    }
+}
+
+impl<'r, O: Sink> Overheard<'r, O> {
+    /// The sink, of which nothing is noted yet. It takes no memory.
+    pub fn new(rt: &'r HostRuntime, out: O) -> Overheard<'r, O>
+        ensures { result.out ≡ out }
+    {
+        Overheard {
+            rt,
+            is_begun: false,
+            out,
+            notes: Notes::new(rt.alloc()),
+        }
+    }
+}
+
+impl<O: Sink> Sink for Overheard<'_, O> {
+    ghost told = { λ s. O.told s.out };
+
+    ghost faults = { λ s. O.faults s.out };
+
+    fn write(&mut self, bytes: &[u8]) -> Result<(), SinkFault> {
+        if !self.is_begun {
+            clear_line(self.rt);
+        }
+        self.is_begun = true;
+        self.notes.take(bytes);
+        self.out.write(bytes)
+    }
+}

@@ -1,0 +1,51 @@
+//! What `clap` says against words.
+
+use crate::joining::whole_words;
+use crate::parsing::{generate_command, run_command};
+use clap::Command;
+use desk_base::{Memory, Text};
+use std::alloc::Global;
+
+/// The first part of what `clap` says, behind `migrate: `; it ends at an empty line.
+fn first_part(alloc: Global, said: &str) -> Result<Text, Memory> {
+    let said = match said.split_once("\n\n") {
+        Some((first, _)) => first,
+        None => said.trim_end(),
+    };
+    let mut line = Text::from_bytes(alloc, b"migrate: ")?;
+    line.append(said.as_bytes())?;
+    line.push(b'\n')?;
+    Ok(line)
+}
+
+/// What `clap` says against words; none where they fit the command.
+fn message_of<'a>(
+    alloc: Global,
+    command: Command<'a>,
+    words: &'a [String],
+) -> Result<Option<Text>, Memory> {
+    match command.try_get_matches_from(words) {
+        Ok(_) => Ok(None),
+        Err(error) => match format!(in alloc; "{error}") {
+            Ok(said) => Ok(Some(first_part(alloc, said.as_str())?)),
+            Err(_) => Err(Memory),
+        },
+    }
+}
+
+/// What `clap` says against the words behind `run`, as `error: unexpected argument '--form' found`; none where it says
+/// nothing, and where they are no options. The only error is want of memory.
+pub fn message_of_run(alloc: Global, words: &[Text]) -> Result<Option<Text>, Memory> {
+    match whole_words(alloc, words)? {
+        Some(whole) => message_of(alloc, run_command(alloc)?, whole.as_slice()),
+        None => Ok(None),
+    }
+}
+
+/// The same of the words behind `generate`.
+pub fn message_of_generate(alloc: Global, words: &[Text]) -> Result<Option<Text>, Memory> {
+    match whole_words(alloc, words)? {
+        Some(whole) => message_of(alloc, generate_command(alloc)?, whole.as_slice()),
+        None => Ok(None),
+    }
+}

@@ -1,0 +1,106 @@
+//! Where a root is, as the system tells it.
+
+use crate::{Node, Place};
+use desk_base::{Memory, Text, TextList};
+use std::alloc::Global;
+use std::fs::{self, Metadata};
+use std::io::{self, ErrorKind};
+use std::os::unix::fs::MetadataExt;
+use std::path::{Path, PathBuf};
+use std::str;
+
+fn node_of(found: &Metadata) -> Node {
+    Node {
+        device: found.dev(),
+        inode: found.ino(),
+    }
+}
+
+/// What is there at a path, if it is; a link is followed.
+fn found_at(rt: &HostRuntime, path: &str) -> io::Result<Option<Metadata>> {
+    match fs::metadata(rt, path) {
+        Ok(found) => Ok(Some(found)),
+        Err(error)
+            if error.kind() == ErrorKind::NotFound || error.kind() == ErrorKind::NotADirectory => {
+            Ok(None)
+        }
+        Err(error) => Err(error),
+    }
+}
+
+/// The nodes above a path without links, from its folder to the top.
+fn nodes_above(rt: &HostRuntime, path: &PathBuf) -> io::Result<Vec<Node>> {
+    let mut above = Vec::new(rt.alloc());
+    for folder in Path::new(path.as_str()).ancestors().skip(1) {
+        above.push(node_of(&fs::metadata(rt, folder)?))?;
+    }
+    Ok(above)
+}
+
+/// The segments of a text behind the first so many.
+fn segments_behind(alloc: Global, text: &[u8]) -> Result<TextList, Memory> {
+    let mut rest = TextList::empty(alloc);
+    for segment in text.split(|byte| *byte == b'/') {
+        if !segment.is_empty() {
+            rest.push(Text::from_bytes(alloc, segment)?)?;
+        }
+    }
+    Ok(rest)
+}
+
+/// The place whose nearest node is found at a front of a path.
+fn place_behind(
+    rt: &HostRuntime,
+    front: &str,
+    found: &Metadata,
+    behind: &str,
+) -> io::Result<Option<Place>> {
+    let real = fs::canonicalize(rt, front)?;
+    let above = nodes_above(rt, &real)?;
+    match segments_behind(rt.alloc(), behind.as_bytes()) {
+        Ok(rest) => Ok(Some(Place {
+            nearest: node_of(found),
+            above,
+            rest,
+        })),
+        Err(Memory) => Ok(None),
+    }
+}
+
+/// The place of a path, whose front of so many bytes is looked at, if it is there.
+fn place_at(rt: &HostRuntime, path: &str, end: usize) -> io::Result<Option<Place>> {
+    let Some((front, behind)) = path.split_at_checked(end) else {
+        return Ok(None);
+    };
+    let front = match (front, path.starts_with('/')) {
+        ("", true) => "/",
+        ("", false) => ".",
+        (front, _) => front,
+    };
+    match found_at(rt, front)? {
+        Some(found) => place_behind(rt, front, &found, behind),
+        None => Ok(None),
+    }
+}
+
+/// Whether a path may be cut behind so many bytes: at its end, at a `/`, and at its start.
+fn may_end(path: &str, end: usize) -> bool {
+    end == 0 || end == path.len() || path.as_bytes().get(end) == Some(&b'/')
+}
+
+/// The place of a root as it is written: the longest front of it that is there. None where nothing is there, where it
+/// isn't UTF-8, and where memory is wanting; an error where the system refuses to tell.
+pub fn place_of(rt: &HostRuntime, root: &Text) -> io::Result<Option<Place>> {
+    let Ok(path) = str::from_utf8(root.as_bytes()) else {
+        return Ok(None);
+    };
+    for cut in 0..path.len() + 1 {
+        let end = path.len() - cut;
+        if may_end(path, end) {
+            if let Some(place) = place_at(rt, path, end)? {
+                return Ok(Some(place));
+            }
+        }
+    }
+    Ok(None)
+}

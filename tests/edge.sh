@@ -1,0 +1,379 @@
+#!/usr/bin/env bash
+# Runs the built program in each way in which it can be used wrongly, and compares the exit status, standard output byte by
+# byte, and standard error. The expected lines are written by hand.
+set -u
+cd "$(dirname "$0")/.."
+. tests/common.sh
+trap 'chmod -R u+rwX "$place"; rm -rf "$place"' EXIT
+chmod 755 "$place"
+cd "$place" || exit 1
+
+# check NAME WANTED GOT: the two texts are equal
+check() {
+  if [ "$2" = "$3" ]; then passed=$((passed + 1)); else failed=$((failed + 1)); printf 'differs: %s\nwanted: %s\ngot: %s\n' "$1" "$2" "$3" >&2; fi
+}
+
+# has NAME TEXT: the last run wrote a line with this text to standard error
+has() {
+  if grep -qF -- "$2" err; then passed=$((passed + 1)); else failed=$((failed + 1)); printf 'differs: %s\nwanted in standard error: %s\ngot: %s\n' "$1" "$2" "$(cat err)" >&2; fi
+}
+
+# hasnt NAME TEXT: the last run wrote no such line
+hasnt() {
+  if grep -qF -- "$2" err; then failed=$((failed + 1)); printf 'differs: %s\nin standard error: %s\n' "$1" "$(cat err)" >&2; else passed=$((passed + 1)); fi
+}
+
+as=
+# migrate WORD..: runs the program; out, err and status hold what it answered. It may not take longer than two minutes.
+migrate() {
+  timeout 120 $as "$program" "$@" >out 2>err
+  status=$?
+}
+
+# ends NAME STATUS LINE: the last run's status, and all of its standard output
+ends() {
+  check "$1: status" "$2" "$status"
+  check "$1: output" "$3" "$(cat out)"
+}
+
+usage='migrate: 20 usage: migrate run --rules R --from A --to B --ledger L [--workers N] or migrate generate --count N [--workers N]'
+
+# ---- words
+
+# wrong NAME SAID WORD..: words that ask for nothing, and what is said of them
+wrong() {
+  local name=$1 said=$2
+  shift 2
+  migrate "$@"
+  ends "$name" 20 "$usage"
+  has "$name: $said" "$said"
+  has "$name: hint" 'these words ask for nothing that can be done'
+}
+
+wrong 'no words' 'no words are given'
+wrong 'help' '`--help` is no task' --help
+wrong 'another task' '`migrate` is no task' migrate
+wrong 'an option that is none' "unexpected argument '--form'" run --rules r --form a --to b --ledger l
+wrong 'an option twice' "the argument '--from" run --rules r --from a --from b --to b --ledger l
+wrong 'a lacking option' '--ledger' run --rules r --from a --to b
+wrong 'a lacking value' '`--ledger` has no value' run --rules r --from a --to b --ledger
+wrong 'a value with a dash' '`--to` has no value' run --rules r --from a --to -b --ledger l
+wrong 'a loose word' '`b` stands where an option is wanted' run --rules r --from a b --ledger l
+wrong 'one dash' '`-f` stands where an option is wanted' run -f a
+wrong 'a root above' '`../app` leads to a folder above' run --rules r --from ../app --to b --ledger l
+wrong 'an empty root' '`` is no root' run --rules r --from= --to b --ledger l
+wrong 'too many workers' '`65` is no number of workers' run --rules r --from a --to b --ledger l --workers 65
+wrong 'no count' '`0` is no count' generate --count 0
+wrong 'a long count' '`20001` is no count' generate --count 20001
+wrong 'a word of bytes' "isn't in UTF-8" run --rules $'\xff' --from a --to b --ledger l
+
+# ---- an application
+
+# fresh: rules, an application, and nothing else
+fresh() {
+  chmod -R u+rwX . 2>/dev/null
+  rm -rf rules app to to2 ledger* work other sub
+  mkdir -p rules app/WEB-INF/classes
+  printf 'javax.servlet.*=jakarta.servlet\n' >rules/renames.properties
+  printf 'hello' >app/readme.txt
+  printf '<a/>' >app/WEB-INF/web.xml
+}
+
+report='written WEB-INF/web.xml WEB-INF/web.xml copy
+written readme.txt readme.txt copy
+total files=2 written=2 kept=0 refused=0 renamed=0 added=0'
+
+fresh
+migrate run --rules rules --from app --to to --ledger ledger
+ends 'a plain run' 0 "$report"
+check 'a plain run says nothing else' '' "$(cat err)"
+
+# ---- what failed
+
+folder_fault='migrate: 11 folder fault done=0'
+
+# fault NAME SAID: a run over the application ends with 11 and says this
+fault() {
+  migrate run --rules rules --from app --to to --ledger ledger
+  ends "$1" 11 "$folder_fault"
+  has "$1: $2" "$2"
+  has "$1: hint" 'the run stopped'
+}
+
+fresh; ln -s readme.txt app/link
+fault 'a symbolic link' 'migrate: listing app/link: it is a symbolic link'
+fresh; mkfifo app/WEB-INF/pipe
+fault 'a pipe' 'migrate: listing app/WEB-INF/pipe: it is neither a file nor a folder'
+fresh; rm -r app; printf 'PK' >app
+fault 'a source that is a WAR file' 'migrate: listing app: Not a directory'
+fresh; rm -r app
+fault 'a missing source' 'migrate: listing app: No such file or directory'
+fresh; rm -r rules
+fault 'missing rules' 'migrate: listing rules: No such file or directory'
+fresh; printf 'x' >$'app/WEB-INF/\xff'
+fault 'a name that is no UTF-8' "migrate: listing app/WEB-INF: a name in it isn't UTF-8"
+fresh; printf 'x' >to
+fault 'a file in place of the target' 'migrate: making to/WEB-INF/web.xml: Not a directory'
+fresh; mkdir -p to/readme.txt
+migrate run --rules rules --from app --to to --ledger ledger
+ends 'a folder in place of a file' 11 'migrate: 11 folder fault done=1'
+has 'a folder in place of a file: which' 'migrate: making to/readme.txt: Is a directory'
+fresh; mkdir -p other to; ln -s ../other to/WEB-INF
+fault 'a folder of the target that is a link' 'migrate: making to/WEB-INF/web.xml: it is a symbolic link'
+check 'and nothing is written through it' '' "$(ls other)"
+fresh; mkdir other; ln -s other to
+migrate run --rules rules --from app --to to --ledger ledger
+ends 'a target that is a link itself' 0 "$report"
+
+if [ "$(id -u)" = 0 ] && command -v setpriv >/dev/null; then
+  as='setpriv --reuid=65534 --regid=65534 --clear-groups'
+  if $as test -x "$program"; then
+    fresh; chmod 777 .; chmod 600 app/readme.txt
+    fault 'an unreadable file' 'migrate: reading app/readme.txt: Permission denied'
+    fresh; chmod 755 .; chmod 700 app/WEB-INF
+    fault 'an unreadable folder' 'migrate: listing app/WEB-INF: Permission denied'
+    fresh; chmod 755 .; mkdir sub
+    migrate run --rules rules --from app --to sub/to --ledger /dev/shm/edge-ledger-$$
+    ends 'a target without permission' 11 "$folder_fault"
+    has 'a target without permission: which' 'migrate: making sub/to/WEB-INF/web.xml: Permission denied'
+    rm -f /dev/shm/edge-ledger-$$*
+    migrate run --rules rules --from app --to to --ledger sub/ledger
+    ends 'a ledger without permission' 12 'migrate: 12 ledger fault done=0'
+    has 'a ledger without permission: which' 'migrate: opening the ledger sub/ledger: Permission denied'
+  fi
+  as=
+fi
+
+# ---- a source that changes while it is read
+
+# Large files are read first, and meanwhile the last file is exchanged for a pipe.
+ended=
+for delay in 0.1 0.3 0.6 1; do
+  fresh
+  for i in 1 2 3 4; do truncate -s 4M "app/large-$i"; done
+  printf 'x' >app/zz
+  (sleep "$delay"; mkfifo pipe && mv pipe app/zz) &
+  migrate run --rules rules --from app --to to --ledger ledger
+  wait
+  case $status in
+    0) ended="$ended whole" ;;
+    11) grep -qx 'migrate: \(reading\|listing\) app/zz: it is neither a file nor a folder' err && ended="$ended pipe" ;;
+    *) ended="$ended $status" ;;
+  esac
+done
+check 'a source that turns into a pipe never waits' '' "$(tr ' ' '\n' <<<"$ended" | grep -v -e '^$' -e whole -e pipe)"
+check 'and is told in each run' 4 "$(wc -w <<<"$ended")"
+
+# ---- files of length 0, as those of /proc
+
+fresh
+if [ -d /proc/sys/kernel/keys ]; then
+  for name in $(ls /proc/sys/kernel/keys); do printf 'written %s %s copy\n' "$name" "$name"; done | LC_ALL=C sort >wanted
+  count=$(wc -l <wanted)
+  printf 'total files=%s written=%s kept=0 refused=0 renamed=0 added=0\n' "$count" "$count" >>wanted
+  migrate run --rules rules --from /proc/sys/kernel/keys --to to --ledger ledger
+  ends 'files of length 0' 0 "$(cat wanted)"
+  check 'files of length 0: content' '' "$(for name in $(ls /proc/sys/kernel/keys); do cmp "/proc/sys/kernel/keys/$name" "to/$name"; done 2>&1)"
+fi
+
+# ---- roots that are one on the disk
+
+# nested NAME FIRST SECOND RULES FROM TO LEDGER: the run ends with 21 and changes nothing
+nested() {
+  local before after
+  before=$(find . -not -name out -not -name err -type f | LC_ALL=C sort | xargs sha256sum)
+  migrate run --rules "$4" --from "$5" --to "$6" --ledger "$7"
+  ends "$1" 21 "migrate: 21 nested roots $2 $3"
+  has "$1: hint" 'no root may lie where another would be changed'
+  after=$(find . -not -name out -not -name err -type f | LC_ALL=C sort | xargs sha256sum)
+  check "$1: nothing is changed" "$before" "$after"
+}
+
+fresh
+nested 'an absolute target' app "$place/app" rules app "$place/app" ledger
+nested 'an absolute target below the source' app "$place/app/x/y" rules app "$place/app/x/y" ledger
+nested 'an absolute source below the target' "$place/app/WEB-INF" app rules "$place/app/WEB-INF" app ledger
+ln -s app to
+nested 'a target that is a link to the source' app to rules app to ledger
+ln -s ../app/WEB-INF rules/app && rm rules/app
+ln -s app/WEB-INF to2
+nested 'a target that is a link into the source' app to2/new rules app to2/new ledger
+rm to2
+nested 'a target in the rules' rules "$place/rules/x" rules app "$place/rules/x" ledger
+nested 'a ledger in the source' "$place/app/l" app rules app to2 "$place/app/l"
+nested 'a ledger in the target' "$place/to2/l" to2 rules app to2 "$place/to2/l"
+nested 'a ledger in the rules' "$place/rules/l" rules rules app to2 "$place/rules/l"
+nested 'as they are written' app app/x rules app app/x ledger
+if mkdir other && mount --bind app other 2>/dev/null; then
+  nested 'a folder that is mounted twice' app other rules app other ledger
+  umount other
+fi
+
+# ---- one ledger from two working folders
+
+fresh
+mkdir -p work/rules work/app
+cp rules/* work/rules; cp -r app/. work/app
+migrate run --rules rules --from app --to to --ledger "$place/ledger"
+ends 'a first working folder' 0 "$report"
+cd work || exit 1
+migrate run --rules rules --from app --to to --ledger "$place/ledger"
+ends 'another working folder' 12 'migrate: 12 ledger fault done=0'
+has 'another working folder: why' 'its relative roots belong to another working folder'
+check 'another working folder: nothing is written' '' "$(ls -d to 2>/dev/null)"
+cd "$place" || exit 1
+migrate run --rules rules --from app --to to --ledger "$place/ledger"
+check 'the first one again' 'total files=2 written=0 kept=2 refused=0 renamed=0 added=0' "$(tail -1 out)"
+fresh
+migrate run --rules rules --from "$place/app" --to "$place/to" --ledger ledger
+mkdir work; cd work || exit 1
+migrate run --rules ../rules --from "$place/app" --to "$place/to" --ledger ../ledger
+check 'relative rules above' 20 "$status"
+migrate run --rules "$place/rules" --from "$place/app" --to "$place/to" --ledger "$place/ledger"
+check 'absolute roots from anywhere' 'total files=2 written=0 kept=2 refused=0 renamed=0 added=0' "$(tail -1 out)"
+cd "$place" || exit 1
+
+# ---- kept on trust
+
+fresh
+migrate run --rules rules --from app --to to --ledger ledger
+migrate run --rules rules --from app --to to --ledger ledger
+hasnt 'kept, and there' 'files were kept'
+rm to/readme.txt
+migrate run --rules rules --from app --to to --ledger ledger
+check 'kept on trust: status' 0 "$status"
+has 'kept on trust' 'the target folder holds fewer than these'
+rm -r to
+migrate run --rules rules --from app --to to --ledger ledger
+check 'kept without a target: output' 'kept WEB-INF/web.xml WEB-INF/web.xml
+kept readme.txt readme.txt
+total files=2 written=0 kept=2 refused=0 renamed=0 added=0' "$(cat out)"
+has 'kept without a target' 'the target folder holds fewer than these'
+
+# ---- what was not looked into
+
+fresh
+mkdir -p app/lib app/META-INF
+for i in $(seq -w 12); do printf 'PK' >"app/lib/a$i.jar"; done
+printf 'PK' >app/lib/B.WAR
+printf 'x' >app/META-INF/SIGNER.SF
+printf 'x' >app/META-INF/SIGNER.RSA
+printf '\xef\xbb\xbfjavax.servlet=jakarta.servlet\njavax.ejb.EJB=jakarta.ejb.EJB\njavax.jms=jakarta.jms\n' >rules/renames.properties
+migrate run --rules rules --from app --to to --ledger ledger
+check 'what was not looked into: status' 0 "$status"
+has 'archives' 'archives were copied unread'
+has 'the first archive' 'migrate:   lib/B.WAR'
+check 'at most ten archives' 10 "$(grep -c '^migrate:   lib/' err)"
+has 'signatures' 'migrate:   META-INF/SIGNER.SF'
+has 'a byte order mark' 'begin with a byte order mark'
+has 'a key with a mark' 'migrate:   \ef\bb\bfjavax.servlet'
+has 'a key as of a class' 'migrate:   javax.ejb.EJB'
+hasnt 'a key as it should be' 'migrate:   javax.jms'
+
+# ---- refused files
+
+fresh
+printf '\xca\xfe\xba\xbe\x00\x00\x00\x42' >app/WEB-INF/classes/New.class
+printf 'no class' >app/WEB-INF/classes/No.class
+migrate run --rules rules --from app --to to --ledger ledger
+check 'refused: status' 2 "$status"
+has 'the target is not ready' "the target isn't ready to be used"
+has 'counts by reason' "migrate: refused: 1 classes of a release that isn't read, 1 classes that aren't well-formed"
+has 'its release' 'migrate:   WEB-INF/classes/New.class is of Java 22'
+
+# ---- rules
+
+# badrules NAME LINE SAID TEXT: rules of this text end with 22
+badrules() {
+  fresh
+  printf "$4" >rules/renames.properties
+  migrate run --rules rules --from app --to to --ledger ledger
+  ends "$1" 22 "$2"
+  has "$1: $3" "$3"
+}
+
+badrules 'no renames' 'migrate: 22 no renames' 'has no `renames.properties`' ''
+badrules 'bytes' 'migrate: 22 properties renames.properties not-utf8 1' "isn't in UTF-8" 'a\xff=b\n'
+badrules 'an escape' 'migrate: 22 properties renames.properties escape 2' 'four hexadecimal digits' 'a=\\u12\n'
+badrules 'a key' 'migrate: 22 bad key renames.properties a..b' "a key of a rule file hasn't" 'a..b=c\n'
+badrules 'a value' 'migrate: 22 bad value renames.properties a' "a value of a rule file hasn't" 'a=b..c\n'
+badrules 'a chain' 'migrate: 22 chain 1 a b' 'the first rename gives a package that the second renames' 'a=b\nb=c\n'
+
+# ---- limits, clashes, another run
+
+fresh
+head -c 67108865 /dev/zero >app/large
+migrate run --rules rules --from app --to to --ledger ledger
+ends 'a large file' 23 'migrate: 23 limit file-size large'
+has 'a large file: hint' 'a file of the source has more than 67,108,864 bytes'
+fresh
+mkdir -p app/x.jar/javax/servlet app/x.jar/jakarta/servlet
+printf 'a' >app/x.jar/javax/servlet/n; printf 'b' >app/x.jar/jakarta/servlet/n
+migrate run --rules rules --from app --to to --ledger ledger
+ends 'a clash' 24 'migrate: 24 path clash x.jar/jakarta/servlet/n x.jar/javax/servlet/n'
+has 'a clash: hint' 'would get one target'
+fresh
+migrate run --rules rules --from app --to to --ledger ledger
+# sqlite3 moves what the log holds into the file, and takes the log away.
+command -v sqlite3 >/dev/null && sqlite3 ledger 'PRAGMA wal_checkpoint' >/dev/null && rm -f ledger-shm
+log=$(ls ledger-wal 2>/dev/null)
+migrate run --rules rules --from app --to to2 --ledger ledger
+check 'another target: status' 27 "$status"
+has 'another target: hint' 'the ledger belongs to a run with another target'
+check 'another target leaves no new log' "$log" "$(ls ledger-wal 2>/dev/null)"
+printf 'javax.jms=jakarta.jms\n' >>rules/renames.properties
+migrate run --rules rules --from app --to to --ledger ledger
+has 'other rules: hint' 'the ledger belongs to a run with other rules'
+migrate run --rules rules --from app/WEB-INF --to to2 --ledger ledger
+has 'all others: hint' 'the ledger belongs to a run with other source, target and rules'
+has 'what to do' 'another one starts anew'
+
+# ---- ledgers
+
+# ledger NAME: a ledger of this name is a file of this name
+named() {
+  fresh
+  migrate run --rules rules --from app --to to --ledger "$1"
+  ends "a ledger named ${1:0:20}" 0 "$report"
+  check "a ledger named ${1:0:20} is a file" 'SQLite format 3' "$(head -c 15 "./$1")"
+  migrate run --rules rules --from app --to to --ledger "$1"
+  check "a ledger named ${1:0:20} keeps" 'total files=2 written=0 kept=2 refused=0 renamed=0 added=0' "$(tail -1 out)"
+  rm -f "./$1" "./$1-wal"
+}
+named ':memory:'
+named 'file:x'
+named 'file:x?mode=memory'
+named "$(printf 'l%.0s' $(seq 247))"
+
+# noledger NAME LEDGER SAID: the run ends with 12 and says why
+noledger() {
+  migrate run --rules rules --from app --to to --ledger "$2"
+  ends "$1" 12 'migrate: 12 ledger fault done=0'
+  has "$1: $3" "$3"
+}
+fresh
+long=$(printf 'l%.0s' $(seq 255))
+noledger 'a ledger whose log has no room for its name' "$long" 'File name too long'
+check 'which leaves no file' '' "$(ls "$long" 2>/dev/null)"
+mkdir sub; printf 'no database' >sub/text
+noledger 'a ledger in a missing folder' missing/ledger 'migrate: opening the ledger missing/ledger: No such file or directory'
+noledger 'a folder as a ledger' sub 'migrate: opening the ledger sub: it is a folder'
+noledger 'a text as a ledger' sub/text 'migrate: opening the ledger sub/text: it is no database'
+noledger 'a ledger below a file' sub/text/l 'migrate: opening the ledger sub/text/l: Not a directory'
+mkfifo sub/pipe
+noledger 'a pipe as a ledger' sub/pipe 'migrate: opening the ledger sub/pipe: it is neither a file nor a folder'
+
+# ---- output
+
+fresh
+"$program" run --rules rules --from app --to to --ledger ledger >/dev/full 2>err
+check 'a full output: status' 13 "$?"
+has 'a full output' 'standard output took no more'
+"$program" run --rules rules --from app --to to --ledger ledger 2>/dev/full >out
+status=$?
+ends 'standard error that takes nothing' 0 'kept WEB-INF/web.xml WEB-INF/web.xml
+kept readme.txt readme.txt
+total files=2 written=0 kept=2 refused=0 renamed=0 added=0'
+
+echo "passed: $passed, failed: $failed"
+[ "$failed" = 0 ]
