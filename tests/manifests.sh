@@ -35,9 +35,16 @@ org.osgi.framework.*=org.example.renamed.osgi.core
 org.apache.commons.*=com.commons
 org.slf4j=org.slf4j.api.of.another.length
 END
-# renamed: standard input with the same packages renamed
+# renamed: standard input with the same packages renamed; the name of a section is a path
 renamed() {
   perl -pe '
+    if (/^  section /) {
+      s,^(  section )javax/servlet/,$1jakarta/servlet/,;
+      s,^(  section )org/osgi/framework/,$1org/example/renamed/osgi/core/,;
+      s,^(  section )org/apache/commons/,$1com/commons/,;
+      s,^(  section )org/slf4j/([^/ ]* \|),$1org/slf4j/api/of/another/length/$2,;
+      next;
+    }
     next unless /^  (main \| (Import-Package|Export-Package|DynamicImport-Package|Main-Class|Premain-Class|Agent-Class|Launcher-Agent-Class|Bundle-Activator) \||clause (Import|Export|DynamicImport)-?Package)/i;
     my $class = /^  main \| (Main|Premain|Agent|Launcher-Agent)-Class|^  main \| Bundle-Activator/i;
     s/(?<![\w.\$])javax\.servlet(?=[.;,"\s}=\]]|$)/jakarta.servlet/g;
@@ -48,14 +55,19 @@ renamed() {
   '
 }
 
+# ordered: the sections of each manifest in the order of their names, which renaming changes
+ordered() {
+  awk '/^[^ ]/ { count++ } { print count "\t" $0 }' | LC_ALL=C sort -s -t "$(printf '\t')" -k1,1n -k2,2 | cut -f2-
+}
+
 "$program" run --rules rules --from from --to out --ledger ledger >report
 status=$?
 printf '0\n' >wanted
 printf '%s\n' "$status" >got
 same "the exit status" wanted got
 
-read_manifests say from | renamed >wanted
-read_manifests say out >got
+read_manifests say from | renamed | ordered >wanted
+read_manifests say out | ordered >got
 same "what a JDK reads of $count manifests" wanted got
 
 # ---- no line is longer than 72 bytes where none was

@@ -148,9 +148,9 @@ def changed(path, text):
     return re.subn("|".join(map(re.escape, longest_first)), lambda found: rules[found.group()], text)
 
 
-def escaped(key):
-    """A key as a property file spells it."""
-    return re.sub(r"([ :=#!\\])", r"\\\1", key)
+def escaped(text):
+    """A key as a property file spells it; a value of such a file may be spelled so too."""
+    return re.sub(r"([ :=#!\\])", r"\\\1", text)
 
 
 def write(path, content):
@@ -170,7 +170,7 @@ def write_all(app, rules):
     write(os.path.join(rules, "renames.properties"), "javax.servlet.*=jakarta.servlet\n")
     write(os.path.join(rules, "text.properties"), "*.xml=text/xml.properties\n*.tld=text/xml.properties\n*.properties=text/names.properties\n")
     for name, entries in (("xml", XML), ("names", PROPERTIES)):
-        write(os.path.join(rules, "text", name + ".properties"), "".join(f"{escaped(key)}={value}\n" for key, value in entries.items()))
+        write(os.path.join(rules, "text", name + ".properties"), "".join(f"{escaped(key)}={escaped(value)}\n" for key, value in entries.items()))
 
 
 def shape(text):

@@ -20,8 +20,8 @@ use Rattle.desk_hints.specs.declared.hints.Hint.TheVariants as hint
 abbrev pub hint_text : Hint → Text
 hint_text hint.Refusals = codes "migrate: some files were refused, and nothing was written for them\n         the target isn't ready to be used until each line `refused` is dealt with: see the counts by reason\n"
 hint_text hint.Memory = codes "migrate: memory ran out, so the run stopped\n         give it more memory and run again: what was written and noted in the ledger is kept\n"
-hint_text hint.Folders = codes "migrate: a file or folder could not be used as it should, so the run stopped\n         put right what is said below and run again: the run goes on where it stopped\n"
-hint_text hint.Ledger = codes "migrate: the ledger could not be used, so the run stopped\n         put right what is said below and run again, or name another ledger, which starts anew\n"
+hint_text hint.Folders = codes "migrate: a file or folder could not be used as it should, so the run stopped\n         put right what is said above and run again: the run goes on where it stopped\n"
+hint_text hint.Ledger = codes "migrate: the ledger could not be used, so the run stopped\n         put right what is said above and run again, or name another ledger, which starts anew\n"
 hint_text hint.Output = codes "migrate: standard output took no more, so the report isn't whole; all files are done\n         run again with an output that takes it: the files are kept, and the report is printed\n"
 hint_text hint.Usage = codes "migrate: these words ask for nothing that can be done\n         give the words as in the line of usage; README.md says each\n"
 hint_text hint.Nested = codes "migrate: no root may lie where another would be changed: source and target, rules and target, the ledger in any\n         name a target and a ledger that lie in none of the other folders\n"

@@ -140,9 +140,9 @@ impl Hint {
             Hint::Memory =>
                 b"migrate: memory ran out, so the run stopped\n         give it more memory and run again: what was written and noted in the ledger is kept\n",
             Hint::Folders =>
-                b"migrate: a file or folder could not be used as it should, so the run stopped\n         put right what is said below and run again: the run goes on where it stopped\n",
+                b"migrate: a file or folder could not be used as it should, so the run stopped\n         put right what is said above and run again: the run goes on where it stopped\n",
             Hint::Ledger =>
-                b"migrate: the ledger could not be used, so the run stopped\n         put right what is said below and run again, or name another ledger, which starts anew\n",
+                b"migrate: the ledger could not be used, so the run stopped\n         put right what is said above and run again, or name another ledger, which starts anew\n",
             Hint::Output =>
                 b"migrate: standard output took no more, so the report isn't whole; all files are done\n         run again with an output that takes it: the files are kept, and the report is printed\n",
             Hint::Usage =>

@@ -1,6 +1,6 @@
 //! A keeper over an SQLite file.
 
-ghost use Rattle.std.specs.Prelude.{◌≡◌, ◌≤◌, ◌⊎◌, None, Some, Ok, Err, ◌↔◌, [], IsTrue, IsSome, IfOk, IfSome, OnOk, OnErr, option_map};
+ghost use Rattle.std.specs.Prelude.{◌≡◌, ◌≤◌, ◌⊎◌, None, Some, Err, [], IsTrue, IsSome, IfOk, IfSome, OnOk, OnErr, option_map};
 ghost use Rattle.std.specs.FinMap as fin;
 ghost use Rattle.desk_base.specs.Counts.{Rose};
 ghost use Rattle.desk_ledger.specs.Ledger.{NoneWaits, row_at, with_header, with_row, without_row};
@@ -58,7 +58,7 @@ impl<'r> SqliteKeeper<'r> {
         }
     }
 
-    /// Counts a fault and remembers it.
+    /// Counts a fault and remembers it. After an answer the last fault stays.
     fn note(&mut self, tried: Tried, path: Option<&Text>, refusal: Refusal) -> KeeperFault
         ensures opened { self.new.opened ≡ self.old.opened }
         ensures counts { self.old.faults ≤ self.new.faults }
@@ -70,24 +70,6 @@ impl<'r> SqliteKeeper<'r> {
         self.faults = self.faults.saturating_add(1);
         self.last = self.fault_at(tried, path, cause).ok();
         KeeperFault::Failed
-    }
-
-    /// Counts a fault where a call failed, and remembers it. After an answer the last fault stays.
-    fn count<T>(
-        &mut self,
-        tried: Tried,
-        path: Option<&Text>,
-        outcome: Result<T, Refusal>,
-    ) -> Result<T, KeeperFault>
-        ensures same { (x : T) → (result ≡ Ok x) ↔ (outcome ≡ Ok x) }
-        ensures opened { self.new.opened ≡ self.old.opened }
-        ensures counts { self.old.faults ≤ self.new.faults }
-        ensures failed { result ≡ Err KeeperFault.Failed → Rose self.old.faults self.new.faults }
-    {
-        match outcome {
-            Ok(answer) => Ok(answer),
-            Err(refusal) => Err(self.note(tried, path, refusal)),
-        }
     }
 
     /// The last fault, where there was one and memory sufficed to remember it.
@@ -138,10 +120,7 @@ impl<'r> SqliteKeeper<'r> {
             return Ok(());
         }
         let opened = Opened::at(self.rt, name)?;
-        let Ok(boxed) = Box::new(self.rt.alloc(), opened) else {
-            return Err(Refusal::Memory);
-        };
-        self.opened = Some(boxed);
+        self.opened = Some(Box::new(self.rt.alloc(), opened)?);
         Ok(())
     }
 }
@@ -166,7 +145,10 @@ impl Keeper for SqliteKeeper<'_> {
         ensures failed { result ≡ Err KeeperFault.Failed → Rose self.old.faults self.new.faults }
     {
         let opened = self.open(name);
-        self.count(Tried::Opening, Some(name), opened)
+        match opened {
+            Ok(()) => Ok(()),
+            Err(refusal) => Err(self.note(Tried::Opening, Some(name), refusal)),
+        }
     }
 
     /// It answers from memory.
@@ -202,7 +184,10 @@ impl Keeper for SqliteKeeper<'_> {
             Some(opened) => opened.set_header(self.rt, header),
             None => unreachable!(),
         };
-        self.count(Tried::Keeping, None, set)
+        match set {
+            Ok(()) => Ok(()),
+            Err(refusal) => Err(self.note(Tried::Keeping, None, refusal)),
+        }
     }
 
     /// It answers from memory.
@@ -239,7 +224,10 @@ impl Keeper for SqliteKeeper<'_> {
             Some(opened) => opened.put(row),
             None => unreachable!(),
         };
-        self.count(Tried::Keeping, None, put)
+        match put {
+            Ok(()) => Ok(()),
+            Err(refusal) => Err(self.note(Tried::Keeping, None, refusal)),
+        }
     }
 
     /// The rows that wait are written, and the row is gone from the file, when it answers.
@@ -258,7 +246,10 @@ impl Keeper for SqliteKeeper<'_> {
             Some(opened) => opened.forget(target),
             None => unreachable!(),
         };
-        self.count(Tried::Keeping, None, forgotten)
+        match forgotten {
+            Ok(()) => Ok(()),
+            Err(refusal) => Err(self.note(Tried::Keeping, None, refusal)),
+        }
     }
 
     /// Writes the rows that wait, in one transaction; after an error they go on waiting.
@@ -273,6 +264,9 @@ impl Keeper for SqliteKeeper<'_> {
         ensures failed { result ≡ Err KeeperFault.Failed → Rose self.old.faults self.new.faults }
     {
         let written = self.write_waiting();
-        self.count(Tried::Keeping, None, written)
+        match written {
+            Ok(()) => Ok(()),
+            Err(refusal) => Err(self.note(Tried::Keeping, None, refusal)),
+        }
     }
 }

@@ -1,30 +1,31 @@
 //! Folders in memory, call by call.
 
 ghost use Rattle.desk_base.specs.Paths.{is_root};
-ghost use Rattle.std.specs.Prelude.{◌≤◌, IsTrue};
+ghost use Rattle.std.specs.Prelude.{◌≡◌, ◌≤◌, IfOk, IsTrue};
 
 use crate::place::holds;
-use desk_base::Text;
+use desk_base::{Memory, Text};
 use desk_folders::{FolderFault, Folders, GenFile, MemoryFolders};
 use std::alloc::Global;
 use std::test::Fail;
 
-/// Four files, two of one path.
-const FILES: &[(&[u8], &[u8])] = &[
-    (b"in/a", b"1"),
-    (b"in/b/c", b"2"),
-    (b"in/a", b"345"),
-    (b"/in/z", b"6"),
-];
+/// A file of a path.
+fn file(alloc: Global, path: &[u8], content: &[u8]) -> Result<GenFile, Memory>
+    ensures { IfOk result (λ file. file.path ≡ path.now) }
+{
+    let path = Text::from_bytes(alloc, path)?;
+    let content = Text::from_bytes(alloc, content)?;
+    Ok(GenFile { path, content })
+}
 
-/// Folders with the four files.
+/// Folders with four files, two of one path.
 fn four_files(alloc: Global) -> Result<Box<MemoryFolders>, Fail> {
-    let mut files = Vec::new(alloc);
-    for (path, content) in FILES {
-        let path = Text::from_bytes(alloc, path)?;
-        let content = Text::from_bytes(alloc, content)?;
-        files.push(GenFile { path, content })?;
-    }
+    let files = vec![in alloc;
+        file(alloc, b"in/a", b"1")?,
+        file(alloc, b"in/b/c", b"2")?,
+        file(alloc, b"in/a", b"345")?,
+        file(alloc, b"/in/z", b"6")?,
+    ]?;
     let folders = MemoryFolders::new(alloc, files, Vec::new(alloc))?;
     Ok(Box::new(alloc, folders)?)
 }
