@@ -312,6 +312,30 @@ printf 'a' >app/x.jar/javax/servlet/n; printf 'b' >app/x.jar/jakarta/servlet/n
 migrate run --rules rules --from app --to to --ledger ledger
 ends 'a clash' 24 'migrate: 24 path clash x.jar/jakarta/servlet/n x.jar/javax/servlet/n'
 has 'a clash: hint' 'would get one target'
+
+# class NAME: the bytes of a class of this name
+class() {
+  printf '\312\376\272\276\0\0\0\064\0\005\001\0'
+  printf "\\$(printf '%03o' "${#1}")%s" "$1"
+  printf '\007\0\001\001\0\020java/lang/Object\007\0\003\0\041\0\002\0\004\0\0\0\0\0\0\0\0'
+}
+
+fresh
+mkdir -p app/a.jar/javax/servlet app/b.jar/jakarta/servlet
+class javax/servlet/N >app/a.jar/javax/servlet/N.class
+class jakarta/servlet/N >app/b.jar/jakarta/servlet/N.class
+migrate run --rules rules --from app --to to --ledger ledger
+ends 'two names' 25 'migrate: 25 name clash jakarta/servlet/N javax/servlet/N jakarta/servlet/N'
+has 'two names: hint' 'would get one name'
+check 'two names: nothing is written' '' "$(ls -d to ledger* 2>/dev/null)"
+fresh
+mkdir -p app/a.jar/javax/servlet
+class javax/servlet/N >app/a.jar/javax/servlet/N.class
+printf 'a.jar/*=!\n' >rules/selection.properties
+migrate run --rules rules --from app --to to --ledger ledger
+ends 'a class left behind' 26 'migrate: 26 stranded a.jar/javax/servlet/N.class javax/servlet/N'
+has 'a class left behind: hint' 'names a class of the source that is renamed'
+check 'a class left behind: nothing is written' '' "$(ls -d to ledger* 2>/dev/null)"
 fresh
 migrate run --rules rules --from app --to to --ledger ledger
 # sqlite3 moves what the log holds into the file, and takes the log away.

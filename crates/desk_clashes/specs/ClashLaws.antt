@@ -1,9 +1,10 @@
 -- Laws of targets that clash, and of those that don't.
-use Rattle.std.proofs.Common.{◌≡◌, ◌≢◌, ℕ, zero, suc, ◌+◌, ◌<◌, ◌≤◌, ◌⊎◌, inl, inr, Bool, true, false, cond, ◌||◌, ◌&&◌, eqb, List, [], ◌∷◌, ◌++◌, length, get_or, Option, Some, None, refl, sym, ap, ◌∙◌, arith}
+use Rattle.std.proofs.Common.{◌≡◌, ◌≢◌, ℕ, zero, suc, ◌+◌, ◌<◌, ◌≤◌, ◌⊎◌, inl, inr, Bool, true, false, cond, ◌||◌, ◌&&◌, eqb, List, [], ◌∷◌, ◌++◌, length, get_or, Option, Some, None, refl, sym, ap, ap₂, ◌∙◌, arith}
 use Rattle.std.specs.List.{position_from}
 use Rattle.std.specs.Option.{option_map_or}
 use Rattle.std.specs.Str.{bytes_eq}
 use Rattle.std.proofs.lemmas.Slice.Eq.{bytes_eq-Decides}
+use Rattle.std.proofs.lemmas.Bool.{false_from_ne_true}
 use Rattle.std.proofs.lemmas.Bool.Decides.{nat_tests}
 use Rattle.desk_base.specs.Names.{Text}
 use Rattle.desk_base.specs.Paths.{folder, full}
@@ -62,6 +63,25 @@ apart_from n (t ∷ ts) e = by (apart_from (n + 1) ts) (position_from (clashes t
 -- where no pair clashes, each two targets lie apart
 pub all_apart : (targets : List Text) → first_clash targets ≡ None → AllApart targets
 all_apart targets e = apart_from 0 targets e
+
+-- targets that lie apart don't clash
+pub no_clash : (one other : Text) → Apart one other → clashes one other ≡ false
+no_clash one other a =
+    let different : bytes_eq one other ≡ false = false_from_ne_true (bytes_eq one other) (λ e. a.differ ((bytes_eq-Decides one other).0 e)) in
+    ap (λ (b : Bool). b || (is_folder one other || is_folder other one)) different ∙ ap₂ (λ (x y : Bool). x || y) a.no_folder a.not_within
+
+no_position : (t : Text) (k : ℕ) (ts : List Text) → ApartFromAll t ts → position_from (clashes t) k ts ≡ None
+no_position t k [] a = refl
+no_position t k (u ∷ us) a = ap (λ (b : Bool). cond b (Some k) (position_from (clashes t) (k + 1) us)) (no_clash t u a.0) ∙ no_position t (k + 1) us a.1
+
+none_from : (n : ℕ) (ts : List Text) → AllApart ts → clash_from n ts ≡ None
+none_from n [] a = refl
+none_from n (t ∷ ts) a =
+    ap (λ (o : Option ℕ). option_map_or {U = Option Clash} (λ j. Some (record { first = n; second = j })) o (clash_from (n + 1) ts)) (no_position t (n + 1) ts a.0) ∙ none_from (n + 1) ts a.1
+
+-- where each two targets lie apart, no pair clashes
+pub none_clash : (targets : List Text) → AllApart targets → first_clash targets ≡ None
+none_clash targets a = none_from 0 targets a
 
 apart_at : (t : Text) (ts : List Text) (j : ℕ) → ApartFromAll t ts → j < length ts → Apart t (get_or ts j [])
 apart_at t [] j a h = absurd (omega arith)

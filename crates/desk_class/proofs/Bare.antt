@@ -18,8 +18,8 @@ use Rattle.desk_format.specs.Members.{members}
 use Rattle.desk_format.specs.Layouts.{Layout, Check, any}
 use Rattle.desk_format.specs.Rows.{u1, u2, rows, many, slot_layout, row_layout, table_layout, Case, at, from, tag_branch}
 use Rattle.desk_format.specs.Frames.{verification_type, frame}
-use Rattle.desk_format.specs.Annotations.{element, element_value, element_cases, annotation_of, annotation, target, type_annotation}
-use Rattle.desk_format.specs.Attributes.{Row, row_of, no_attributes, is_among, body_by, body_at, attribute_named, inner_attributes, attributes_of}
+use Rattle.desk_format.specs.Annotations.{element, element_cases, annotation, target, type_annotation}
+use Rattle.desk_format.specs.Attributes.{row_of, no_attributes, is_among, body_by, attribute_named, inner_attributes, attributes_of}
 use Rattle.desk_format.specs.Reading.{Got, Reader, item, number_at, raw_at, index_at, nothing_at, and_then, times, value_of, name_of, fenced, attribute_at, read}
 use Rattle.desk_format.proofs.Steps.{ok_is, then_ok, item_ok, fenced_ok}
 

@@ -1,5 +1,5 @@
 -- The body of a class, part by part.
-use Rattle.std.proofs.Common.{◌≡◌, ◌∙◌, List, [], ◌∷◌, Result, Ok, Err, true, false}
+use Rattle.std.proofs.Common.{◌≡◌, ◌∙◌, List, Result, Ok, Err, true, false}
 use Rattle.desk_base.specs.Spot.{Spot}
 use Rattle.desk_base.specs.declared.faults.ReadFault.{ReadFault}
 use Rattle.desk_base.specs.declared.kinds.Used.{Used}
@@ -14,8 +14,8 @@ use Rattle.desk_format.specs.Reading.{read}
 use Rattle.desk_format.specs.Walk.{walk, walk_at, Walks}
 use Rattle.desk_format.specs.Walk.{Stops as WalkStops}
 use Rattle.desk_pool.specs.Seen.{Stops}
-use Rattle.desk_class.specs.Scan.{Scan, scan, scan_at, Scans, class_head, interfaces, member_layout}
-use Rattle.desk_class.proofs.Bare.{Bare, bare_row, bare_attributes}
+use Rattle.desk_class.specs.Scan.{scan, scan_at, Scans, class_head, interfaces, member_layout}
+use Rattle.desk_class.proofs.Bare.{bare_row, bare_attributes}
 use Rattle.desk_class.proofs.Scans.{row_scans, row_scan_stopped, row_scan_last, bare_scans, part_stops}
 
 abbrev of_fields : Layout

@@ -1,8 +1,7 @@
 -- A field or method, by what stands in front; and the index of this class.
-use Rattle.std.proofs.Common.{◌≡◌, ℕ, ◌+◌, ◌-◌, Bool, true, false, List, [], ◌∷◌, ◌++◌, take, drop, None, Result, Ok, Err, refl, sym, ap, ◌∙◌, arith}
+use Rattle.std.proofs.Common.{◌≡◌, ℕ, ◌+◌, ◌-◌, Bool, true, false, List, [], ◌∷◌, ◌++◌, take, drop, None, Result, Ok, Err, sym, ap, ◌∙◌, arith}
 use Rattle.std.specs.Int.{w16, from_be_bytes}
-use Rattle.desk_base.specs.Spot.{Spot, past}
-use Rattle.desk_base.specs.declared.faults.Malformed.{Malformed}
+use Rattle.desk_base.specs.Spot.{Spot}
 use Rattle.desk_base.specs.declared.faults.ReadFault.{ReadFault}
 use Rattle.desk_base.specs.declared.faults.ReadFault.TheVariants as read_faults
 use Rattle.desk_base.specs.declared.kinds.Used.{Used}
@@ -12,17 +11,17 @@ use Rattle.desk_base.specs.Entries.{Pool}
 use Rattle.desk_base.specs.Misfits.{misfit}
 use Rattle.desk_format.specs.declared.members.Member.{Member}
 use Rattle.desk_format.specs.Trees.{Tree, Use, uses}
-use Rattle.desk_format.specs.Members.{members, member_in}
+use Rattle.desk_format.specs.Members.{member_in}
 use Rattle.desk_format.specs.Layouts.{Layout, any}
 use Rattle.desk_format.specs.Rows.{row_layout}
 use Rattle.desk_format.specs.Attributes.{attributes_of}
 use Rattle.desk_format.specs.Reading.{Got, Failed, Reader, number_at, index_at, and_then, read, marked, member_at}
-use Rattle.desk_format.specs.Walk.{Walk, walk, walk_at, walked}
+use Rattle.desk_format.specs.Walk.{Walk, walk, walk_at}
 use Rattle.desk_format.specs.Walk.{Stops as WalkStops}
 use Rattle.desk_format.proofs.Steps.{got_of, then_ok, item_ok}
 use Rattle.desk_format.proofs.Walks.{walk_ok, walk_err}
 use Rattle.desk_pool.specs.Seen.{Stops}
-use Rattle.desk_class.specs.Scan.{Scan, scan, scan_at, scanned, number_ahead, descriptor_kind, member_place, head_layout, member_layout, member_ahead}
+use Rattle.desk_class.specs.Scan.{scan, scan_at, scanned, descriptor_kind, member_place, head_layout, member_layout, member_ahead}
 
 -- what stands behind two bytes that were read into a tree
 record Behind (second : Reader) (at : ℕ) (s : List ℕ) (t : Tree Use) (got : Got) : Type 0 where

@@ -1,5 +1,5 @@
 -- Scanning by one reader and then by another.
-use Rattle.std.proofs.Common.{◌≡◌, ℕ, zero, suc, take, drop, None, ◌+◌, ◌-◌, ◌<◌, ◌≤◌, List, [], ◌++◌, Result, Ok, Err, refl, sym, ap, ap₂, ◌∙◌, append_assoc, append-nil, arith}
+use Rattle.std.proofs.Common.{◌≡◌, ℕ, zero, suc, take, drop, None, ◌+◌, ◌-◌, ◌<◌, ◌≤◌, List, ◌++◌, Result, Ok, Err, refl, sym, ap, ap₂, ◌∙◌, append_assoc, append-nil, arith}
 use Rattle.std.specs.Int.{w16, from_be_bytes}
 use Rattle.desk_base.specs.Spot.{Spot}
 use Rattle.desk_base.specs.declared.faults.Malformed.{Malformed}
@@ -12,10 +12,10 @@ use Rattle.desk_format.specs.Trees.{Tree, Use, uses}
 use Rattle.desk_format.specs.Members.{members}
 use Rattle.desk_format.specs.Layouts.{Layout, any}
 use Rattle.desk_format.specs.Reading.{Got, Failed, Reader, behind, goes_on, nothing_at, number_at, and_then, times, read, value_of}
-use Rattle.desk_format.specs.Walk.{Walk, walk, walk_at, walked, Walks}
+use Rattle.desk_format.specs.Walk.{Walk, walk, walk_at, Walks}
 use Rattle.desk_format.specs.Walk.{Stops as WalkStops}
 use Rattle.desk_format.proofs.Steps.{item_ok}
-use Rattle.desk_format.proofs.Walks.{walk_ok, walk_err, walking, failing}
+use Rattle.desk_format.proofs.Walks.{walk_ok, walk_err, walking}
 use Rattle.desk_pool.specs.Seen.{Stops}
 use Rattle.desk_class.specs.Scan.{Scan, scan, scan_at, scanned, Scans}
 use Rattle.desk_class.proofs.Bare.{Bare, NoMembers, none_read}

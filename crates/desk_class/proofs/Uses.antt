@@ -1,5 +1,5 @@
 -- Indices, attributes and interfaces, as a walk goes through them.
-use Rattle.std.proofs.Common.{◌≡◌, ℕ, zero, suc, Bool, true, false, cond, ◌==◌, List, [], ◌∷◌, ◌++◌, take, Option, Some, None, Result, Ok, Err, refl, sym, ap, ◌∙◌}
+use Rattle.std.proofs.Common.{◌≡◌, ℕ, zero, suc, Bool, true, false, cond, ◌==◌, List, [], ◌∷◌, ◌++◌, take, Option, None, Result, Ok, Err, refl, sym, ap, ◌∙◌}
 use Rattle.std.specs.Int.{w16, from_be_bytes}
 use Rattle.desk_base.specs.Spot.{Spot}
 use Rattle.desk_base.specs.declared.faults.ReadFault.{ReadFault}
@@ -7,15 +7,13 @@ use Rattle.desk_base.specs.declared.kinds.Used.{Used}
 use Rattle.desk_base.specs.declared.kinds.UseKind.{UseKind}
 use Rattle.desk_base.specs.declared.kinds.UseKind.TheVariants as kinds
 use Rattle.desk_base.specs.Entries.{Pool}
-use Rattle.desk_format.specs.declared.attributes.Place.{Place}
 use Rattle.desk_format.specs.declared.attributes.Slot.TheVariants.{Number, Index}
 use Rattle.desk_format.specs.Layouts.{Layout, any}
 use Rattle.desk_format.specs.Trees.{text_use, uses_of}
-use Rattle.desk_format.specs.Attributes.{attributes_of, attribute_named, body_at}
-use Rattle.desk_format.specs.Reading.{Failed, Reader, number_at, attribute_at, read, times, and_then, nothing_at}
+use Rattle.desk_format.specs.Reading.{Failed, number_at, read, times}
 use Rattle.desk_format.specs.Rows.{row_layout}
-use Rattle.desk_format.specs.Walk.{Walk, walk, walk_at, Walks, Stops}
-use Rattle.desk_format.proofs.Walks.{attributes_walk, attributes_stop, table_walks, table_stops, stops, row_last, then_walks, then_fails}
+use Rattle.desk_format.specs.Walk.{Walk, walk, Walks, Stops}
+use Rattle.desk_format.proofs.Walks.{table_walks, table_stops, stops, row_last, then_walks, then_fails}
 use Rattle.desk_class.specs.Scan.{class_kind, interfaces}
 
 same : (x : Bool) (o : Option Used) → o ≡ None → cond x None o ≡ None

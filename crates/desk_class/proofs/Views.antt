@@ -1,26 +1,26 @@
 -- What a view of a class keeps, and the fault of bytes that are no class, by what was read of them.
-use Rattle.std.proofs.Common.{◌≡◌, ℕ, ◌+◌, ◌<◌, ◌≤◌, List, [], ◌++◌, length, take, drop, Some, None, Result, Ok, Err, refl, sym, ap, subst, ◌∙◌, arith}
+use Rattle.std.proofs.Common.{◌≡◌, ℕ, ◌+◌, ◌<◌, ◌≤◌, List, [], ◌++◌, length, take, drop, Some, None, Result, Ok, Err, sym, ap, ◌∙◌}
 use Rattle.std.specs.Int.{w16, from_be_bytes}
 use Rattle.desk_base.specs.Spot.{Spot}
 use Rattle.desk_base.specs.Names.{Text}
-use Rattle.desk_base.specs.Entries.{Pool, class_name_at}
+use Rattle.desk_base.specs.Entries.{class_name_at}
 use Rattle.desk_base.specs.declared.faults.Malformed.{Malformed}
 use Rattle.desk_base.specs.declared.faults.FaultKind.TheVariants as faults
 use Rattle.desk_base.specs.declared.faults.ReadFault.{ReadFault}
 use Rattle.desk_base.specs.declared.faults.ReadFault.TheVariants as read_faults
 use Rattle.desk_base.specs.declared.kinds.Used.{Used}
 use Rattle.desk_format.specs.declared.members.Member.{Member}
-use Rattle.desk_format.specs.Trees.{Tree, Use, uses}
+use Rattle.desk_format.specs.Trees.{uses}
 use Rattle.desk_format.specs.Members.{members, first_twins, named_in}
 use Rattle.desk_format.specs.ClassBody.{class_body}
 use Rattle.desk_format.specs.PoolBytes.{pool_uses}
 use Rattle.desk_format.specs.PoolReading.{got, read_pool}
 use Rattle.desk_format.specs.Reading.{read}
-use Rattle.desk_format.specs.Classes.{Class, Version, header_read, class_of, read_class, fault_in, class_fault, class_uses, entries_at, list_in, uses_in, members_in}
+use Rattle.desk_format.specs.Classes.{Class, Version, header_read, class_of, read_class, fault_in, class_fault, class_uses, entries_at, list_in}
 use Rattle.desk_base.specs.Limits.{file_size}
 use Rattle.desk_pool.specs.Seen.{Stops, ReadPool}
-use Rattle.desk_class.specs.Scan.{Scan, scan, scan_at, number_ahead}
-use Rattle.desk_class.specs.Parts.{this_class, class_name, pool_in, body_at_of, body_at_in, name_in, IsRead}
+use Rattle.desk_class.specs.Scan.{Scan, scan}
+use Rattle.desk_class.specs.Parts.{class_name, body_at_of, IsRead}
 use Rattle.desk_class.specs.Faults.{IsFirst}
 use Rattle.desk_class.proofs.Pairs.{second_of}
 use Rattle.desk_class.proofs.Wholes.{header_fault, pool_fault, body_fault, trailing_fault, twins_fault, Bodied, bodied, whole}

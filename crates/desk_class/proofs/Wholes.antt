@@ -1,26 +1,23 @@
 -- A class by what was read of it, part by part.
-use Rattle.std.proofs.Common.{◌≡◌, ℕ, ◌+◌, ◌<◌, ◌≤◌, List, [], ◌∷◌, ◌++◌, length, take, drop, Option, Some, None, option_map, Result, Ok, Err, refl, sym, ap, ap₂, ◌∙◌, arith}
+use Rattle.std.proofs.Common.{◌≡◌, ℕ, ◌<◌, ◌≤◌, List, [], ◌∷◌, ◌++◌, length, take, drop, Option, Some, None, option_map, Result, Ok, Err, refl, sym, ap, ◌∙◌, arith}
 use Rattle.std.specs.Int.{w16, from_be_bytes}
 use Rattle.desk_base.specs.declared.faults.Malformed.{Malformed}
 use Rattle.desk_base.specs.declared.faults.FaultKind.TheVariants as faults
 use Rattle.desk_base.specs.declared.kinds.Used.{Used}
 use Rattle.desk_base.specs.declared.kinds.Tag.TheVariants as tags
 use Rattle.desk_base.specs.declared.kinds.UseKind.TheVariants as kinds
-use Rattle.desk_base.specs.Names.{Text}
 use Rattle.desk_base.specs.Entries.{Pool, Entry, tag_of, entry_at, tag_at, class_name_in, class_name_at, utf8, integer, float, long, double, class, string, fieldref, methodref, interface_methodref, name_and_type, method_handle, method_type, dynamic, invoke_dynamic, module_named, package_named}
 use Rattle.desk_format.specs.declared.members.Member.{Member}
 use Rattle.desk_format.specs.Trees.{Tree, Use, uses}
 use Rattle.desk_format.specs.Members.{Twins, first_twins, named_in, members}
-use Rattle.desk_format.specs.Layouts.{Layout}
-use Rattle.desk_format.specs.Rows.{rows, row_layout}
+use Rattle.desk_format.specs.Rows.{row_layout}
 use Rattle.desk_format.specs.ClassBody.{class_body}
-use Rattle.desk_format.specs.PoolBytes.{pool_uses}
 use Rattle.desk_format.specs.PoolReading.{got, then_read, read_pool}
 use Rattle.desk_format.specs.PoolReading.{Got as Read}
 use Rattle.desk_format.specs.Reading.{Got, Failed, read}
-use Rattle.desk_format.specs.Classes.{Class, Version, header_read, tree_of, body_read, ended, class_of, behind_pool, class_at, without_twins, checked_class, twins_in, read_class, fault_in, class_fault, class_uses, entries_at}
+use Rattle.desk_format.specs.Classes.{Class, Version, header_read, tree_of, ended, class_of, behind_pool, class_at, without_twins, checked_class, read_class, fault_in, class_fault}
 use Rattle.desk_format.proofs.Steps.{then_ok}
-use Rattle.desk_class.specs.Scan.{Scan, scan, scanned, class_head, number_ahead}
+use Rattle.desk_class.specs.Scan.{Scan, scan, scanned, class_head}
 use Rattle.desk_class.specs.Parts.{this_class}
 use Rattle.desk_class.proofs.Heads.{head_read}
 use Rattle.desk_class.proofs.Pairs.{second_of}

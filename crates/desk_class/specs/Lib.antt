@@ -3,3 +3,4 @@ pub mod Parts
 pub mod Held
 pub mod Faults
 pub mod Numbers
+pub mod Found

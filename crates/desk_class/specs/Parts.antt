@@ -1,5 +1,5 @@
 -- The parts of a class, by its bytes: where the bytes are no class, they have none.
-use Rattle.std.specs.Prelude.{◌≡◌, ℕ, ◌≤◌, List, [], length, None, Result, Ok, Err}
+use Rattle.std.specs.Prelude.{◌≡◌, ℕ, ◌≤◌, List, length, None, Result, Ok, Err}
 use Rattle.desk_base.specs.Names.{Text}
 use Rattle.desk_base.specs.Entries.{Pool, class_name_at}
 use Rattle.desk_base.specs.Limits.{file_size}

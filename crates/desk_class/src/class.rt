@@ -1,16 +1,12 @@
 //! A class that was read.
 
-ghost use Rattle.std.specs.Prelude.{◌≡◌, ◌↔◌, ◌≤◌, ℕ, List, length, None, Some, Contains, OnOk, IfOk, IfErr};
-ghost use Rattle.std.specs.List.Sorted.{IsStrictlySortedBy};
-ghost use Rattle.std.specs.Ordering.{nat_cmp};
-ghost use Rattle.std.specs.Cmp.Lexicographic.{slice_cmp};
-ghost use Rattle.desk_base.specs.Names.{Text as TextOf};
+ghost use Rattle.std.specs.Prelude.{◌≡◌, ◌≤◌, ℕ, List, length, None, Some, OnOk, IfOk, IfErr};
 ghost use Rattle.desk_base.specs.Entries.{class_name_at};
 ghost use Rattle.desk_base.specs.Limits.{file_size};
 ghost use Rattle.desk_format.specs.Classes.{class_fault, entries_at, uses_in, members_in};
 ghost use Rattle.desk_format.specs.PoolBytes.{pool_uses};
 ghost use Rattle.desk_class.specs.Parts.{IsRead, pool_in, body_at_in, name_in};
-ghost use Rattle.desk_class.specs.Held.{Holds};
+ghost use Rattle.desk_class.specs.Held.{ascending, held_in};
 ghost use Rattle.desk_class.specs.Faults.{IsFirst};
 
 use crate::body::walk_body;
@@ -142,8 +138,7 @@ impl<'a> ClassView<'a> {
     /// signatures. An array gives its element class, and a signature each class name up to its first simple class. The only
     /// error is want of memory.
     pub fn class_names(&self, alloc: Global) -> Result<TextList, Memory>
-        ensures held { IfOk result (λ names. (name : TextOf) → Contains names name ↔ Holds self.now name) }
-        ensures once { IfOk result (IsStrictlySortedBy (slice_cmp nat_cmp)) }
+        ensures held { IfOk result (λ names. names ≡ ascending (held_in self.now)) }
     {
         let names = held_names(alloc, &self.pool, &self.uses)?;
         list_of(alloc, names)

@@ -11,6 +11,7 @@
 
 mod body;
 mod class;
+mod found;
 mod header;
 mod items;
 mod members;

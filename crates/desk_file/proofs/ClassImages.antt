@@ -1,11 +1,11 @@
 -- What becomes of a class.
-use Rattle.std.proofs.Common.{◌≡◌, Bool, true, cond, Option, Some, None, refl, sym, ap, ◌∙◌, Result, Ok, Err}
+use Rattle.std.proofs.Common.{◌≡◌, Bool, true, cond, List, length, Option, Some, None, refl, sym, ap, ◌∙◌, Result, Ok, Err}
 use Rattle.desk_base.specs.Names.{Text}
 use Rattle.desk_base.specs.declared.faults.Malformed.{Malformed}
 use Rattle.desk_format.specs.Classes.{Class, read_class, fault_in, class_fault}
 use Rattle.desk_format.specs.NewClass.{Refusal, refusal}
 use Rattle.desk_rewrite.specs.Refused.{Refuses}
-use Rattle.desk_rewrite.specs.RuleImages.{images_of}
+use Rattle.desk_follow.specs.RuleImages.{images_of}
 use Rattle.desk_rewrite.specs.declared.rewriting.RewriteFault.{RewriteFault}
 use Rattle.desk_rewrite.specs.declared.rewriting.RewriteFault.TheVariants as rewrite
 use Rattle.desk_rules.specs.Rules.{Rules}
@@ -14,7 +14,11 @@ use Rattle.desk_paths.specs.declared.Kind.TheVariants as kinds
 use Rattle.desk_paths.specs.Kinds.{kind_of}
 use Rattle.desk_file.specs.Images.{image as image_at, image_by, copied}
 use Rattle.desk_file.specs.Classes.{renamed_image, unless_refused, image_of_read, class_image}
-use Rattle.desk_file.specs.Faults.{IsClassFault, file_fault}
+use Rattle.desk_file.specs.Faults.{IsClassFault, IsFaultOf, file_fault}
+use Rattle.desk_file.specs.Linked.{linked_class, with_links}
+use Rattle.desk_file.specs.declared.images.FileFault.{FileFault}
+use Rattle.desk_file.specs.declared.images.FileFault.TheVariants.{Refused, Memory}
+use Rattle.desk_graph.specs.Graphs.{links_of}
 use Rattle.desk_file.specs.declared.images.Image.{Image}
 
 -- well-formed bytes read into a class
@@ -82,3 +86,8 @@ unfolding image_at
 class_made rules path bytes image selected class h =
     let is : image_at rules path bytes ≡ class_image rules bytes = ap (λ (b : Bool). cond b (image_by rules path bytes (kind_of path)) (Ok (copied bytes))) selected ∙ ap (image_by rules path bytes) class in
     made rules bytes image (sym is ∙ h)
+
+-- the reason why a class has none is that in its application
+pub linked_fault : (rules : Rules) (defined : List Text) (bytes : Text) (fault : FileFault) → IsClassFault rules bytes fault → IsFaultOf (linked_class rules defined bytes) fault
+linked_fault rules defined bytes (Refused reason) h = ap (with_links (length (links_of defined bytes))) h
+linked_fault rules defined bytes Memory h = tt

@@ -1,1 +1,3 @@
 pub mod ClassImages
+pub mod Alone
+mod Scanning

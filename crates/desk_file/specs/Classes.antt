@@ -9,7 +9,7 @@ use Rattle.desk_report.specs.declared.lines.Detail.TheVariants as detail
 use Rattle.desk_report.specs.declared.lines.Reason.{Reason}
 use Rattle.desk_report.specs.declared.lines.Reason.TheVariants as reason
 use Rattle.desk_rewrite.specs.Counts.{renamed_count, odd_count}
-use Rattle.desk_rewrite.specs.RuleImages.{images_of}
+use Rattle.desk_follow.specs.RuleImages.{images_of}
 use Rattle.desk_rules.specs.Rules.{Rules}
 use Rattle.desk_file.specs.declared.images.Image.{Image}
 

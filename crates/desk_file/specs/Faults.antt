@@ -1,5 +1,5 @@
 -- When a file has no image.
-use Rattle.std.specs.Prelude.{◌≡◌, ⊤, Result, Err}
+use Rattle.std.specs.Prelude.{◌≡◌, ⊤, List, Result, Err}
 use Rattle.desk_base.specs.Names.{Text}
 use Rattle.desk_base.specs.declared.faults.ReadFault.{ReadFault}
 use Rattle.desk_base.specs.declared.faults.ReadFault.TheVariants as read
@@ -13,7 +13,8 @@ use Rattle.desk_rules.specs.Rules.{Rules}
 use Rattle.desk_textrules.specs.declared.TextFault.{TextFault}
 use Rattle.desk_textrules.specs.declared.TextFault.TheVariants as text
 use Rattle.desk_file.specs.Classes.{class_image}
-use Rattle.desk_file.specs.Images.{image, service_image, manifest_image, other_image}
+use Rattle.desk_file.specs.Linked.{image_in}
+use Rattle.desk_file.specs.Images.{service_image, manifest_image, other_image}
 use Rattle.desk_file.specs.declared.images.Image.{Image}
 use Rattle.desk_file.specs.declared.images.FileFault.{FileFault}
 use Rattle.desk_file.specs.declared.images.FileFault.TheVariants.{Refused, Memory}
@@ -61,6 +62,6 @@ read_fault read.Memory = Memory
 abbrev pub IsClassFault : Rules → Text → FileFault → Type 0
 IsClassFault rules bytes fault = IsFaultOf (class_image rules bytes) fault
 
--- a file has none for this reason
-abbrev pub IsFileFault : Rules → Text → Text → FileFault → Type 0
-IsFileFault rules path bytes fault = IsFaultOf (image rules path bytes) fault
+-- a file of an application that defines these names has none for this reason
+abbrev pub IsFileFault : Rules → List Text → Text → Text → FileFault → Type 0
+IsFileFault rules defined path bytes fault = IsFaultOf (image_in rules defined path bytes) fault

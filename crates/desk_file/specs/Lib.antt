@@ -1,4 +1,6 @@
 pub mod Classes
 pub mod Images
+pub mod Linked
+pub mod ClassScans
 pub mod Faults
 pub mod Outcomes

@@ -2,13 +2,14 @@
 
 ghost use Rattle.std.specs.Prelude.{◌≡◌, ◌≤◌, Ok, IfOk, IfErr, length};
 ghost use Rattle.desk_base.specs.Limits.{file_size};
-ghost use Rattle.desk_file.specs.Classes.{class_image};
-ghost use Rattle.desk_file.specs.Faults.{IsClassFault};
+ghost use Rattle.desk_file.specs.Faults.{IsFaultOf};
+ghost use Rattle.desk_file.specs.Linked.{linked_class};
+ghost use Rattle.desk_graph.specs.Graphs.{links_of};
 
 use crate::images::{FileFault, Image};
-use desk_base::ReadFault;
+use desk_base::{Memory, ReadFault};
 use desk_class::ClassView;
-use desk_rename::NoImages;
+use desk_graph::ClassGraph;
 use desk_report::{Detail, Reason};
 use desk_rewrite::{RewriteFault, Rewritten, rewrite};
 use desk_rules::RuleSet;
@@ -48,17 +49,32 @@ impl From<RewriteFault> for FileFault {
     }
 }
 
+/// How many defined names of the application a class holds, its own included.
+fn count_links(alloc: Global, graph: &ClassGraph<'_>, view: &ClassView<'_>) -> Result<u32, Memory>
+    ensures { IfOk result (λ count. count ≡ length (links_of graph.now.defined view.now)) }
+{
+    let links = graph.links(alloc, view)?;
+    Ok(links.len() as u32)
+}
+
 /// The image of a class of at most 67,108,864 bytes: the new class, in which each use of a text has the image of the text,
 /// and all else stays. `Refused` comes exactly where there is none: `Malformed` with the first fault of bytes that are no
 /// well-formed class, else `Overlong`, `PoolFull` or `Twins`, in this order. The only other error is want of memory.
-#[tactic(auto, using(crate::proofs::ClassImages::malformed))]
-pub(crate) fn class_image(alloc: Global, rules: &RuleSet, bytes: &[u8]) -> Result<Image, FileFault>
-    requires { length bytes.now ≤ file_size }
-    ensures ok { IfOk result (λ found. class_image rules.now bytes.now ≡ Ok found) }
-    ensures err { IfErr result (IsClassFault rules.now bytes.now) }
+#[tactic(auto, using(crate::proofs::ClassImages::malformed, crate::proofs::ClassImages::linked_fault))]
+pub(crate) fn class_image(
+    alloc: Global,
+    rules: &RuleSet,
+    graph: &ClassGraph<'_>,
+    bytes: &[u8],
+) -> Result<Image, FileFault>
+    requires size { length bytes.now ≤ file_size }
+    requires graph { graph.now.renames ≡ rules.now.renames }
+    ensures ok { IfOk result (λ found. linked_class rules.now graph.now.defined bytes.now ≡ Ok found) }
+    ensures err { IfErr result (IsFaultOf (linked_class rules.now graph.now.defined bytes.now)) }
 {
     let view = ClassView::read(alloc, bytes)?;
-    let new = rewrite(alloc, rules, &NoImages::new(rules), &view)?;
+    let new = rewrite(alloc, rules, graph, &view)?;
+    let links = count_links(alloc, graph, &view)?;
     let Rewritten {
         bytes,
         renamed,
@@ -71,7 +87,7 @@ pub(crate) fn class_image(alloc: Global, rules: &RuleSet, bytes: &[u8]) -> Resul
             renamed,
             added,
             odd,
-            links: 0,
+            links,
         },
     })
 }

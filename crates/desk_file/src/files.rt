@@ -7,6 +7,7 @@ ghost use Rattle.desk_file.specs.Outcomes.{outcome};
 use crate::images::{FileFault, Image, image_of_bytes};
 use crate::targets::target_of;
 use desk_base::{Memory, Text};
+use desk_graph::ClassGraph;
 use desk_report::{Detail, Reason};
 use desk_rules::RuleSet;
 use std::alloc::Global;
@@ -26,18 +27,20 @@ pub enum Outcome {
     },
 }
 
-/// What becomes of a file of at most 67,108,864 bytes: its target and image, or why it has none. The only
-/// error is want of memory.
+/// What becomes of a file of at most 67,108,864 bytes in the application of a graph, which was built under these rules: its
+/// target and image, or why it has none. The only error is want of memory.
 pub fn migrate_file(
     alloc: Global,
     rules: &RuleSet,
+    graph: &ClassGraph<'_>,
     path: &Text,
     bytes: &[u8],
 ) -> Result<Outcome, Memory>
-    requires { length bytes.now ≤ file_size }
-    ensures { IfOk result (λ made. made ≡ outcome rules.now path.now bytes.now) }
+    requires size { length bytes.now ≤ file_size }
+    requires graph { graph.now.renames ≡ rules.now.renames }
+    ensures { IfOk result (λ made. made ≡ outcome rules.now graph.now.defined path.now bytes.now) }
 {
-    match image_of_bytes(alloc, rules, path, bytes) {
+    match image_of_bytes(alloc, rules, graph, path, bytes) {
         Ok(Image { bytes, detail }) => Ok(Outcome::Written {
             target: target_of(alloc, rules, path)?,
             bytes,

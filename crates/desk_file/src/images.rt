@@ -4,11 +4,13 @@ ghost use Rattle.std.specs.Prelude.{◌≡◌, ◌≤◌, Ok, IfOk, IfErr, lengt
 ghost use Rattle.desk_base.specs.Limits.{file_size};
 ghost use Rattle.desk_paths.specs.Kinds.{kind_of};
 ghost use Rattle.desk_file.specs.Faults.{IsFaultOf, IsFileFault, IsManifestFault, IsOtherFault, IsServiceFault};
-ghost use Rattle.desk_file.specs.Images.{copied, image, image_by, manifest_image, other_image, service_image};
+ghost use Rattle.desk_file.specs.Linked.{image_in, image_in_by};
+ghost use Rattle.desk_file.specs.Images.{copied, manifest_image, other_image, service_image};
 
 use crate::classes::class_image;
 use crate::targets::target_of;
 use desk_base::{Changed, Memory, Text};
+use desk_graph::ClassGraph;
 use desk_manifest::migrate_manifest;
 use desk_metainf::{MetaFault, migrate_service};
 use desk_paths::{Kind, place};
@@ -123,42 +125,46 @@ fn other_image(
 fn changed_image(
     alloc: Global,
     rules: &RuleSet,
+    graph: &ClassGraph<'_>,
     path: &Text,
     bytes: &[u8],
 ) -> Result<Option<Image>, FileFault>
-    requires { length bytes.now ≤ file_size }
-    ensures ok { IfOk result (λ found. image_by rules.now path.now bytes.now (kind_of path.now) ≡ Ok (unwrap_or found (copied bytes.now))) }
-    ensures err { IfErr result (IsFaultOf (image_by rules.now path.now bytes.now (kind_of path.now))) }
+    requires size { length bytes.now ≤ file_size }
+    requires graph { graph.now.renames ≡ rules.now.renames }
+    ensures ok { IfOk result (λ found. image_in_by rules.now graph.now.defined path.now bytes.now (kind_of path.now) ≡ Ok (unwrap_or found (copied bytes.now))) }
+    ensures err { IfErr result (IsFaultOf (image_in_by rules.now graph.now.defined path.now bytes.now (kind_of path.now))) }
 {
     match place(path.as_bytes()).kind {
         Kind::Service => Ok(Some(service_image(alloc, rules, bytes)?)),
         Kind::Manifest => Ok(Some(manifest_image(alloc, rules, bytes)?)),
-        Kind::Class => Ok(Some(class_image(alloc, rules, bytes)?)),
+        Kind::Class => Ok(Some(class_image(alloc, rules, graph, bytes)?)),
         Kind::Other => other_image(alloc, rules, path, bytes),
     }
 }
 
 /// The image of a file by its path, and none where the file is copied.
-#[tactic(auto, unfolding(crate::specs::Images::image))]
+#[tactic(auto, unfolding(crate::specs::Linked::image_in))]
 fn image_at(
     alloc: Global,
     rules: &RuleSet,
+    graph: &ClassGraph<'_>,
     path: &Text,
     bytes: &[u8],
 ) -> Result<Option<Image>, FileFault>
-    requires { length bytes.now ≤ file_size }
-    ensures ok { IfOk result (λ found. image rules.now path.now bytes.now ≡ Ok (unwrap_or found (copied bytes.now))) }
-    ensures err { IfErr result (IsFileFault rules.now path.now bytes.now) }
+    requires size { length bytes.now ≤ file_size }
+    requires graph { graph.now.renames ≡ rules.now.renames }
+    ensures ok { IfOk result (λ found. image_in rules.now graph.now.defined path.now bytes.now ≡ Ok (unwrap_or found (copied bytes.now))) }
+    ensures err { IfErr result (IsFileFault rules.now graph.now.defined path.now bytes.now) }
 {
     if rules.selected(path.as_bytes()) {
-        changed_image(alloc, rules, path, bytes)
+        changed_image(alloc, rules, graph, path, bytes)
     } else {
         Ok(None)
     }
 }
 
-/// The image of a file of at most 67,108,864 bytes, by its path. A file that is copied keeps its bytes,
-/// and no others are made. `Refused` comes exactly where the file has no image: `Malformed`, `Overlong`,
+/// The image of a file of at most 67,108,864 bytes, by its path, in the application of a graph, which was built under these
+/// rules. A file that is copied keeps its bytes, and no others are made. `Refused` comes exactly where the file has no image: `Malformed`, `Overlong`,
 /// `PoolFull` or `Twins` for a selected class; `BadLine` for a selected service file with a provider that
 /// holds a blank, or a selected manifest with a line that is none of a manifest, with the offset of the first
 /// byte of the first such line; `Unsettled` for a selected file of another kind whose image the text rules of
@@ -167,14 +173,16 @@ fn image_at(
 pub fn image_of(
     alloc: Global,
     rules: &RuleSet,
+    graph: &ClassGraph<'_>,
     path: &Text,
     bytes: Text,
 ) -> Result<Image, FileFault>
-    requires { length bytes ≤ file_size }
-    ensures ok { IfOk result (λ found. image rules.now path.now bytes ≡ Ok found) }
-    ensures err { IfErr result (IsFileFault rules.now path.now bytes) }
+    requires size { length bytes ≤ file_size }
+    requires graph { graph.now.renames ≡ rules.now.renames }
+    ensures ok { IfOk result (λ found. image_in rules.now graph.now.defined path.now bytes ≡ Ok found) }
+    ensures err { IfErr result (IsFileFault rules.now graph.now.defined path.now bytes) }
 {
-    match image_at(alloc, rules, path, bytes.as_bytes())? {
+    match image_at(alloc, rules, graph, path, bytes.as_bytes())? {
         Some(image) => Ok(image),
         None => Ok(Image {
             bytes,
@@ -187,14 +195,16 @@ pub fn image_of(
 pub(crate) fn image_of_bytes(
     alloc: Global,
     rules: &RuleSet,
+    graph: &ClassGraph<'_>,
     path: &Text,
     bytes: &[u8],
 ) -> Result<Image, FileFault>
-    requires { length bytes.now ≤ file_size }
-    ensures ok { IfOk result (λ found. image rules.now path.now bytes.now ≡ Ok found) }
-    ensures err { IfErr result (IsFileFault rules.now path.now bytes.now) }
+    requires size { length bytes.now ≤ file_size }
+    requires graph { graph.now.renames ≡ rules.now.renames }
+    ensures ok { IfOk result (λ found. image_in rules.now graph.now.defined path.now bytes.now ≡ Ok found) }
+    ensures err { IfErr result (IsFileFault rules.now graph.now.defined path.now bytes.now) }
 {
-    match image_at(alloc, rules, path, bytes)? {
+    match image_at(alloc, rules, graph, path, bytes)? {
         Some(image) => Ok(image),
         None => Ok(Image {
             bytes: Text::from_bytes(alloc, bytes)?,

@@ -70,6 +70,10 @@ pub enum Hint {
     RuleSize,
     /// Status 24.
     Clash,
+    /// Status 25.
+    NameClash,
+    /// Status 26.
+    Stranded,
     /// Status 27: ledger belongs to another run.
     Other,
     /// Status 27: ledger belongs to a run with other rules.
@@ -119,6 +123,8 @@ pub const HINTS: &[Hint] = &[
     Hint::RuleFiles,
     Hint::RuleSize,
     Hint::Clash,
+    Hint::NameClash,
+    Hint::Stranded,
     Hint::Other,
     Hint::OtherRules,
     Hint::OtherTarget,
@@ -191,6 +197,10 @@ impl Hint {
                 b"migrate: the rule folder holds more than 1,000 files\n         keep nothing but rule files there\n",
             Hint::RuleSize =>
                 b"migrate: a rule file has more than 1,048,576 bytes\n         keep nothing but rule files there, or split a long one\n",
+            Hint::NameClash =>
+                b"migrate: a class of the source and another name that it uses would get one name\n         change the rules so that the two stay apart, or leave the class out by `selection.properties`\n",
+            Hint::Stranded =>
+                b"migrate: a class that is left out by `selection.properties` names a class of the source that is renamed, and would not find it\n         select that class too, or leave out the class that it names\n",
             Hint::Clash =>
                 b"migrate: two files of the source would get one target, or the target of one would be a folder of the other's\n         rename or remove one of the two, or leave one out by `selection.properties`\n",
             Hint::Other =>
@@ -298,6 +308,8 @@ pub fn hint_of(status: &Status) -> Option<Hint>
         Status::BadRules(fault) => Some(rule_hint(fault)),
         Status::Limit { kind, .. } => Some(limit_hint(*kind)),
         Status::PathClash { .. } => Some(Hint::Clash),
+        Status::NameClash { .. } => Some(Hint::NameClash),
+        Status::Stranded { .. } => Some(Hint::Stranded),
         Status::OtherRun { kept, wanted } => Some(other_hint(kept, wanted)),
     }
 }

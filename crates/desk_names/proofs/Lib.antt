@@ -17,3 +17,4 @@ pub mod SigMapped
 pub mod SigPlaces
 pub mod Skips
 pub mod CutNames
+pub mod SignatureNames

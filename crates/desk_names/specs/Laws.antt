@@ -1,5 +1,5 @@
 -- The laws of descriptors and signatures.
-use Rattle.std.specs.Prelude.{◌≡◌, true}
+use Rattle.std.specs.Prelude.{◌≡◌, true, All}
 use Rattle.desk_base.specs.Names.{Text, is_class_name}
 use Rattle.desk_base.specs.Descriptors.{Descriptor, DescriptorKind, IsDescriptor, is_descriptor, print, renamed, names_of, as_is}
 use Rattle.desk_base.specs.Signatures.{Signature, SignatureKind, IsSignature, is_signature_name, print_signature, map_signature, signature_names}
@@ -50,10 +50,11 @@ pub record TreesOfSignatures : Type 0 where
 abbrev pub KeepsSignatureNames : (Text → Text) → Type 0
 KeepsSignatureNames f = (name : Text) → is_signature_name name ≡ true → is_signature_name (f name) ≡ true
 
--- The parts of a signature join to it; they hold its tree's class names in their order; with each class name exchanged they
--- are the text of the exchanged tree, which has the same kind and form.
+-- The parts of a signature join to it; they hold its tree's class names in their order, each of which is a class name; with
+-- each class name exchanged they are the text of the exchanged tree, which has the same kind and form.
 pub record PartsOfSignatures : Type 0 where
   pub joins : (kind : SignatureKind) (text : Text) (s : Signature) → IsSignature kind text s → joined as_is (sig_pieces kind text) ≡ text
   pub names : (kind : SignatureKind) (text : Text) (s : Signature) → IsSignature kind text s → names_in (sig_pieces kind text) ≡ signature_names s
+  pub named : (kind : SignatureKind) (text : Text) (s : Signature) → IsSignature kind text s → All (λ (name : Text). is_class_name name ≡ true) (names_in (sig_pieces kind text))
   pub prints : (f : Text → Text) (kind : SignatureKind) (text : Text) (s : Signature) → IsSignature kind text s → joined f (sig_pieces kind text) ≡ print_signature (map_signature f s)
   pub kept : (f : Text → Text) → KeepsSignatureNames f → (kind : SignatureKind) (text : Text) (s : Signature) → IsSignature kind text s → IsSignature kind (joined f (sig_pieces kind text)) (map_signature f s)

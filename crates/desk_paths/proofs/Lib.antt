@@ -1,5 +1,6 @@
 pub mod Roots
 pub mod Stays
+pub mod TargetLaws
 pub mod Walked
 pub mod Folders
 pub mod Relative

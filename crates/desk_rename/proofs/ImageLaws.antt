@@ -65,7 +65,8 @@ once rs settled part parts n named =
     ∙ ap (λ (q : Package). written slash (q ++ simple (refronted rs ps) ∷ [])) (settled.packages (front ps))
     ∙ ap (λ (t : Text). written slash (pkg rs (front ps) ++ t ∷ [])) (simple-push (pkg rs (front ps)) (simple ps))
 
-class_named : (rs : List Renaming) (n : Text) → is_class_name n ≡ true → class_image rs n ≡ repackaged rs n
+-- the image of a class name, and of another text
+pub class_named : (rs : List Renaming) (n : Text) → is_class_name n ≡ true → class_image rs n ≡ repackaged rs n
 class_named rs n named = ap (λ (b : Bool). cond b (repackaged rs n) n) named
 
 class_other : (rs : List Renaming) (n : Text) → is_class_name n ≡ false → class_image rs n ≡ n
@@ -84,7 +85,7 @@ no_array_parts : (ps : Package) → list_all is_part (onto_first 91 ps) ≡ true
 no_array_parts [] h = cc
 no_array_parts (p ∷ ps) h = cc
 
-no_array : (t : Text) → is_class_name t ≡ true → begins_array t ≡ false
+pub no_array : (t : Text) → is_class_name t ≡ true → begins_array t ≡ false
 no_array [] named = refl
 no_array (b ∷ t) named = false_from_ne_true (b == 91) (λ e.
     let P : ℕ → Type 0 = λ c. list_all is_part (segments slash (c ∷ t)) ≡ true in
@@ -114,7 +115,8 @@ any_of DescriptorKind.field text h = or_left _ _ (or_left _ _ h)
 any_of DescriptorKind.method text h = or_left _ _ (or_right _ _ h)
 any_of DescriptorKind.return text h = or_right _ _ h
 
-desc_kept : (rs : List Renaming) → IsSettledRenames rs → (kind : DescriptorKind) (text : Text) (d : Descriptor) → IsDescriptor kind text d → IsDescriptor kind (desc rs text) (renamed (repackaged rs) d)
+-- the image of a descriptor has the exchanged tree
+pub desc_kept : (rs : List Renaming) → IsSettledRenames rs → (kind : DescriptorKind) (text : Text) (d : Descriptor) → IsDescriptor kind text d → IsDescriptor kind (desc rs text) (renamed (repackaged rs) d)
 desc_kept rs settled kind text d r =
     let P : Text → Type 0 = λ t. IsDescriptor kind t (renamed (repackaged rs) d) in
     subst P (sym (desc_is rs text (any_of kind text (taken kind text d r)))) (kept_exchanged (repackaged rs) (keeps_class_names rs settled.formed) kind text d r)
@@ -203,7 +205,8 @@ class_laws rs settled = record {
 sig_printed : (rs : List Renaming) → (kind : SignatureKind) (text : Text) (s : Signature) → IsSignature kind text s → sig rs kind text ≡ print_signature (map_signature (repackaged rs) s)
 sig_printed rs kind text s r = sig_is rs kind text (sig_taken kind text s r) ∙ sig_prints (repackaged rs) kind text s r
 
-sig_stays : (rs : List Renaming) → IsSettledRenames rs → (kind : SignatureKind) (text : Text) (s : Signature) → IsSignature kind text s → IsSignature kind (sig rs kind text) (map_signature (repackaged rs) s)
+-- the image of a signature has the exchanged tree
+pub sig_stays : (rs : List Renaming) → IsSettledRenames rs → (kind : SignatureKind) (text : Text) (s : Signature) → IsSignature kind text s → IsSignature kind (sig rs kind text) (map_signature (repackaged rs) s)
 sig_stays rs settled kind text s r =
     let P : Text → Type 0 = λ t. IsSignature kind t (map_signature (repackaged rs) s) in
     subst P (sym (sig_is rs kind text (sig_taken kind text s r))) (sig_kept (repackaged rs) (keeps_signature_names rs settled.formed) kind text s r)

@@ -14,7 +14,7 @@ use Rattle.desk_report.specs.declared.lines.Line.TheVariants.{Written, Kept, Ref
 use Rattle.desk_report.specs.declared.lines.Reason.TheVariants.{Malformed, Overlong, PoolFull, Twins, BadLine, Unsettled}
 use Rattle.desk_base.specs.declared.faults.FaultKind.TheVariants as kinds
 use Rattle.desk_report.specs.declared.status.LimitKind.TheVariants.{Files, PathLength, FileSize, Sum, RuleFiles, RuleSize}
-use Rattle.desk_report.specs.declared.status.Status.TheVariants.{Done, Refusals, Memory, FolderFault, LedgerFault, OutputFault, Usage, NestedRoots, BadRules, Limit, PathClash, OtherRun}
+use Rattle.desk_report.specs.declared.status.Status.TheVariants.{Done, Refusals, Memory, FolderFault, LedgerFault, OutputFault, Usage, NestedRoots, BadRules, Limit, PathClash, NameClash, Stranded, OtherRun}
 use Rattle.desk_report.specs.Texts.{line_text, summary_text, fault_text}
 
 -- a plain text stands for itself
@@ -152,6 +152,12 @@ fault_23_rule = refl
 
 fault_24 : fault_text (PathClash (codes "jakarta/x/a.txt") (codes "javax/x/a.txt")) ≡ codes "migrate: 24 path clash jakarta/x/a.txt javax/x/a.txt\n"
 fault_24 = refl
+
+fault_25 : fault_text (NameClash (codes "jakarta/x/C") (codes "javax/x/C") (codes "jakarta/x/C")) ≡ codes "migrate: 25 name clash jakarta/x/C javax/x/C jakarta/x/C\n"
+fault_25 = refl
+
+fault_26 : fault_text (Stranded (codes "a.jar/javax/servlet/F.class") (codes "javax/servlet/F")) ≡ codes "migrate: 26 stranded a.jar/javax/servlet/F.class javax/servlet/F\n"
+fault_26 = refl
 
 abbrev run_of : Text → Text → ℕ → Header
 run_of from to byte = record { from = from; to = to; rules = record { 0 = replicate 32 byte } }

@@ -12,7 +12,7 @@ use Rattle.desk_report.specs.declared.lines.Reason.{Reason}
 use Rattle.desk_report.specs.declared.lines.Reason.TheVariants.{Malformed, Overlong, PoolFull, Twins, BadLine, Unsettled}
 use Rattle.desk_report.specs.declared.lines.Summary.{Summary}
 use Rattle.desk_report.specs.declared.status.Status.{Status}
-use Rattle.desk_report.specs.declared.status.Status.TheVariants.{Done, Refusals, Memory, FolderFault, LedgerFault, OutputFault, Usage, NestedRoots, BadRules, Limit, PathClash, OtherRun}
+use Rattle.desk_report.specs.declared.status.Status.TheVariants.{Done, Refusals, Memory, FolderFault, LedgerFault, OutputFault, Usage, NestedRoots, BadRules, Limit, PathClash, NameClash, Stranded, OtherRun}
 use Rattle.desk_report.specs.declared.status.LimitKind.{LimitKind}
 use Rattle.desk_report.specs.declared.status.LimitKind.TheVariants.{Files, PathLength, FileSize, Sum, RuleFiles, RuleSize}
 use Rattle.desk_report.specs.Joined.{joined, pair_pieces}
@@ -82,6 +82,8 @@ fault_pieces (NestedRoots first second) = pair_pieces (codes "migrate: 21 nested
 fault_pieces (BadRules fault) = rule_fault_pieces fault
 fault_pieces (Limit kind path) = codes "migrate: 23 limit " ∷ limit_name kind ∷ codes " " ∷ shown path ∷ codes "\n" ∷ []
 fault_pieces (PathClash first second) = pair_pieces (codes "migrate: 24 path clash ") first second
+fault_pieces (NameClash defined other image) = codes "migrate: 25 name clash " ∷ shown defined ∷ codes " " ∷ shown other ∷ codes " " ∷ shown image ∷ codes "\n" ∷ []
+fault_pieces (Stranded path name) = pair_pieces (codes "migrate: 26 stranded ") path name
 fault_pieces (OtherRun kept wanted) = codes "migrate: 27 other run kept " ∷ header_pieces kept (codes " wanted ") ++ header_pieces wanted (codes "\n")
 
 -- the line of a fault; Done and Refusals have none
@@ -101,4 +103,6 @@ code_of (NestedRoots first second) = 21
 code_of (BadRules fault) = 22
 code_of (Limit kind path) = 23
 code_of (PathClash first second) = 24
+code_of (NameClash defined other image) = 25
+code_of (Stranded path name) = 26
 code_of (OtherRun kept wanted) = 27

@@ -64,23 +64,50 @@ pub enum Status {
     /// Memory ran out.
     Memory,
     /// The folders failed.
-    FolderFault { done: u32 },
+    FolderFault {
+        done: u32,
+    },
     /// The ledger failed.
-    LedgerFault { done: u32 },
+    LedgerFault {
+        done: u32,
+    },
     /// The output failed.
     OutputFault,
     /// The words mean no task.
     Usage,
     /// One of these roots lies in the other.
-    NestedRoots { first: Text, second: Text },
+    NestedRoots {
+        first: Text,
+        second: Text,
+    },
     /// The rule files make no rule set.
     BadRules(RuleFault),
     /// A limit is passed, by this root or by the file of this relative path.
-    Limit { kind: LimitKind, path: Text },
+    Limit {
+        kind: LimitKind,
+        path: Text,
+    },
     /// Of two files, by their relative paths, one's target equals the other's, or is a folder of it.
-    PathClash { first: Text, second: Text },
+    PathClash {
+        first: Text,
+        second: Text,
+    },
+    /// A class of the application and another name that it uses would have one name: by their class names, and that name.
+    NameClash {
+        defined: Text,
+        other: Text,
+        image: Text,
+    },
+    /// The class of this relative path isn't selected, and holds the name of a class of the application that changes.
+    Stranded {
+        path: Text,
+        name: Text,
+    },
     /// The ledger belongs to another run.
-    OtherRun { kept: Header, wanted: Header },
+    OtherRun {
+        kept: Header,
+        wanted: Header,
+    },
 }
 
 impl Status {
@@ -100,6 +127,8 @@ impl Status {
             Status::BadRules(_) => 22,
             Status::Limit { .. } => 23,
             Status::PathClash { .. } => 24,
+            Status::NameClash { .. } => 25,
+            Status::Stranded { .. } => 26,
             Status::OtherRun { .. } => 27,
         }
     }
@@ -130,6 +159,12 @@ impl Status {
             Status::PathClash { first, second } => {
                 Pieces::pair(b"migrate: 24 path clash ", first, second)
             }
+            Status::NameClash {
+                defined,
+                other,
+                image,
+            } => name_clash(defined, other, image),
+            Status::Stranded { path, name } => Pieces::pair(b"migrate: 26 stranded ", path, name),
             Status::OtherRun { kept, wanted } => other_run(kept, wanted),
         }
     }
@@ -142,6 +177,21 @@ fn counted(text: &[u8], count: u32) -> Pieces<'_>
     Pieces::of(&[
         Piece::Plain(text),
         Piece::Number(count as u64),
+        Piece::Plain(b"\n"),
+    ])
+}
+
+/// The pieces of the line of two names that become one.
+fn name_clash<'a>(defined: &'a Text, other: &'a Text, image: &'a Text) -> Pieces<'a>
+    ensures { pieces_text result ≡ fault_text (case.NameClash defined.now other.now image.now) }
+{
+    Pieces::of(&[
+        Piece::Plain(b"migrate: 25 name clash "),
+        Piece::Shown(defined.as_bytes()),
+        Piece::Plain(b" "),
+        Piece::Shown(other.as_bytes()),
+        Piece::Plain(b" "),
+        Piece::Shown(image.as_bytes()),
         Piece::Plain(b"\n"),
     ])
 }

@@ -23,7 +23,7 @@ use Rattle.desk_rename.specs.Images.{desc, cls}
 use Rattle.desk_rename.specs.Laws.{IsSettledRenames, ClassImages, DescriptorImages}
 use Rattle.desk_rename.proofs.ImageLaws.{package_laws, class_laws, descriptor_laws, signature_laws}
 use Rattle.desk_rename.proofs.Utf8Images.{utf8_laws}
-use Rattle.desk_rewrite.specs.RuleImages.{images_of}
+use Rattle.desk_follow.specs.RuleImages.{images_of}
 
 settled_renames : (rules : Rules) → IsRuleSet rules → IsSettledRenames rules.renames
 settled_renames rules is = record { formed = is.formed; packages = packages_stay rules is }

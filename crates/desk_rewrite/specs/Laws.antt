@@ -3,7 +3,7 @@ use Rattle.desk_laws.specs.Classes.{IsSettled}
 use Rattle.desk_laws.specs.NewPools.{KeepsForms}
 use Rattle.desk_rules.specs.Rules.{Rules}
 use Rattle.desk_rules.specs.RuleSets.{IsRuleSet}
-use Rattle.desk_rewrite.specs.RuleImages.{images_of}
+use Rattle.desk_follow.specs.RuleImages.{images_of}
 
 -- The images of each rule set keep forms.
 abbrev pub FormsStay : Type 0

@@ -2,5 +2,4 @@ pub mod Tables
 pub mod Wanting
 pub mod Counts
 pub mod Refused
-pub mod RuleImages
 pub mod Laws

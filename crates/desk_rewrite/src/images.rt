@@ -5,7 +5,7 @@ ghost use Rattle.desk_rules.specs.Images.{IsImage};
 ghost use Rattle.desk_rules.specs.RuleSets.{IsRuleSet};
 ghost use Rattle.desk_rename.specs.Images.{cls};
 ghost use Rattle.desk_format.specs.Resolved.{image};
-ghost use Rattle.desk_rewrite.specs.RuleImages.{images_of};
+ghost use Rattle.desk_follow.specs.RuleImages.{images_of};
 ghost use Rattle.desk_rewrite.specs.Tables.{role_of};
 
 use crate::table::TextRole;

@@ -12,7 +12,8 @@ ghost use Rattle.desk_class.specs.Parts.{pool_in};
 ghost use Rattle.desk_new_pool.specs.Wants.{IsWanted};
 ghost use Rattle.desk_rewrite.specs.Counts.{renamed_count, odd_count};
 ghost use Rattle.desk_rewrite.specs.Refused.{Refuses};
-ghost use Rattle.desk_rewrite.specs.RuleImages.{images_of};
+ghost use Rattle.desk_follow.specs.Follow.{HasImagesOfNames};
+ghost use Rattle.desk_follow.specs.RuleImages.{images_of};
 ghost use Rattle.desk_rewrite.specs.Tables.{HasDescriptors};
 ghost use Rattle.desk_rewrite.specs.Wanting.{used_in, IsWantedUnder, AreWanted};
 ghost use Rattle.desk_laws.specs.Sound.{IsShaped};
@@ -130,7 +131,7 @@ fn new_class(
 /// nothing changes is copied.
 ///
 /// The new class is well-formed, its resolved tree is the renamed one, its constant pool keeps each old index with its tag,
-/// and rewriting it again changes nothing.
+/// the class names that it holds are the images of those that the class holds, and rewriting it again changes nothing.
 ///
 /// The errors are, in this order, a text of more than 65,535 bytes, a constant pool whose count would be above 65,535, two
 /// members that become one, and want of memory.
@@ -148,6 +149,7 @@ pub fn rewrite<I: Images>(
     ensures accepted { OnOk result ((c : Class) → read_class view.now ≡ Ok c → refusal (images_of rules.now) c ≡ None) }
     ensures refused { IfErr result (λ fault. (c : Class) → read_class view.now ≡ Ok c → Refuses fault (refusal (images_of rules.now) c)) }
     ensures isomorphic { OnOk result ((c : Class) → read_class view.now ≡ Ok c → IsRenamedClass (images_of rules.now) view.now c) }
+    ensures names { OnOk result ((c : Class) → read_class view.now ≡ Ok c → HasImagesOfNames rules.now.renames c (new_class (images_of rules.now) c)) }
     ensures again { IfOk result (λ new. (c : Class) → read_class view.now ≡ Ok c → IsUnchangedClass (images_of rules.now) new.bytes (new_class (images_of rules.now) c)) }
 {
     tell_settled(rules);

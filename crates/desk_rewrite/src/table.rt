@@ -2,7 +2,7 @@
 
 ghost use Rattle.std.specs.Prelude.{◌≡◌, All, IfOk, OnOk, true, is_some, option_copied};
 ghost use Rattle.desk_base.specs.Entries.{text_at};
-ghost use Rattle.desk_rewrite.specs.RuleImages.{images_of};
+ghost use Rattle.desk_follow.specs.RuleImages.{images_of};
 ghost use Rattle.desk_rewrite.specs.Tables.{text_role_of, answer_at, found, image_found, Grows, IsSoundTable, HasImages};
 
 use crate::images::image_by_role;

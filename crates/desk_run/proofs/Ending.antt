@@ -12,7 +12,7 @@ use Rattle.desk_ledger.specs.Ledger.{Ledger, Rows, with_header}
 use Rattle.desk_report.specs.declared.lines.Detail.{Detail}
 use Rattle.desk_report.specs.declared.lines.Summary.{Summary}
 use Rattle.desk_report.specs.declared.status.Status.{Status}
-use Rattle.desk_report.specs.declared.status.Status.TheVariants.{Done, Refusals, Memory, FolderFault, LedgerFault, OutputFault, Usage, NestedRoots, BadRules, Limit, PathClash, OtherRun}
+use Rattle.desk_report.specs.declared.status.Status.TheVariants.{Done, Refusals, Memory, FolderFault, LedgerFault, OutputFault, Usage, NestedRoots, BadRules, Limit, PathClash, NameClash, Stranded, OtherRun}
 use Rattle.desk_report.specs.Texts.{summary_text}
 use Rattle.desk_report.specs.Written.{WritesFront, writing}
 use Rattle.desk_file.specs.declared.images.Image.{Image}
@@ -28,7 +28,7 @@ use Rattle.desk_run.specs.Truth.{IsOurs}
 use Rattle.desk_run.specs.Stops.{Broken, StoppedAt, StoppedBehind, status_of_halt}
 use Rattle.desk_run.specs.Stands.{Unchanged, Between}
 use Rattle.desk_run.specs.Meaning.{run_of_asked}
-use Rattle.desk_run.specs.Answers.{other_run, or_else, answer_of_run, first_answer, is_answer, AskedCause}
+use Rattle.desk_run.specs.Answers.{names_answer, other_run, or_else, answer_of_run, first_answer, is_answer, AskedCause}
 use Rattle.desk_run.specs.Reports.{report, line_of, file_line, summary_of, ending, ending_of_works, line_of_work, plan_line, summary_of_works, report_of_works, renamed_uses, added_texts, number_in_file, number_of, number_in_plan}
 use Rattle.desk_run.specs.Endings.{WhereTold, Tells, Planned, LedgerEarly, HaltsEarly, AllWritten, Finishes, Reported, ReportedOf, HasCauses, StandsAt, IsDone, StandsAfter, is_final, Named, NamedBy, NamedByRoots, IsAttached}
 use Rattle.desk_run.proofs.Splits.{Mapped, mapped}
@@ -43,7 +43,7 @@ all_written asked m0 l0 to header works f' k' p a = record {
   ledger = a.ledger;
   holds = record {
     run = p.run;
-    is = p.ready.is;
+    ready = p.ready;
     runs = p.runs;
     stands = record {
       before = files_below p.run.from m0;
@@ -159,6 +159,8 @@ finish_stands asked m0 l0 to header works f' k' (BadRules fault) p a = absurd a
 finish_stands asked m0 l0 to header works f' k' (OtherRun kept wanted) p a = absurd a
 finish_stands asked m0 l0 to header works f' k' (Limit kind path) p a = absurd a
 finish_stands asked m0 l0 to header works f' k' (PathClash first second) p a = absurd a
+finish_stands asked m0 l0 to header works f' k' (NameClash defined other image) p a = absurd a
+finish_stands asked m0 l0 to header works f' k' (Stranded path held) p a = absurd a
 
 -- nothing is written yet, and the header may be set
 early : (asked : Asked) (m0 : Contents) (l0 : Ledger) (f' : Option Contents) (k' : Option Ledger) → f' ≡ Some m0 → LedgerEarly asked (Some m0) (Some l0) k' → Tells f' k' (λ m l. StandsAt asked m0 l0 m l 0)
@@ -194,6 +196,8 @@ answer_stands asked m0 l0 m l (BadRules fault) e u = u
 answer_stands asked m0 l0 m l (OtherRun kept wanted) e u = u
 answer_stands asked m0 l0 m l (Limit kind path) e u = u
 answer_stands asked m0 l0 m l (PathClash first second) e u = u
+answer_stands asked m0 l0 m l (NameClash defined other image) e u = u
+answer_stands asked m0 l0 m l (Stranded path held) e u = u
 answer_stands asked m0 l0 m l Done e u = cc
 answer_stands asked m0 l0 m l Refusals e u = cc
 answer_stands asked m0 l0 m l Memory e u = cc
@@ -300,6 +304,8 @@ finish_reported asked f0 k0 to header works f f' k k' o o' (BadRules fault) p a 
 finish_reported asked f0 k0 to header works f f' k k' o o' (OtherRun kept wanted) p a r = absurd a
 finish_reported asked f0 k0 to header works f f' k k' o o' (Limit kind path) p a r = absurd a
 finish_reported asked f0 k0 to header works f f' k k' o o' (PathClash first second) p a r = absurd a
+finish_reported asked f0 k0 to header works f f' k k' o o' (NameClash defined other image) p a r = absurd a
+finish_reported asked f0 k0 to header works f f' k k' o o' (Stranded path held) p a r = absurd a
 
 answer_reported : (asked : Asked) (f0 : Option Contents) (k0 : Option Ledger) (o : Option Text) (status : Status) → is_answer status ≡ true → ReportedOf asked f0 k0 o o status
 answer_reported asked f0 k0 o Usage e = refl
@@ -308,6 +314,8 @@ answer_reported asked f0 k0 o (BadRules fault) e = refl
 answer_reported asked f0 k0 o (OtherRun kept wanted) e = refl
 answer_reported asked f0 k0 o (Limit kind path) e = refl
 answer_reported asked f0 k0 o (PathClash first second) e = refl
+answer_reported asked f0 k0 o (NameClash defined other image) e = refl
+answer_reported asked f0 k0 o (Stranded path held) e = refl
 answer_reported asked f0 k0 o Done e = cc
 answer_reported asked f0 k0 o Refusals e = cc
 answer_reported asked f0 k0 o Memory e = refl
@@ -328,6 +336,8 @@ answer_causes asked (BadRules fault) f f' k k' o o' e c = tt
 answer_causes asked (OtherRun kept wanted) f f' k k' o o' e c = tt
 answer_causes asked (Limit kind path) f f' k k' o o' e c = tt
 answer_causes asked (PathClash first second) f f' k k' o o' e c = tt
+answer_causes asked (NameClash defined other image) f f' k k' o o' e c = tt
+answer_causes asked (Stranded path held) f f' k k' o o' e c = tt
 answer_causes asked Done f f' k k' o o' e c = tt
 answer_causes asked Refusals f f' k k' o o' e c = tt
 answer_causes asked Memory f f' k k' o o' e c = tt
@@ -355,6 +365,8 @@ finish_causes asked to works x x' y y' f0 f1 f2 k0 k1 k2 o o' (BadRules fault) l
 finish_causes asked to works x x' y y' f0 f1 f2 k0 k1 k2 o o' (OtherRun kept wanted) lf lk a c = absurd a
 finish_causes asked to works x x' y y' f0 f1 f2 k0 k1 k2 o o' (Limit kind path) lf lk a c = absurd a
 finish_causes asked to works x x' y y' f0 f1 f2 k0 k1 k2 o o' (PathClash first second) lf lk a c = absurd a
+finish_causes asked to works x x' y y' f0 f1 f2 k0 k1 k2 o o' (NameClash defined other image) lf lk a c = absurd a
+finish_causes asked to works x x' y y' f0 f1 f2 k0 k1 k2 o o' (Stranded path held) lf lk a c = absurd a
 
 pub finish_named : (asked : Asked) (to : Text) (works : List Work) (x x' : Option Contents) (y y' : Option Ledger) (old mid new : Option Text) (status : Status) → IsAttached asked mid → new ≡ mid → Finishes to works x x' y y' status → Named asked old new status
 finish_named asked to works x x' y y' old mid new status at same a = subst (NamedByRoots old new status) (sym at.are) (by status a) where
@@ -371,6 +383,8 @@ finish_named asked to works x x' y y' old mid new status at same a = subst (Name
   by (OtherRun kept wanted) a = absurd a
   by (Limit kind path) a = absurd a
   by (PathClash first second) a = absurd a
+  by (NameClash defined other image) a = absurd a
+  by (Stranded path held) a = absurd a
 
 -- a run that completes ends as its works do
 counted_left : (run : Run) (rows : Rows) (files : List File) → list_any (λ (w : Work). leaves w.plan) (works_of run rows files) ≡ list_any (is_refused run rows) files
@@ -384,7 +398,8 @@ planned_first asked m0 l0 to header works p =
     ap ending_of_works p.are
     ∙ ap (λ b. if b then Refusals else Done) (counted_left p.run l0.rows (files_below p.run.from m0))
     ∙ sym (ap (answer_of_run m0 l0) p.ready.is
-    ∙ ap (λ o. or_else o (or_else (other_run p.run.header l0.header) (ending p.run l0.rows (files_below p.run.from m0)))) p.ready.built
+    ∙ ap (λ o. or_else o (or_else (names_answer p.run.name p.run.classes) (or_else (other_run p.run.header l0.header) (ending p.run l0.rows (files_below p.run.from m0))))) p.ready.built
+    ∙ ap (λ o. or_else o (or_else (other_run p.run.header l0.header) (ending p.run l0.rows (files_below p.run.from m0)))) p.ready.names
     ∙ ap (λ o. or_else o (ending p.run l0.rows (files_below p.run.from m0))) p.other)
 
 -- a late answer is the first

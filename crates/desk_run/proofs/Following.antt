@@ -87,6 +87,8 @@ totals_first n old new (status.BadRules fault) t e = absurd t
 totals_first n old new (status.OtherRun kept wanted) t e = absurd t
 totals_first n old new (status.Limit kind path) t e = absurd t
 totals_first n old new (status.PathClash first second) t e = absurd t
+totals_first n old new (status.NameClash defined other image) t e = absurd t
+totals_first n old new (status.Stranded path held) t e = absurd t
 
 -- ---- words that ask for nothing
 
@@ -166,6 +168,8 @@ generate_causes words count f k o o' old new s e t c = asked_generate words coun
   by (status.OtherRun kept wanted) t c = absurd t
   by (status.Limit kind path) t c = absurd t
   by (status.PathClash first second) t c = absurd t
+  by (status.NameClash defined other image) t c = absurd t
+  by (status.Stranded path held) t c = absurd t
 
 -- ---- the clauses of words that ask for nothing
 

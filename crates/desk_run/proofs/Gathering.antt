@@ -6,7 +6,7 @@ use Rattle.desk_folders.specs.Contents.{Contents, file_at, files_below, paths_be
 use Rattle.desk_base.specs.Counts.{Rose-earlier}
 use Rattle.desk_ledger.specs.Ledger.{Ledger}
 use Rattle.desk_report.specs.declared.status.Status.{Status}
-use Rattle.desk_report.specs.declared.status.Status.TheVariants.{Done, Refusals, Memory, FolderFault, LedgerFault, OutputFault, Usage, NestedRoots, BadRules, Limit, PathClash, OtherRun}
+use Rattle.desk_report.specs.declared.status.Status.TheVariants.{Done, Refusals, Memory, FolderFault, LedgerFault, OutputFault, Usage, NestedRoots, BadRules, Limit, PathClash, NameClash, Stranded, OtherRun}
 use Rattle.desk_run.specs.declared.files.Input.{Input}
 use Rattle.desk_run.specs.declared.files.Route.{Route}
 use Rattle.desk_words.specs.declared.roots.Roots.{Roots}
@@ -15,8 +15,7 @@ use Rattle.desk_run.specs.declared.stops.Halt.{Halt}
 use Rattle.desk_run.specs.declared.stops.Halt.TheVariants as halt
 use Rattle.desk_run.specs.Named.{Asked}
 use Rattle.desk_run.specs.Meaning.{ruled, run_of, run_by_roots, run_by_rules, run_of_asked}
-use Rattle.desk_run.specs.Runs.{Run}
-use Rattle.desk_run.specs.Answers.{or_else, other_run, first_of, clash_status, clash_answer, files_answer, answer_of_run, AskedCause}
+use Rattle.desk_run.specs.Answers.{or_else, other_run, first_of, clash_status, clash_answer, files_answer, names_answer, answer_of_run, AskedCause}
 use Rattle.desk_run.specs.Limits.{paths_answer, size_answer}
 use Rattle.desk_run.specs.Reports.{ending}
 use Rattle.desk_run.specs.Inputs.{route_of, input_at, input_of}
@@ -42,11 +41,15 @@ reading_status asked (LedgerFault done) e = cc
 reading_status asked OutputFault e = cc
 reading_status asked Usage e = cc
 reading_status asked (NestedRoots first second) e = cc
+reading_status asked (NameClash defined other image) e = cc
+reading_status asked (Stranded path held) e = cc
 reading_status asked (OtherRun kept wanted) e = cc
 
-reading_first : (names : Roots) (m : Contents) (l : Ledger) (status : Status) (r : Result Ruled Status) → reading_answer names m r ≡ Some status → answer_of_run m l (run_by_rules names r) ≡ status
+reading_first : (names : Roots) (m : Contents) (l : Ledger) (status : Status) (r : Result Ruled Status) → reading_answer names m r ≡ Some status → answer_of_run m l (run_by_rules m names r) ≡ status
 reading_first names m l status (Err s) e = cc
-reading_first names m l status (Ok r) e = ap (λ o. or_else o (or_else (other_run (run_of names r).header l.header) (ending (run_of names r) l.rows (files_below names.from m)))) e
+reading_first names m l status (Ok r) e =
+    let run = run_of names r (files_below names.from m) in
+    ap (λ o. or_else o (or_else (names_answer run.name run.classes) (or_else (other_run run.header l.header) (ending run l.rows (files_below names.from m))))) e
 
 pub halts_reading : (asked : Asked) (names : Roots) (told : Option Contents) (f f' : ℕ) (h : Halt) → asked ≡ Ok names → HaltsReadingAll names told f f' h → HaltsGathering asked told f f' h
 halts_reading asked names told f f' halt.Memory e g = tt
@@ -63,8 +66,8 @@ halts_reading asked names told f f' (halt.Answer status) e g =
 
 -- the run that was read
 pub run_read : (asked : Asked) (names : Roots) (r : Ruled) (told : Option Contents) → asked ≡ Ok names → IfSome told (λ m. ruled names.rules (files_below names.rules m) ≡ Ok r)
-    → IfSome told (λ m. run_of_asked asked m ≡ Ok (run_of names r))
-run_read asked names r told e g = if_some _ told (λ m t. ap (run_by_roots m) e ∙ ap (run_by_rules names) (at_some (λ m. ruled names.rules (files_below names.rules m) ≡ Ok r) told m t g))
+    → IfSome told (λ m. run_of_asked asked m ≡ Ok (run_of names r (files_below names.from m)))
+run_read asked names r told e g = if_some _ told (λ m t. ap (run_by_roots m) e ∙ ap (run_by_rules m names) (at_some (λ m. ruled names.rules (files_below names.rules m) ≡ Ok r) told m t g))
 
 -- the first of two answers
 first_none : (a b : Option Status) → a ≡ None → first_of a b ≡ b
@@ -74,9 +77,9 @@ first_some : (a b : Option Status) (status : Status) → a ≡ Some status → f
 first_some a b status e = ap (λ o. first_of o b) e
 
 -- the files that were read
-inputs_of_routes : (run : Run) (m : Contents) (paths : List Text) → map (input_at run.from m) (map (route_of run.target) paths) ≡ map (input_of run) (map (file_at run.from m) paths)
-inputs_of_routes run m [] = refl
-inputs_of_routes run m (path ∷ paths) = ap (λ xs. input_of run (file_at run.from m path) ∷ xs) (inputs_of_routes run m paths)
+inputs_of_routes : (from : Text) (target : Text → Text) (m : Contents) (paths : List Text) → map (input_at from m) (map (route_of target) paths) ≡ map (input_of target) (map (file_at from m) paths)
+inputs_of_routes from target m [] = refl
+inputs_of_routes from target m (path ∷ paths) = ap (λ xs. input_of target (file_at from m path) ∷ xs) (inputs_of_routes from target m paths)
 
 paths_routed : (target : Text → Text) (paths : List Text) → map (λ (route : Route). route.path) (map (route_of target) paths) ≡ paths
 paths_routed target [] = refl
@@ -88,75 +91,75 @@ pub routes_listed : (from : Text) (target : Text → Text) (told now : Option Co
 routes_listed from target told now routes same listed = if_some _ now (λ m t.
     ap (map (λ (route : Route). route.path)) (at_some (λ m. routes ≡ map (route_of target) (paths_below from m)) told m (sym same ∙ t) listed) ∙ paths_routed target (paths_below from m))
 
-paths_of_inputs : (run : Run) (m : Contents) (paths : List Text) → map (λ (input : Input). input.path) (map (input_of run) (map (file_at run.from m) paths)) ≡ paths
-paths_of_inputs run m [] = refl
-paths_of_inputs run m (path ∷ paths) = ap (λ ps. path ∷ ps) (paths_of_inputs run m paths)
+paths_of_inputs : (from : Text) (target : Text → Text) (m : Contents) (paths : List Text) → map (λ (input : Input). input.path) (map (input_of target) (map (file_at from m) paths)) ≡ paths
+paths_of_inputs from target m [] = refl
+paths_of_inputs from target m (path ∷ paths) = ap (λ ps. path ∷ ps) (paths_of_inputs from target m paths)
 
-targets_of_inputs : (run : Run) (m : Contents) (paths : List Text) → map (λ (input : Input). input.target) (map (input_of run) (map (file_at run.from m) paths)) ≡ map run.target paths
-targets_of_inputs run m [] = refl
-targets_of_inputs run m (path ∷ paths) = ap (λ ts. run.target path ∷ ts) (targets_of_inputs run m paths)
+targets_of_inputs : (from : Text) (target : Text → Text) (m : Contents) (paths : List Text) → map (λ (input : Input). input.target) (map (input_of target) (map (file_at from m) paths)) ≡ map target paths
+targets_of_inputs from target m [] = refl
+targets_of_inputs from target m (path ∷ paths) = ap (λ ts. target path ∷ ts) (targets_of_inputs from target m paths)
 
 -- what is known of files that were listed and read
-pub record AreRead (run : Run) (m : Contents) (inputs : List Input) : Type 0 where
-  pub are : inputs ≡ map (input_of run) (files_below run.from m)
-  pub routed : paths_answer run.from run.target (paths_below run.from m) ≡ None
-  pub fit : size_answer 0 (files_below run.from m) ≡ None
+pub record AreRead (from : Text) (target : Text → Text) (m : Contents) (inputs : List Input) : Type 0 where
+  pub are : inputs ≡ map (input_of target) (files_below from m)
+  pub routed : paths_answer from target (paths_below from m) ≡ None
+  pub fit : size_answer 0 (files_below from m) ≡ None
 
-pub are_read : (run : Run) (told mid : Option Contents) (routes : List Route) (inputs : List Input) → mid ≡ told → IfSome told (λ m. routes ≡ map (route_of run.target) (paths_below run.from m))
-    → IfSome told (λ m. paths_answer run.from run.target (paths_below run.from m) ≡ None) → IfSome mid (λ m. inputs ≡ map (input_at run.from m) routes) → IfSome mid (λ m. size_answer 0 (files_below run.from m) ≡ None)
-    → IfSome told (λ m. AreRead run m inputs)
-are_read run told mid routes inputs same listed clear read fit = if_some _ told (λ m t. record {
-  are = at_some (λ m. inputs ≡ map (input_at run.from m) routes) mid m (same ∙ t) read
-      ∙ ap (map (input_at run.from m)) (at_some (λ m. routes ≡ map (route_of run.target) (paths_below run.from m)) told m t listed)
-      ∙ inputs_of_routes run m (paths_below run.from m);
-  routed = at_some (λ m. paths_answer run.from run.target (paths_below run.from m) ≡ None) told m t clear;
-  fit = at_some (λ m. size_answer 0 (files_below run.from m) ≡ None) mid m (same ∙ t) fit;
+pub are_read : (from : Text) (target : Text → Text) (told mid : Option Contents) (routes : List Route) (inputs : List Input) → mid ≡ told → IfSome told (λ m. routes ≡ map (route_of target) (paths_below from m))
+    → IfSome told (λ m. paths_answer from target (paths_below from m) ≡ None) → IfSome mid (λ m. inputs ≡ map (input_at from m) routes) → IfSome mid (λ m. size_answer 0 (files_below from m) ≡ None)
+    → IfSome told (λ m. AreRead from target m inputs)
+are_read from target told mid routes inputs same listed clear read fit = if_some _ told (λ m t. record {
+  are = at_some (λ m. inputs ≡ map (input_at from m) routes) mid m (same ∙ t) read
+      ∙ ap (map (input_at from m)) (at_some (λ m. routes ≡ map (route_of target) (paths_below from m)) told m t listed)
+      ∙ inputs_of_routes from target m (paths_below from m);
+  routed = at_some (λ m. paths_answer from target (paths_below from m) ≡ None) told m t clear;
+  fit = at_some (λ m. size_answer 0 (files_below from m) ≡ None) mid m (same ∙ t) fit;
 })
 
 -- what clashes of them
-clash_same : (run : Run) (m : Contents) (inputs : List Input) → AreRead run m inputs → clash_of inputs ≡ clash_answer run.target (paths_below run.from m)
-clash_same run m inputs r =
+clash_same : (from : Text) (target : Text → Text) (m : Contents) (inputs : List Input) → AreRead from target m inputs → clash_of inputs ≡ clash_answer target (paths_below from m)
+clash_same from target m inputs r =
     ap clash_of r.are
-    ∙ ap (λ ps. clash_status ps (first_clash (map (λ (input : Input). input.target) (map (input_of run) (files_below run.from m))))) (paths_of_inputs run m (paths_below run.from m))
-    ∙ ap (λ ts. clash_status (paths_below run.from m) (first_clash ts)) (targets_of_inputs run m (paths_below run.from m))
+    ∙ ap (λ ps. clash_status ps (first_clash (map (λ (input : Input). input.target) (map (input_of target) (files_below from m))))) (paths_of_inputs from target m (paths_below from m))
+    ∙ ap (λ ts. clash_status (paths_below from m) (first_clash ts)) (targets_of_inputs from target m (paths_below from m))
 
-files_answer_read : (run : Run) (m : Contents) (inputs : List Input) → AreRead run m inputs → files_answer run m ≡ clash_of inputs
-files_answer_read run m inputs r = first_none _ _ r.routed ∙ first_none _ _ r.fit ∙ sym (clash_same run m inputs r)
+files_answer_read : (from : Text) (target : Text → Text) (m : Contents) (inputs : List Input) → AreRead from target m inputs → files_answer from target m ≡ clash_of inputs
+files_answer_read from target m inputs r = first_none _ _ r.routed ∙ first_none _ _ r.fit ∙ sym (clash_same from target m inputs r)
 
 -- nothing stands against them
-pub inputs_read : (run : Run) (told : Option Contents) (inputs : List Input) → IfSome told (λ m. AreRead run m inputs) → clash_of inputs ≡ None → IfSome told (λ m. AreInputs run m inputs)
-inputs_read run told inputs read e = if_some _ told (λ m t.
-    let r = at_some (λ m. AreRead run m inputs) told m t read in
-    record { are = r.are; built = files_answer_read run m inputs r ∙ e })
+pub inputs_read : (from : Text) (target : Text → Text) (told : Option Contents) (inputs : List Input) → IfSome told (λ m. AreRead from target m inputs) → clash_of inputs ≡ None → IfSome told (λ m. AreInputs from target m inputs)
+inputs_read from target told inputs read e = if_some _ told (λ m t.
+    let r = at_some (λ m. AreRead from target m inputs) told m t read in
+    record { are = r.are; built = files_answer_read from target m inputs r ∙ e })
 
 -- two of them clash
-pub halts_clash : (run : Run) (told : Option Contents) (inputs : List Input) (f f' : ℕ) (h : Halt) → IfSome told (λ m. AreRead run m inputs) → HaltsClashing inputs h → HaltsAtFiles run told f f' h
-halts_clash run told inputs f f' halt.Memory read g = tt
-halts_clash run told inputs f f' halt.Folders read g = absurd g
-halts_clash run told inputs f f' halt.Ledger read g = absurd g
-halts_clash run told inputs f f' (halt.Answer status) read g =
-    (g.0, if_some _ told (λ m t. files_answer_read run m inputs (at_some (λ m. AreRead run m inputs) told m t read) ∙ g.1))
+pub halts_clash : (from : Text) (target : Text → Text) (told : Option Contents) (inputs : List Input) (f f' : ℕ) (h : Halt) → IfSome told (λ m. AreRead from target m inputs) → HaltsClashing inputs h → HaltsAtFiles from target told f f' h
+halts_clash from target told inputs f f' halt.Memory read g = tt
+halts_clash from target told inputs f f' halt.Folders read g = absurd g
+halts_clash from target told inputs f f' halt.Ledger read g = absurd g
+halts_clash from target told inputs f f' (halt.Answer status) read g =
+    (g.0, if_some _ told (λ m t. files_answer_read from target m inputs (at_some (λ m. AreRead from target m inputs) told m t read) ∙ g.1))
 
 -- they have too many bytes
-pub halts_sizes : (run : Run) (told mid : Option Contents) (f f1 f' : ℕ) (h : Halt) → f ≤ f1 → mid ≡ told → IfSome told (λ m. paths_answer run.from run.target (paths_below run.from m) ≡ None)
-    → HaltsWith (λ m. size_answer 0 (files_below run.from m)) mid f1 f' h → HaltsAtFiles run told f f' h
-halts_sizes run told mid f f1 f' halt.Memory le same clear g = tt
-halts_sizes run told mid f f1 f' halt.Folders le same clear g = Rose-earlier f f1 f' le g
-halts_sizes run told mid f f1 f' halt.Ledger le same clear g = absurd g
-halts_sizes run told mid f f1 f' (halt.Answer status) le same clear g = (
+pub halts_sizes : (from : Text) (target : Text → Text) (told mid : Option Contents) (f f1 f' : ℕ) (h : Halt) → f ≤ f1 → mid ≡ told → IfSome told (λ m. paths_answer from target (paths_below from m) ≡ None)
+    → HaltsWith (λ m. size_answer 0 (files_below from m)) mid f1 f' h → HaltsAtFiles from target told f f' h
+halts_sizes from target told mid f f1 f' halt.Memory le same clear g = tt
+halts_sizes from target told mid f f1 f' halt.Folders le same clear g = Rose-earlier f f1 f' le g
+halts_sizes from target told mid f f1 f' halt.Ledger le same clear g = absurd g
+halts_sizes from target told mid f f1 f' (halt.Answer status) le same clear g = (
   g.0,
   if_some _ told (λ m t.
-      first_none _ _ (at_some (λ m. paths_answer run.from run.target (paths_below run.from m) ≡ None) told m t clear)
-      ∙ first_some _ _ status (at_some (λ m. size_answer 0 (files_below run.from m) ≡ Some status) mid m (same ∙ t) g.1)),
+      first_none _ _ (at_some (λ m. paths_answer from target (paths_below from m) ≡ None) told m t clear)
+      ∙ first_some _ _ status (at_some (λ m. size_answer 0 (files_below from m) ≡ Some status) mid m (same ∙ t) g.1)),
 )
 
 -- they are too many, or a path is too long
-pub halts_paths : (run : Run) (told : Option Contents) (f f' : ℕ) (h : Halt) → HaltsWith (λ m. paths_answer run.from run.target (paths_below run.from m)) told f f' h → HaltsAtFiles run told f f' h
-halts_paths run told f f' halt.Memory g = tt
-halts_paths run told f f' halt.Folders g = g
-halts_paths run told f f' halt.Ledger g = absurd g
-halts_paths run told f f' (halt.Answer status) g =
-    (g.0, if_some _ told (λ m t. first_some _ _ status (at_some (λ m. paths_answer run.from run.target (paths_below run.from m) ≡ Some status) told m t g.1)))
+pub halts_paths : (from : Text) (target : Text → Text) (told : Option Contents) (f f' : ℕ) (h : Halt) → HaltsWith (λ m. paths_answer from target (paths_below from m)) told f f' h → HaltsAtFiles from target told f f' h
+halts_paths from target told f f' halt.Memory g = tt
+halts_paths from target told f f' halt.Folders g = g
+halts_paths from target told f f' halt.Ledger g = absurd g
+halts_paths from target told f f' (halt.Answer status) g =
+    (g.0, if_some _ told (λ m t. first_some _ _ status (at_some (λ m. paths_answer from target (paths_below from m) ≡ Some status) told m t g.1)))
 
 pub err_reading : {T : Type 0} (asked : Asked) (names : Roots) (told : Option Contents) (f f' : ℕ) (r : Result T Halt) → asked ≡ Ok names
     → IfErr r (HaltsReadingAll names told f f') → IfErr r (HaltsGathering asked told f f')
@@ -165,6 +168,6 @@ err_reading asked names told f f' (Err h) e g = halts_reading asked names told f
 
 -- the run of the roots and rules that were read
 pub ok_run : {T : Type 0} (asked : Asked) (names : Roots) (P : T → Roots) (Q : T → Ruled) (told : Option Contents) (r : Result T Halt) → asked ≡ Ok names → IfOk r (λ g. P g ≡ names)
-    → IfOk r (λ g. IfSome told (λ m. ruled names.rules (files_below names.rules m) ≡ Ok (Q g))) → IfOk r (λ g. IfSome told (λ m. run_of_asked asked m ≡ Ok (run_of (P g) (Q g))))
-ok_run asked names P Q told (Ok g) e n h = subst (λ s. IfSome told (λ m. run_of_asked asked m ≡ Ok (run_of s (Q g)))) (sym n) (run_read asked names (Q g) told e h)
+    → IfOk r (λ g. IfSome told (λ m. ruled names.rules (files_below names.rules m) ≡ Ok (Q g))) → IfOk r (λ g. IfSome told (λ m. run_of_asked asked m ≡ Ok (run_of (P g) (Q g) (files_below (P g).from m))))
+ok_run asked names P Q told (Ok g) e n h = subst (λ s. IfSome told (λ m. run_of_asked asked m ≡ Ok (run_of s (Q g) (files_below s.from m)))) (sym n) (run_read asked names (Q g) told e h)
 ok_run asked names P Q told (Err x) e n h = tt

@@ -1,3 +1,5 @@
+mod Ruling
+mod Scanning
 pub mod Splits
 pub mod After
 pub mod Truths
@@ -14,5 +16,6 @@ pub mod Gathering
 pub mod Preparing
 pub mod Ending
 pub mod Promised
+pub mod Referring
 pub mod Following
 pub mod InMemory

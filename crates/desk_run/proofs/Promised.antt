@@ -8,7 +8,7 @@ use Rattle.desk_ledger.specs.declared.keeper.Header.{Header}
 use Rattle.desk_ledger.specs.Ledger.{Ledger, with_header}
 use Rattle.desk_report.specs.declared.sink.SinkFault.{SinkFault}
 use Rattle.desk_report.specs.declared.status.Status.{Status}
-use Rattle.desk_report.specs.declared.status.Status.TheVariants.{Done, Refusals, Memory, FolderFault, LedgerFault, OutputFault, Usage, NestedRoots, BadRules, Limit, PathClash, OtherRun}
+use Rattle.desk_report.specs.declared.status.Status.TheVariants.{Done, Refusals, Memory, FolderFault, LedgerFault, OutputFault, Usage, NestedRoots, BadRules, Limit, PathClash, NameClash, Stranded, OtherRun}
 use Rattle.desk_report.specs.Texts.{fault_text}
 use Rattle.desk_report.specs.Written.{WritesFront, writing}
 use Rattle.desk_run.specs.Named.{Asked}
@@ -18,7 +18,7 @@ use Rattle.std.proofs.lemmas.Bool.{and_parts}
 use Rattle.std.proofs.lemmas.List.Elements.{All-head, All-tail}
 use Rattle.desk_format.specs.Laws.{IsBytes}
 use Rattle.desk_laws.proofs.Whole.{renamed_classes, unchanged_classes}
-use Rattle.desk_rewrite.specs.RuleImages.{images_of}
+use Rattle.desk_follow.specs.RuleImages.{images_of}
 use Rattle.desk_rewrite.proofs.Forms.{forms_kept, images_settled}
 use Rattle.desk_paths.specs.declared.Kind.{Kind}
 use Rattle.desk_paths.specs.declared.Kind.TheVariants as kinds
@@ -27,14 +27,17 @@ use Rattle.desk_rules.specs.Rules.{Rules}
 use Rattle.desk_rules.specs.RuleSets.{IsRuleSet}
 use Rattle.desk_file.specs.Images.{image as image_at}
 use Rattle.desk_file.specs.declared.images.Image.{Image}
+use Rattle.desk_file.proofs.Alone.{HasAlone, has_alone}
 use Rattle.desk_file.proofs.ClassImages.{class_made}
+use Rattle.desk_follow.proofs.Follow.{follow}
+use Rattle.desk_file.specs.ClassScans.{is_class_kind}
 use Rattle.desk_run.specs.Runs.{Run}
 use Rattle.desk_run.specs.Works.{works_of}
 use Rattle.desk_run.specs.Truth.{TrueLedger}
 use Rattle.desk_run.specs.Stops.{status_of_halt}
 use Rattle.desk_run.specs.Stands.{Unchanged, Between, Remains}
-use Rattle.desk_run.specs.Classes.{is_class_kind, is_selected_class, HoldsNewClass, RenamesClasses, Classes}
-use Rattle.desk_run.specs.Meaning.{run_of, run_of_asked}
+use Rattle.desk_run.specs.Classes.{is_selected_class, HoldsNewClass, RenamesClasses, Classes}
+use Rattle.desk_run.specs.Meaning.{defined_in, run_of, run_of_asked}
 use Rattle.desk_run.specs.Answers.{first_answer}
 use Rattle.desk_run.specs.Endings.{WhereTold, Tells, Planned, HaltsEarly, Finishes, ReportedOf, HasCauses, StandsAt, IsDone, StandsAfter, is_final, Named}
 use Rattle.desk_run.specs.Clauses.{HoldsFiles, HoldsRows, Files, CompleteRows, KeepsLedger, LedgerHolds, Output, Exact, RemainsAt, Left}
@@ -74,8 +77,8 @@ pub files_clause : (asked : Asked) (m0 : Contents) (l0 : Ledger) (f : Option Con
     → Tells f k (λ m l. StandsAfter asked m0 l0 m l status) → Tells f k (λ m l. Files asked m0 l0 m status)
 files_clause asked m0 l0 f k status t = record { m = t.m; l = t.l; folders = t.folders; ledger = t.ledger; holds = by status t.holds } where
   by : (status : Status) → StandsAfter asked m0 l0 t.m t.l status → Files asked m0 l0 t.m status
-  by Done s = ok_and (run_of_asked asked m0) s.run (λ run. HoldsFiles run m0 l0 t.m) s.is (holds_files s.run m0 l0 t.m t.l s.stands)
-  by Refusals s = ok_and (run_of_asked asked m0) s.run (λ run. HoldsFiles run m0 l0 t.m) s.is (holds_files s.run m0 l0 t.m t.l s.stands)
+  by Done s = ok_and (run_of_asked asked m0) s.run (λ run. HoldsFiles run m0 l0 t.m) s.ready.is (holds_files s.run m0 l0 t.m t.l s.stands)
+  by Refusals s = ok_and (run_of_asked asked m0) s.run (λ run. HoldsFiles run m0 l0 t.m) s.ready.is (holds_files s.run m0 l0 t.m t.l s.stands)
   by Memory s = tt
   by OutputFault s = tt
   by (FolderFault done) s = tt
@@ -86,28 +89,32 @@ files_clause asked m0 l0 f k status t = record { m = t.m; l = t.l; folders = t.f
   by (OtherRun kept wanted) s = tt
   by (Limit kind path) s = tt
   by (PathClash first second) s = tt
+  by (NameClash defined other image) s = tt
+  by (Stranded path held) s = tt
 
 -- ---- classes
 
-class_of_run : (rules : Rules) (file : File) (image : Image) (held : Option Text) → IsRuleSet rules → IsBytes file.bytes → is_selected_class rules file.path ≡ true → image_at rules file.path file.bytes ≡ Ok image → held ≡ Some image.bytes
+pub kind_is_class : (kind : Kind) → is_class_kind kind ≡ true → kind ≡ kinds.Class
+kind_is_class kinds.Class h = refl
+kind_is_class kinds.Service h = absurd cc
+kind_is_class kinds.Manifest h = absurd cc
+kind_is_class kinds.Other h = absurd cc
+
+class_of_run : (rules : Rules) (file : File) (image : Image) (held : Option Text) → IsRuleSet rules → IsBytes file.bytes → is_selected_class rules file.path ≡ true → HasAlone (image_at rules file.path file.bytes) image → held ≡ Some image.bytes
     → HoldsNewClass rules file.bytes held
 class_of_run rules file image held settled bytes selected is there =
     let p = and_parts _ _ selected in
-    let m = class_made rules file.path file.bytes image p.0 (kind_is (kind_of file.path) p.1) is in
+    let m = class_made rules file.path file.bytes is.alone p.0 (kind_is_class (kind_of file.path) p.1) is.is in
     let forms = forms_kept rules settled in
+    let renamed = renamed_classes (images_of rules) file.bytes m.class forms bytes m.reads m.accepted in
     record {
       class = m.class;
       reads = m.reads;
-      holds = there ∙ ap (λ (i : Image). Some i.bytes) m.is;
-      renamed = renamed_classes (images_of rules) file.bytes m.class forms bytes m.reads m.accepted;
+      holds = there ∙ ap Some (is.bytes ∙ ap (λ (i : Image). i.bytes) m.is);
+      renamed = renamed;
+      names = follow rules file.bytes m.class settled bytes m.reads renamed;
       again = unchanged_classes (images_of rules) file.bytes m.class forms (images_settled rules settled) bytes m.reads m.accepted;
     }
-  where
-    kind_is : (kind : Kind) → is_class_kind kind ≡ true → kind ≡ kinds.Class
-    kind_is kinds.Class h = refl
-    kind_is kinds.Service h = absurd cc
-    kind_is kinds.Manifest h = absurd cc
-    kind_is kinds.Other h = absurd cc
 
 all_among : (before rest : List File) (file : File) → All (λ (f : File). IsBytes f.bytes) (before ++ file ∷ rest) → IsBytes file.bytes
 all_among [] rest file h = All-head (λ (f : File). IsBytes f.bytes) file rest h
@@ -115,14 +122,16 @@ all_among (f ∷ before) rest file h = all_among before rest file (All-tail (λ 
 
 renames_classes : (asked : Asked) (m0 : Contents) (l0 : Ledger) (m : Contents) (l : Ledger) → IsDone asked m0 l0 m l → RenamesClasses asked m0 l0 m
 renames_classes asked m0 l0 m l d =
-    let holds : HoldsFiles (run_of d.runs.roots d.runs.ruled) m0 l0 m = subst (λ (r : Run). HoldsFiles r m0 l0 m) d.runs.is (holds_files d.run m0 l0 m l d.stands) in
-    let bytes : All (λ (f : File). IsBytes f.bytes) (files_below (run_of d.runs.roots d.runs.ruled).from m0) = subst (λ (r : Run). All (λ (f : File). IsBytes f.bytes) (files_below r.from m0)) d.runs.is d.runs.bytes in
+    let run = run_of d.runs.roots d.runs.ruled (files_below d.runs.roots.from m0) in
+    let holds : HoldsFiles run m0 l0 m = subst (λ (r : Run). HoldsFiles r m0 l0 m) d.runs.is (holds_files d.run m0 l0 m l d.stands) in
+    let bytes : All (λ (f : File). IsBytes f.bytes) (files_below run.from m0) = subst (λ (r : Run). All (λ (f : File). IsBytes f.bytes) (files_below r.from m0)) d.runs.is d.runs.bytes in
     record {
       roots = d.runs.roots;
       ruled = d.runs.ruled;
-      is = d.is ∙ ap Ok d.runs.is;
+      is = d.ready.is ∙ ap Ok d.runs.is;
       classes = λ before rest file image e selected is truth.
-          class_of_run d.runs.ruled.rules file image _ d.runs.settled (all_among before rest file (subst (All (λ (f : File). IsBytes f.bytes)) e bytes)) selected is (holds.images before rest file image e is truth);
+          class_of_run d.runs.ruled.rules file image _ d.runs.are.settled (all_among before rest file (subst (All (λ (f : File). IsBytes f.bytes)) e bytes)) selected
+          (has_alone d.runs.ruled.rules (defined_in run.classes) file.path file.bytes image is) (holds.images before rest file image e is truth);
     }
 
 pub classes_clause : (asked : Asked) (m0 : Contents) (l0 : Ledger) (f : Option Contents) (k : Option Ledger) (status : Status)
@@ -141,6 +150,8 @@ classes_clause asked m0 l0 f k status t = record { m = t.m; l = t.l; folders = t
   by (OtherRun kept wanted) s = tt
   by (Limit kind path) s = tt
   by (PathClash first second) s = tt
+  by (NameClash defined other image) s = tt
+  by (Stranded path held) s = tt
 
 keeps_ledger : (asked : Asked) (m0 : Contents) (l0 : Ledger) (m : Contents) (l : Ledger) (status : Status) → StandsAfter asked m0 l0 m l status → KeepsLedger asked m0 l0 m l status
 keeps_ledger asked m0 l0 m l status s = record { stays = λ run is. truth status s run is; complete = rows status s } where
@@ -152,7 +163,7 @@ keeps_ledger asked m0 l0 m l status s = record { stays = λ run is. truth status
   begun done run is (inr b) = subst (λ (r : Run). TrueLedger r m0 l0 → TrueLedger r m l) (same_ok (run_of_asked asked m0) b.run run b.is is) (truth_of b.run m0 l0 m l done (inr b.stands))
 
   all : (d : IsDone asked m0 l0 m l) (run : Run) → run_of_asked asked m0 ≡ Ok run → TrueLedger run m0 l0 → TrueLedger run m l
-  all d run is = subst (λ (r : Run). TrueLedger r m0 l0 → TrueLedger r m l) (same_ok (run_of_asked asked m0) d.run run d.is is) (truth_of d.run m0 l0 m l _ (inr (inl d.stands)))
+  all d run is = subst (λ (r : Run). TrueLedger r m0 l0 → TrueLedger r m l) (same_ok (run_of_asked asked m0) d.run run d.ready.is is) (truth_of d.run m0 l0 m l _ (inr (inl d.stands)))
 
   truth : (status : Status) → StandsAfter asked m0 l0 m l status → (run : Run) → run_of_asked asked m0 ≡ Ok run → TrueLedger run m0 l0 → TrueLedger run m l
   truth Done s run is = all s run is
@@ -167,10 +178,12 @@ keeps_ledger asked m0 l0 m l status s = record { stays = λ run is. truth status
   truth (OtherRun kept wanted) s run is = untouched s run
   truth (Limit kind path) s run is = untouched s run
   truth (PathClash first second) s run is = untouched s run
+  truth (NameClash defined other image) s run is = untouched s run
+  truth (Stranded path held) s run is = untouched s run
 
   rows : (status : Status) → StandsAfter asked m0 l0 m l status → CompleteRows asked m0 l0 l status
-  rows Done s = ok_and (run_of_asked asked m0) s.run (λ run. HoldsRows run m0 l0 l) s.is (holds_rows s.run m0 l0 m l s.stands)
-  rows Refusals s = ok_and (run_of_asked asked m0) s.run (λ run. HoldsRows run m0 l0 l) s.is (holds_rows s.run m0 l0 m l s.stands)
+  rows Done s = ok_and (run_of_asked asked m0) s.run (λ run. HoldsRows run m0 l0 l) s.ready.is (holds_rows s.run m0 l0 m l s.stands)
+  rows Refusals s = ok_and (run_of_asked asked m0) s.run (λ run. HoldsRows run m0 l0 l) s.ready.is (holds_rows s.run m0 l0 m l s.stands)
   rows Memory s = tt
   rows OutputFault s = tt
   rows (FolderFault done) s = tt
@@ -181,6 +194,8 @@ keeps_ledger asked m0 l0 m l status s = record { stays = λ run is. truth status
   rows (OtherRun kept wanted) s = tt
   rows (Limit kind path) s = tt
   rows (PathClash first second) s = tt
+  rows (NameClash defined other image) s = tt
+  rows (Stranded path held) s = tt
 
 pub ledger_clause : (asked : Asked) (f0 f : Option Contents) (k0 k : Option Ledger) (name0 name : Option Text) (status : Status)
     → WhereTold f0 k0 (λ m0 l0. Tells f k (λ m l. StandsAfter asked m0 l0 m l status)) → Named asked name0 name status → LedgerHolds asked f0 f k0 k name0 name status
@@ -204,7 +219,7 @@ remains_clause asked m0 l0 f k status t = record { m = t.m; l = t.l; folders = t
   by : (status : Status) → StandsAfter asked m0 l0 t.m t.l status → Left asked m0 l0 t.m t.l status
   by Done s = tt
   by Refusals s = tt
-  by OutputFault s = ok_and (run_of_asked asked m0) s.run (λ run. HoldsFiles run m0 l0 t.m × HoldsRows run m0 l0 t.l) s.is (holds_files s.run m0 l0 t.m t.l s.stands, holds_rows s.run m0 l0 t.m t.l s.stands)
+  by OutputFault s = ok_and (run_of_asked asked m0) s.run (λ run. HoldsFiles run m0 l0 t.m × HoldsRows run m0 l0 t.l) s.ready.is (holds_files s.run m0 l0 t.m t.l s.stands, holds_rows s.run m0 l0 t.m t.l s.stands)
   by Memory s = record { done = s.done; remains = remains_at asked m0 l0 t.m t.l s.done s.stands }
   by (FolderFault done) s = remains_at asked m0 l0 t.m t.l done s
   by (LedgerFault done) s = remains_at asked m0 l0 t.m t.l done s
@@ -214,6 +229,8 @@ remains_clause asked m0 l0 f k status t = record { m = t.m; l = t.l; folders = t
   by (OtherRun kept wanted) s = (s.folder, s.ledger)
   by (Limit kind path) s = (s.folder, s.ledger)
   by (PathClash first second) s = (s.folder, s.ledger)
+  by (NameClash defined other image) s = (s.folder, s.ledger)
+  by (Stranded path held) s = (s.folder, s.ledger)
 
 -- what is final is the first answer, and what else is quiet is want of memory
 pub status_clause : (asked : Asked) (first status : Status) (f f' k k' o o' : ℕ) → (is_final status ≡ true → status ≡ first) → HasCauses asked status f f' k k' o o' → Exact first status f f' k k' o o'
@@ -231,6 +248,8 @@ status_clause asked first status f f' k k' o o' h c = record { final = h; quiet 
   by (OtherRun kept wanted) h c a b d = inl (h refl)
   by (Limit kind path) h c a b d = inl (h refl)
   by (PathClash first second) h c a b d = inl (h refl)
+  by (NameClash defined other image) h c a b d = inl (h refl)
+  by (Stranded path held) h c a b d = inl (h refl)
 
 pub last_write : (line : Text) (old new : Option Text) (o o' : ℕ) (r : Result (Unit {0}) SinkFault) → OnOk r (new ≡ writing line old) → OnErr r (WritesFront line old new) → OnErr r (Rose o o')
     → (new ≡ writing line old) ⊎ (WritesFront line old new × Rose o o')
@@ -277,6 +296,8 @@ output_clause asked f0 k0 (BadRules fault) old mid new o o1 o2 le r w = plain (f
 output_clause asked f0 k0 (OtherRun kept wanted) old mid new o o1 o2 le r w = plain (fault_text (OtherRun kept wanted)) old mid new o o1 o2 le r w
 output_clause asked f0 k0 (Limit kind path) old mid new o o1 o2 le r w = plain (fault_text (Limit kind path)) old mid new o o1 o2 le r w
 output_clause asked f0 k0 (PathClash first second) old mid new o o1 o2 le r w = plain (fault_text (PathClash first second)) old mid new o o1 o2 le r w
+output_clause asked f0 k0 (NameClash defined other image) old mid new o o1 o2 le r w = plain (fault_text (NameClash defined other image)) old mid new o o1 o2 le r w
+output_clause asked f0 k0 (Stranded path held) old mid new o o1 o2 le r w = plain (fault_text (Stranded path held)) old mid new o o1 o2 le r w
 
 pub causes_after : (asked : Asked) (status : Status) (f f' k k' o o1 o2 : ℕ) → o1 ≤ o2 → HasCauses asked status f f' k k' o o1 → HasCauses asked status f f' k k' o o2
 causes_after asked OutputFault f f' k k' o o1 o2 le c = Rose-later o o1 o2 c le
@@ -291,6 +312,8 @@ causes_after asked (BadRules fault) f f' k k' o o1 o2 le c = c
 causes_after asked (OtherRun kept wanted) f f' k k' o o1 o2 le c = c
 causes_after asked (Limit kind path) f f' k k' o o1 o2 le c = c
 causes_after asked (PathClash first second) f f' k k' o o1 o2 le c = c
+causes_after asked (NameClash defined other image) f f' k k' o o1 o2 le c = c
+causes_after asked (Stranded path held) f f' k k' o o1 o2 le c = c
 
 -- where a run stands that was prepared and finished
 pub finish_told : (asked : Asked) (f0 f1 f' : Option Contents) (k0 k1 k' : Option Ledger) (m : Contents) (l : Ledger) (to : Text) (header : Header) (works : List Work) (status : Status) → f0 ≡ Some m → k0 ≡ Some l
@@ -328,3 +351,5 @@ generates n (BadRules fault) old mid new o o1 o2 le t w = absurd t
 generates n (OtherRun kept wanted) old mid new o o1 o2 le t w = absurd t
 generates n (Limit kind path) old mid new o o1 o2 le t w = absurd t
 generates n (PathClash first second) old mid new o o1 o2 le t w = absurd t
+generates n (NameClash defined other image) old mid new o o1 o2 le t w = absurd t
+generates n (Stranded path held) old mid new o o1 o2 le t w = absurd t

@@ -19,7 +19,7 @@ use Rattle.desk_base.specs.Counts.{Rose-earlier}
 use Rattle.desk_ledger.specs.Digests.{HasTaken}
 use Rattle.desk_report.specs.declared.status.Status.{Status}
 use Rattle.desk_report.specs.declared.status.LimitKind.TheVariants.{RuleFiles, RuleSize}
-use Rattle.desk_report.specs.declared.status.Status.TheVariants.{Done, Refusals, Memory, FolderFault, LedgerFault, OutputFault, Usage, NestedRoots, BadRules, Limit, PathClash, OtherRun}
+use Rattle.desk_report.specs.declared.status.Status.TheVariants.{Done, Refusals, Memory, FolderFault, LedgerFault, OutputFault, Usage, NestedRoots, BadRules, Limit, PathClash, NameClash, Stranded, OtherRun}
 use Rattle.desk_rules.specs.Files.{Files}
 use Rattle.desk_rules.specs.RuleFiles.{rules_of_files}
 use Rattle.desk_rules.specs.declared.RuleFault.{RuleFault}
@@ -207,6 +207,8 @@ built_err root told now paths taken f f' (Err h) same listed few all g = by h g 
   by (halt.Answer (NestedRoots first second)) g = absurd g
   by (halt.Answer (Limit kind path)) g = absurd g
   by (halt.Answer (PathClash first second)) g = absurd g
+  by (halt.Answer (NameClash defined other image)) g = absurd g
+  by (halt.Answer (Stranded path held)) g = absurd g
   by (halt.Answer (OtherRun kept wanted)) g = absurd g
 
 -- before the first is taken in

@@ -5,10 +5,12 @@ use Rattle.desk_base.specs.Names.{Text}
 use Rattle.desk_clashes.specs.Clashes.{first_clash}
 use Rattle.desk_clashes.specs.declared.Clash.{Clash}
 use Rattle.desk_folders.specs.Contents.{Contents, files_below, paths_below}
+use Rattle.desk_graph.specs.Application.{Pair, name_clash, stranded}
+use Rattle.desk_graph.specs.declared.scanned.Scanned.{Scanned}
 use Rattle.desk_ledger.specs.declared.keeper.Header.{Header}
 use Rattle.desk_ledger.specs.Ledger.{Ledger}
 use Rattle.desk_report.specs.declared.status.Status.{Status}
-use Rattle.desk_report.specs.declared.status.Status.TheVariants.{Usage, NestedRoots, BadRules, Limit, PathClash, OtherRun}
+use Rattle.desk_report.specs.declared.status.Status.TheVariants.{Usage, NestedRoots, BadRules, Limit, PathClash, NameClash, Stranded, OtherRun}
 use Rattle.desk_run.specs.Limits.{paths_answer, size_answer}
 use Rattle.desk_run.specs.Reports.{ending}
 use Rattle.desk_run.specs.Runs.{Run}
@@ -28,12 +30,25 @@ clash_status paths (Some clash) = Some (PathClash (slice_index_or paths clash.fi
 abbrev pub clash_answer : (Text → Text) → List Text → Option Status
 clash_answer target paths = clash_status paths (first_clash (map target paths))
 
--- what stands against the files of a run: that they are too many, that a path is too long, that they have
+-- what stands against the files below a root, by the target of each: that they are too many, that a path is too long, that they have
 -- too many bytes, or that two targets clash
-abbrev pub files_answer : Run → Contents → Option Status
-files_answer run m =
-    first_of (paths_answer run.from run.target (paths_below run.from m))
-    (first_of (size_answer 0 (files_below run.from m)) (clash_answer run.target (paths_below run.from m)))
+abbrev pub files_answer : Text → (Text → Text) → Contents → Option Status
+files_answer from target m =
+    first_of (paths_answer from target (paths_below from m))
+    (first_of (size_answer 0 (files_below from m)) (clash_answer target (paths_below from m)))
+
+abbrev pub name_clash_status : (Text → Text) → Option Pair → Option Status
+name_clash_status name None = None
+name_clash_status name (Some clash) = Some (NameClash clash.0 clash.1 (name clash.0))
+
+abbrev pub stranded_status : Option Pair → Option Status
+stranded_status None = None
+stranded_status (Some one) = Some (Stranded one.0 one.1)
+
+-- what stands against the classes of a run, by the image of each name: that a defined name and another would become one, or
+-- that a class that isn't selected holds a defined name that changes
+abbrev pub names_answer : (Text → Text) → List Scanned → Option Status
+names_answer name classes = first_of (name_clash_status name (name_clash name classes)) (stranded_status (stranded name classes))
 
 abbrev pub same_header : Header → Header → Bool
 same_header a b = pointwise ◌==◌ a.from b.from && (pointwise ◌==◌ a.to b.to && pointwise ◌==◌ a.rules.0 b.rules.0)
@@ -49,11 +64,11 @@ or_else (Some first) status = first
 
 abbrev pub answer_of_run : Contents → Ledger → Result Run Status → Status
 answer_of_run m l (Err status) = status
-answer_of_run m l (Ok run) = or_else (files_answer run m) (or_else (other_run run.header l.header) (ending run l.rows (files_below run.from m)))
+answer_of_run m l (Ok run) = or_else (files_answer run.from run.target m) (or_else (names_answer run.name run.classes) (or_else (other_run run.header l.header) (ending run l.rows (files_below run.from m))))
 
 -- the first that stands of: words without a task; nested roots; too many rule files; a rule file that is
 -- too large; bad rules; too many files; a path that is too long; files that are too large; two targets that
--- clash; another run's ledger; files that are refused; and else that all is done
+-- clash; two names of classes that would become one; a class that would be left behind; another run's ledger; files that are refused; and else that all is done
 abbrev pub first_answer : Asked → Contents → Ledger → Status
 first_answer asked m l = answer_of_run m l (run_of_asked asked m)
 
@@ -70,5 +85,7 @@ is_answer (NestedRoots first second) = true
 is_answer (BadRules fault) = true
 is_answer (Limit kind path) = true
 is_answer (PathClash first second) = true
+is_answer (NameClash defined other image) = true
+is_answer (Stranded path name) = true
 is_answer (OtherRun kept wanted) = true
 is_answer _ = false

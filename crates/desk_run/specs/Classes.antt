@@ -6,17 +6,17 @@ use Rattle.desk_base.specs.Paths.{full}
 use Rattle.desk_folders.specs.Contents.{Contents, File, files_below}
 use Rattle.desk_format.specs.Classes.{Class, read_class}
 use Rattle.desk_format.specs.NewClass.{new_class, new_bytes}
-use Rattle.desk_rewrite.specs.RuleImages.{images_of}
+use Rattle.desk_follow.specs.RuleImages.{images_of}
 use Rattle.desk_laws.specs.Classes.{IsRenamedClass, IsUnchangedClass}
 use Rattle.desk_ledger.specs.Ledger.{Ledger}
 use Rattle.desk_file.specs.declared.images.Image.{Image}
-use Rattle.desk_paths.specs.declared.Kind.{Kind}
-use Rattle.desk_paths.specs.declared.Kind.TheVariants as kinds
 use Rattle.desk_paths.specs.Kinds.{kind_of}
 use Rattle.desk_patterns.specs.Selections.{selects}
 use Rattle.desk_report.specs.declared.status.Status.{Status}
 use Rattle.desk_report.specs.declared.status.Status.TheVariants.{Done, Refusals}
 use Rattle.desk_rules.specs.Rules.{Rules}
+use Rattle.desk_follow.specs.Follow.{HasImagesOfNames}
+use Rattle.desk_file.specs.ClassScans.{is_class_kind}
 use Rattle.desk_words.specs.declared.roots.Roots.{Roots}
 use Rattle.desk_run.specs.Named.{Asked}
 use Rattle.desk_run.specs.declared.rules.Ruled.{Ruled}
@@ -24,23 +24,19 @@ use Rattle.desk_run.specs.Meaning.{run_of, run_of_asked}
 use Rattle.desk_run.specs.Runs.{Run, is_kept_file}
 use Rattle.desk_run.specs.Truth.{TrueLedger}
 
-abbrev pub is_class_kind : Kind → Bool
-is_class_kind kinds.Class = true
-is_class_kind kinds.Service = false
-is_class_kind kinds.Manifest = false
-is_class_kind kinds.Other = false
-
 -- a path of a class that is selected
 abbrev pub is_selected_class : Rules → Text → Bool
 is_selected_class rules path = selects rules.selection path && is_class_kind (kind_of path)
 
 -- Bytes are a well-formed class, and what is held is its new class: it is well-formed, its resolved tree is the renamed one,
--- and its pool keeps the old positions and grows by the missing texts alone; renaming it once more changes nothing.
+-- and its pool keeps the old positions and grows by the missing texts alone; it holds exactly the images of the class names
+-- that the old one holds; renaming it once more changes nothing.
 pub record HoldsNewClass (rules : Rules) (bytes : Text) (held : Option Text) : Type 0 where
   pub class : Class
   pub reads : read_class bytes ≡ Ok class
   pub holds : held ≡ Some (new_bytes (images_of rules) bytes class)
   pub renamed : IsRenamedClass (images_of rules) bytes class
+  pub names : HasImagesOfNames rules.renames class (new_class (images_of rules) class)
   pub again : IsUnchangedClass (images_of rules) (new_bytes (images_of rules) bytes class) (new_class (images_of rules) class)
 
 -- the target of each selected class that is accepted holds its new class; of a kept file where the ledger was true
@@ -52,8 +48,8 @@ HoldsClasses run rules m0 l0 m = (before rest : List File) (file : File) (image 
 pub record RenamesClasses (asked : Asked) (m0 : Contents) (l0 : Ledger) (m : Contents) : Type 0 where
   pub roots : Roots
   pub ruled : Ruled
-  pub is : run_of_asked asked m0 ≡ Ok (run_of roots ruled)
-  pub classes : HoldsClasses (run_of roots ruled) ruled.rules m0 l0 m
+  pub is : run_of_asked asked m0 ≡ Ok (run_of roots ruled (files_below roots.from m0))
+  pub classes : HoldsClasses (run_of roots ruled (files_below roots.from m0)) ruled.rules m0 l0 m
 
 -- classes: after a run that completes
 abbrev pub Classes : Asked → Contents → Ledger → Contents → Status → Type 0

@@ -4,7 +4,7 @@ use Rattle.desk_base.specs.Names.{Text}
 use Rattle.desk_base.specs.Counts.{Rose}
 use Rattle.desk_folders.specs.Contents.{Contents, File, files_below}
 use Rattle.desk_format.specs.Laws.{IsBytes}
-use Rattle.desk_rules.specs.RuleSets.{IsRuleSet}
+use Rattle.desk_second.specs.Second.{AreRules}
 use Rattle.desk_ledger.specs.declared.keeper.Header.{Header}
 use Rattle.desk_ledger.specs.declared.keeper.Row.{Row}
 use Rattle.desk_ledger.specs.Ledger.{Ledger, NoneWaits, with_header}
@@ -27,7 +27,7 @@ use Rattle.desk_run.specs.Stops.{StopsAt, status_of_halt}
 use Rattle.desk_run.specs.Stands.{Unchanged, Between, Within}
 use Rattle.desk_run.specs.Named.{Asked}
 use Rattle.desk_run.specs.Meaning.{run_of, run_of_asked}
-use Rattle.desk_run.specs.Answers.{files_answer, other_run, first_answer, is_answer, AskedCause}
+use Rattle.desk_run.specs.Answers.{files_answer, names_answer, other_run, first_answer, is_answer, AskedCause}
 
 -- where folders and keeper tell their contents
 abbrev pub WhereTold : Option Contents → Option Ledger → (Contents → Ledger → Type 0) → Type 0
@@ -41,23 +41,24 @@ pub record Tells (f : Option Contents) (k : Option Ledger) (P : Contents → Led
   pub ledger : k ≡ Some l
   pub holds : P m l
 
--- a run whose words and rules are read and whose files stand against nothing
+-- a run whose words and rules are read and against whose files and classes nothing stands
 pub record IsReady (asked : Asked) (m : Contents) (run : Run) : Type 0 where
   pub is : run_of_asked asked m ≡ Ok run
-  pub built : files_answer run m ≡ None
+  pub built : files_answer run.from run.target m ≡ None
+  pub names : names_answer run.name run.classes ≡ None
   pub apart : TargetsApart run m
 
--- the files of a run, none of which stands against it
-pub record AreInputs (run : Run) (m : Contents) (inputs : List Input) : Type 0 where
-  pub are : inputs ≡ map (input_of run) (files_below run.from m)
-  pub built : files_answer run m ≡ None
+-- the files below a root with their targets, none of which stands against a run
+pub record AreInputs (from : Text) (target : Text → Text) (m : Contents) (inputs : List Input) : Type 0 where
+  pub are : inputs ≡ map (input_of target) (files_below from m)
+  pub built : files_answer from target m ≡ None
 
 -- a run by a rule set, whose files are bytes
 pub record RunsOn (run : Run) (m : Contents) : Type 0 where
   pub roots : Roots
   pub ruled : Ruled
-  pub is : run ≡ run_of roots ruled
-  pub settled : IsRuleSet ruled.rules
+  pub is : run ≡ run_of roots ruled (files_below roots.from m)
+  pub are : AreRules ruled.rules
   pub bytes : All (λ (file : File). IsBytes file.bytes) (files_below run.from m)
 
 -- the works are planned, and nothing stands against the run
@@ -157,7 +158,7 @@ pub record StandsSomewhere (asked : Asked) (m0 : Contents) (l0 : Ledger) (m : Co
 -- all files of the run are done
 pub record IsDone (asked : Asked) (m0 : Contents) (l0 : Ledger) (m : Contents) (l : Ledger) : Type 0 where
   pub run : Run
-  pub is : run_of_asked asked m0 ≡ Ok run
+  pub ready : IsReady asked m0 run
   pub runs : RunsOn run m0
   pub stands : Between run m0 l0 m l (length (files_below run.from m0))
 

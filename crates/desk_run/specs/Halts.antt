@@ -1,13 +1,14 @@
 -- Where the steps before the first write may halt.
-use Rattle.std.specs.Prelude.{◌≡◌, ◌⊎◌, ℕ, List, ◌∷◌, Option, Some, Bool, true, false, Result, Ok, Err, IfSome, option_map, map}
+use Rattle.std.specs.Prelude.{◌≡◌, ◌⊎◌, ℕ, List, ◌∷◌, Option, Some, None, Bool, true, false, Result, Ok, Err, IfSome, option_map, map}
 use Rattle.desk_base.specs.Names.{Text}
 use Rattle.desk_clashes.specs.Clashes.{first_clash}
 use Rattle.desk_base.specs.Counts.{Rose}
+use Rattle.desk_file.specs.Images.{target}
 use Rattle.desk_folders.specs.Contents.{Contents, File, file_at, files_below}
 use Rattle.desk_ledger.specs.declared.keeper.Header.{Header}
 use Rattle.desk_ledger.specs.Ledger.{Ledger, with_header}
 use Rattle.desk_report.specs.declared.status.Status.{Status}
-use Rattle.desk_report.specs.declared.status.Status.TheVariants.{Usage, NestedRoots, BadRules, Limit, PathClash, OtherRun}
+use Rattle.desk_report.specs.declared.status.Status.TheVariants.{Usage, NestedRoots, BadRules, Limit, PathClash, NameClash, Stranded, OtherRun}
 use Rattle.desk_rules.specs.Rules.{Rules}
 use Rattle.desk_rules.specs.declared.RuleFault.{RuleFault}
 use Rattle.desk_words.specs.declared.roots.Roots.{Roots}
@@ -16,9 +17,8 @@ use Rattle.desk_run.specs.declared.files.Input.{Input}
 use Rattle.desk_run.specs.declared.stops.Halt.{Halt}
 use Rattle.desk_run.specs.declared.stops.Halt.TheVariants.{Memory, Folders, Ledger as LedgerHalt, Answer}
 use Rattle.desk_run.specs.declared.rules.Ruled.{Ruled}
-use Rattle.desk_run.specs.Runs.{Run}
 use Rattle.desk_run.specs.Limits.{first_long, long_answer, size_answer, rule_size_answer}
-use Rattle.desk_run.specs.Meaning.{ruled, run_of}
+use Rattle.desk_run.specs.Meaning.{ruled}
 use Rattle.desk_run.specs.Answers.{clash_status, files_answer, first_answer, other_run, AskedCause}
 use Rattle.desk_run.specs.Truth.{IsOurs}
 
@@ -69,9 +69,9 @@ HaltsWith answer told f f' Folders = Rose f f'
 HaltsWith answer told f f' (Answer status) = (is_files_status status ≡ true) × IfSome told (λ m. answer m ≡ Some status)
 HaltsWith answer told f f' _ = ⊥
 
--- at the files of a run
-abbrev pub HaltsAtFiles : Run → Option Contents → ℕ → ℕ → Halt → Type 0
-HaltsAtFiles run = HaltsWith (files_answer run)
+-- at the files below a root
+abbrev pub HaltsAtFiles : Text → (Text → Text) → Option Contents → ℕ → ℕ → Halt → Type 0
+HaltsAtFiles from target = HaltsWith (files_answer from target)
 
 -- at the first path that is too long
 abbrev pub HaltsRouting : (Text → Text) → List Text → Halt → Type 0
@@ -120,10 +120,16 @@ abbrev pub NamedAtHalt : Option Text → Option Text → Text → Halt → Type 
 NamedAtHalt old new name (Answer status) = new ≡ Some name
 NamedAtHalt old new name _ = (new ≡ old) ⊎ (new ≡ Some name)
 
+-- the name that is attached where the planning halts
+abbrev pub NamedAtPlan : Option Text → Option Text → Text → Halt → Type 0
+NamedAtPlan old new name (Answer (OtherRun kept wanted)) = new ≡ Some name
+NamedAtPlan old new name (Answer status) = new ≡ old
+NamedAtPlan old new name _ = (new ≡ old) ⊎ (new ≡ Some name)
+
 -- what stands against a run by the rules of its folder, or by its files
 abbrev pub reading_answer : Roots → Contents → Result Ruled Status → Option Status
 reading_answer names m (Err status) = Some status
-reading_answer names m (Ok ruled) = files_answer (run_of names ruled) m
+reading_answer names m (Ok ruled) = files_answer names.from (target ruled.rules) m
 
 -- a status of the rule folder or of the files
 abbrev pub is_read_status : Status → Bool
@@ -160,13 +166,30 @@ HaltsGathering asked told f f' Folders = Rose f f'
 HaltsGathering asked told f f' (Answer status) = GatheringAnswer asked told status
 HaltsGathering asked told f f' _ = ⊥
 
--- the ledger is as before, or has this header, where it had none or the same
-abbrev pub LedgerOwn : Header → Option Ledger → Option Ledger → Type 0
-LedgerOwn header k k' = (k' ≡ k) ⊎ ((k' ≡ option_map (with_header header) k) × IfSome k (λ l. IsOurs header l.header))
+-- the ledger is as before, or has this header, where it had none or the same and nothing stands against the names of classes
+abbrev pub LedgerOwn : Option Status → Header → Option Ledger → Option Ledger → Type 0
+LedgerOwn names header k k' = (k' ≡ k) ⊎ ((k' ≡ option_map (with_header header) k) × (names ≡ None) × IfSome k (λ l. IsOurs header l.header))
 
--- where the ledger is opened and the works are planned
-abbrev pub HaltsPlan : Header → Option Ledger → Option Ledger → ℕ → ℕ → Halt → Type 0
-HaltsPlan header k k' k1 k2 Memory = LedgerOwn header k k'
-HaltsPlan header k k' k1 k2 LedgerHalt = LedgerOwn header k k' × Rose k1 k2
-HaltsPlan header k k' k1 k2 (Answer status) = (k' ≡ k) × (is_ledger_status status ≡ true) × IfSome k (λ l. other_run header l.header ≡ Some status)
-HaltsPlan header k k' k1 k2 _ = ⊥
+-- a status of the names of classes
+abbrev pub is_names_status : Status → Bool
+is_names_status (NameClash defined other image) = true
+is_names_status (Stranded path name) = true
+is_names_status _ = false
+
+-- at the names of classes, as an answer tells
+abbrev pub HaltsAtNames : Option Status → Halt → Type 0
+HaltsAtNames answer Memory = Unit {0}
+HaltsAtNames answer (Answer status) = (is_names_status status ≡ true) × (answer ≡ Some status)
+HaltsAtNames answer _ = ⊥
+
+-- a status of the names of classes; or one of the ledger, where nothing stands against the names
+abbrev pub AnswersPlan : Option Status → Header → Option Ledger → Status → Type 0
+AnswersPlan names header k status = ((is_names_status status ≡ true) × (names ≡ Some status))
+    ⊎ ((is_ledger_status status ≡ true) × (names ≡ None) × IfSome k (λ l. other_run header l.header ≡ Some status))
+
+-- where the names of classes are looked at, the ledger is opened and the works are planned
+abbrev pub HaltsPlan : Option Status → Header → Option Ledger → Option Ledger → ℕ → ℕ → Halt → Type 0
+HaltsPlan names header k k' k1 k2 Memory = LedgerOwn names header k k'
+HaltsPlan names header k k' k1 k2 LedgerHalt = LedgerOwn names header k k' × Rose k1 k2
+HaltsPlan names header k k' k1 k2 (Answer status) = (k' ≡ k) × AnswersPlan names header k status
+HaltsPlan names header k k' k1 k2 _ = ⊥

@@ -13,5 +13,6 @@ pub mod Halts
 pub mod RuleFolders
 pub mod Endings
 pub mod Classes
+pub mod Follows
 pub mod Clauses
 pub mod Generated

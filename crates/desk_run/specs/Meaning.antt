@@ -4,15 +4,22 @@ use Rattle.std.specs.List.{flat_map}
 use Rattle.std.specs.Int.{w32, w64, to_be_bytes}
 use Rattle.std.specs.FinMap as fin
 use Rattle.desk_base.specs.Names.{Text}
-use Rattle.desk_file.specs.Images.{target, image}
+use Rattle.desk_class.specs.Held.{ascending}
+use Rattle.desk_file.specs.Images.{target}
+use Rattle.desk_file.specs.Linked.{image_in}
 use Rattle.desk_folders.specs.Contents.{Contents, File, files_below}
+use Rattle.desk_graph.specs.Application.{defined_names}
+use Rattle.desk_graph.specs.declared.scanned.Scanned.{Scanned}
+use Rattle.desk_ledger.specs.declared.keeper.Header.{Header}
 use Rattle.desk_ledger.specs.Digests.{digest}
+use Rattle.desk_rename.specs.Images.{cls}
 use Rattle.desk_report.specs.declared.status.Status.{Status}
 use Rattle.desk_report.specs.declared.status.Status.TheVariants.{BadRules}
 use Rattle.desk_rules.specs.Files.{Files}
 use Rattle.desk_rules.specs.Rules.{Rules}
 use Rattle.desk_rules.specs.RuleFiles.{rules_of_files}
 use Rattle.desk_rules.specs.declared.RuleFault.{RuleFault}
+use Rattle.desk_second.specs.Applications.{classes_of}
 use Rattle.desk_words.specs.declared.roots.Roots.{Roots}
 use Rattle.desk_run.specs.declared.rules.Ruled.{Ruled}
 use Rattle.desk_run.specs.Named.{Asked}
@@ -46,22 +53,37 @@ ruled_by None files = with_digest (flat_map digest_entry files) (rules_of_files 
 abbrev pub ruled : Text → List File → Result Ruled Status
 ruled root files = ruled_by (rule_files_answer root files) files
 
-abbrev pub run_of : Roots → Ruled → Run
-run_of roots r = record {
+-- the header of a run
+abbrev pub header_of : Roots → Ruled → Header
+header_of roots r = record { from = roots.from; to = roots.to; rules = r.digest }
+
+-- the names that classes define, in byte order, each once
+abbrev pub defined_in : List Scanned → List Text
+defined_in classes = ascending (defined_names classes)
+
+-- the run over an application of these classes
+abbrev pub run_over : Roots → Ruled → List Scanned → Run
+run_over roots r classes = record {
   from = roots.from;
   to = roots.to;
   ledger = roots.ledger;
-  header = record { from = roots.from; to = roots.to; rules = r.digest };
+  header = header_of roots r;
+  name = cls r.rules.renames;
+  classes = classes;
   target = target r.rules;
-  image = image r.rules;
+  image = image_in r.rules (defined_in classes);
 }
 
-abbrev pub run_by_rules : Roots → Result Ruled Status → Result Run Status
-run_by_rules roots (Ok r) = Ok (run_of roots r)
-run_by_rules roots (Err status) = Err status
+-- the run over these files
+abbrev pub run_of : Roots → Ruled → List File → Run
+run_of roots r files = run_over roots r (classes_of r.rules files)
+
+abbrev pub run_by_rules : Contents → Roots → Result Ruled Status → Result Run Status
+run_by_rules m roots (Ok r) = Ok (run_of roots r (files_below roots.from m))
+run_by_rules m roots (Err status) = Err status
 
 abbrev pub run_by_roots : Contents → Result Roots Status → Result Run Status
-run_by_roots m (Ok roots) = run_by_rules roots (ruled roots.rules (files_below roots.rules m))
+run_by_roots m (Ok roots) = run_by_rules m roots (ruled roots.rules (files_below roots.rules m))
 run_by_roots m (Err status) = Err status
 
 -- the run of words, by the rules in the folders

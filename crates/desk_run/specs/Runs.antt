@@ -6,6 +6,7 @@ use Rattle.sha2.specs.Sha256.{sha256}
 use Rattle.desk_base.specs.Names.{Text}
 use Rattle.desk_base.specs.Paths.{is_relative_path}
 use Rattle.desk_folders.specs.Contents.{Contents, File, files_below}
+use Rattle.desk_graph.specs.declared.scanned.Scanned.{Scanned}
 use Rattle.desk_ledger.specs.declared.keeper.Header.{Header}
 use Rattle.desk_ledger.specs.declared.keeper.Held.{Held}
 use Rattle.desk_ledger.specs.Ledger.{Rows}
@@ -13,13 +14,15 @@ use Rattle.desk_words.specs.Roots.{RootsApart}
 use Rattle.desk_file.specs.declared.images.Image.{Image}
 use Rattle.desk_report.specs.declared.lines.Reason.{Reason}
 
--- the roots of source, target and ledger as they are written, the header, and for each path its target
--- and the image of bytes at it, or why they have none
+-- the roots of source, target and ledger as they are written, the header, the image of each class name, the classes of the
+-- source, and for each path its target and the image of bytes at it, or why they have none
 pub record Run : Type 0 where
   pub from : Text
   pub to : Text
   pub ledger : Text
   pub header : Header
+  pub name : Text → Text
+  pub classes : List Scanned
   pub target : Text → Text
   pub image : Text → Text → Result Image Reason
 

@@ -6,6 +6,8 @@ use Rattle.desk_folders.specs.declared.folders.FolderFault.{FolderFault}
 use Rattle.desk_folders.specs.declared.folders.FolderFault.TheVariants as folder
 use Rattle.desk_base.specs.Counts.{Rose}
 use Rattle.desk_folders.specs.Contents.{Contents, ChangesOnly}
+use Rattle.desk_graph.specs.declared.graph.GraphFault.{GraphFault}
+use Rattle.desk_graph.specs.declared.graph.GraphFault.TheVariants as graph
 use Rattle.desk_ledger.specs.declared.keeper.KeeperFault.{KeeperFault}
 use Rattle.desk_ledger.specs.declared.keeper.KeeperFault.TheVariants as keeper
 use Rattle.desk_ledger.specs.Ledger.{Ledger}
@@ -75,6 +77,11 @@ status_of_stop LedgerStop done = status.LedgerFault done
 abbrev pub halt_of_folders : FolderFault → Halt
 halt_of_folders folder.Failed = halt.Folders
 halt_of_folders folder.Memory = halt.Memory
+
+abbrev pub halt_of_graph : GraphFault → Halt
+halt_of_graph (graph.NameClash defined other image) = halt.Answer (status.NameClash defined other image)
+halt_of_graph (graph.Stranded path name) = halt.Answer (status.Stranded path name)
+halt_of_graph graph.Memory = halt.Memory
 
 abbrev pub halt_of_keeper : KeeperFault → Halt
 halt_of_keeper keeper.Failed = halt.Ledger

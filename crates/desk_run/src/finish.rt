@@ -6,19 +6,21 @@ ghost use Rattle.desk_base.specs.Counts.{Rose};
 ghost use Rattle.desk_report.specs.declared.status.Status.TheVariants.{Done};
 ghost use Rattle.desk_ledger.specs.Ledger.{with_header};
 ghost use Rattle.desk_run.specs.Endings.{Committed, Finishes, HaltsEarly, HasCauses, IsAttached, IsTold, Named, NamedEarly, Planned, Reported, ReportedOf, StandsAfter, Tells, WhereTold, is_final};
-ghost use Rattle.desk_run.specs.Halts.{HaltsPlan, NamedAtHalt};
-ghost use Rattle.desk_file.specs.Images.{image};
-ghost use Rattle.desk_run.specs.Inputs.{work_of_input};
+ghost use Rattle.desk_run.specs.Halts.{HaltsPlan, NamedAtPlan};
+ghost use Rattle.desk_file.specs.Linked.{image_in};
+ghost use Rattle.desk_rename.specs.Images.{cls};
+ghost use Rattle.desk_run.specs.Inputs.{classes_in, work_of_input};
 ghost use Rattle.desk_run.specs.Reports.{ending_of_works, report_of_works, summary_of};
 ghost use Rattle.desk_run.specs.Named.{asked_roots};
-ghost use Rattle.desk_run.specs.Meaning.{run_of_asked};
+ghost use Rattle.desk_run.specs.Meaning.{defined_in, run_of_asked};
 ghost use Rattle.desk_folders.specs.Contents.{files_below};
 ghost use Rattle.desk_words.specs.Roots.{AreRoots, IsPathRoot};
 ghost use Rattle.desk_run.specs.Runs.{AllRelative};
 ghost use Rattle.desk_run.specs.Works.{leaves};
 ghost use Rattle.desk_run.specs.Truth.{IsOurs};
-ghost use Rattle.desk_run.specs.Answers.{first_answer, other_run};
+ghost use Rattle.desk_run.specs.Answers.{first_answer, names_answer, other_run};
 
+use crate::classes::graph_of_files;
 use crate::gather::{Gathered, gather};
 use crate::opening::open_ledger;
 use crate::planning::{Work, plan_works};
@@ -40,18 +42,20 @@ pub struct Prepared {
     pub works: Vec<Work>,
 }
 
-/// Opens the ledger and plans the works.
+/// Looks at the names of the classes, opens the ledger and plans the works.
 fn plan<K: Keeper>(alloc: Global, keeper: &mut K, gathered: Gathered) -> Result<Prepared, Halt>
+    requires { length gathered.inputs.items < 2 ^ 32 }
     ensures header { IfOk result (λ p. p.header ≡ gathered.header) }
     ensures to { IfOk result (λ p. p.to ≡ gathered.names.value.to) }
-    ensures works { IfOk result (λ p. IfSome (K.told keeper.old) (λ l. p.works.items ≡ map (work_of_input (image gathered.ruled.value.rules) l.rows) gathered.inputs.items)) }
+    ensures works { IfOk result (λ p. IfSome (K.told keeper.old) (λ l. p.works.items ≡ map (work_of_input (image_in gathered.ruled.value.rules (defined_in (classes_in gathered.ruled.value.rules gathered.inputs.items))) l.rows) gathered.inputs.items)) }
     ensures targets { IfOk result (λ p. map (λ work. work.target) p.works.items ≡ map (λ input. input.target) gathered.inputs.items) }
     ensures ledger { OnOk result (K.told keeper.new ≡ option_map (with_header gathered.header) (K.told keeper.old)) }
     ensures ours { OnOk result (IfSome (K.told keeper.old) (λ l. IsOurs gathered.header l.header)) }
     ensures other { OnOk result (IfSome (K.told keeper.old) (λ l. other_run gathered.header l.header ≡ None)) }
     ensures attached { OnOk result (K.attached keeper.new ≡ Some gathered.names.value.ledger) }
-    ensures named { IfErr result (NamedAtHalt (K.attached keeper.old) (K.attached keeper.new) gathered.names.value.ledger) }
-    ensures err { IfErr result (HaltsPlan gathered.header (K.told keeper.old) (K.told keeper.new) (K.faults keeper.old) (K.faults keeper.new)) }
+    ensures clear { OnOk result (names_answer (cls gathered.ruled.value.rules.renames) (classes_in gathered.ruled.value.rules gathered.inputs.items) ≡ None) }
+    ensures named { IfErr result (NamedAtPlan (K.attached keeper.old) (K.attached keeper.new) gathered.names.value.ledger) }
+    ensures err { IfErr result (HaltsPlan (names_answer (cls gathered.ruled.value.rules.renames) (classes_in gathered.ruled.value.rules gathered.inputs.items)) gathered.header (K.told keeper.old) (K.told keeper.new) (K.faults keeper.old) (K.faults keeper.new)) }
     ensures counts { K.faults keeper.old ≤ K.faults keeper.new }
 {
     let Gathered {
@@ -60,8 +64,9 @@ fn plan<K: Keeper>(alloc: Global, keeper: &mut K, gathered: Gathered) -> Result<
         header,
         inputs,
     } = gathered;
+    let graph = graph_of_files(alloc, &ruled.rules, &inputs)?;
     open_ledger(keeper, &names.ledger, &header)?;
-    let works = plan_works(alloc, keeper, &ruled.rules, inputs)?;
+    let works = plan_works(alloc, keeper, &ruled.rules, &graph, inputs)?;
     let Roots { to, .. } = Box::into_inner(names);
     Ok(Prepared { header, to, works })
 }

@@ -2,12 +2,13 @@
 
 ghost use Rattle.std.specs.Prelude.{All, ◌≡◌, ◌≤◌, ◌<◌, ◌^◌, Ok, IfOk, IfErr, IfSome, length, map};
 ghost use Rattle.desk_format.specs.Laws.{IsBytes};
-ghost use Rattle.desk_rules.specs.RuleSets.{IsRuleSet};
+ghost use Rattle.desk_second.specs.Second.{AreRules};
 ghost use Rattle.desk_base.specs.Counts.{Rose};
 ghost use Rattle.desk_folders.specs.Contents.{files_below};
 ghost use Rattle.desk_run.specs.Endings.{AreInputs};
 ghost use Rattle.desk_run.specs.Halts.{HaltsAtFiles, HaltsGathering, HaltsReadingAll};
-ghost use Rattle.desk_run.specs.Meaning.{ruled, run_of, run_of_asked};
+ghost use Rattle.desk_file.specs.Images.{target};
+ghost use Rattle.desk_run.specs.Meaning.{header_of, ruled, run_of, run_of_asked};
 ghost use Rattle.desk_words.specs.Roots.{AreRoots};
 ghost use Rattle.desk_run.specs.Named.{asked_roots};
 ghost use Rattle.desk_run.specs.Runs.{AllRelative};
@@ -34,8 +35,8 @@ pub(crate) struct Gathered {
 }
 
 /// The header of a run.
-fn header_of(names: &Roots, ruled: &Ruled) -> Result<Header, Memory>
-    ensures { IfOk result (λ header. header ≡ (run_of names.now ruled.now).header) }
+fn make_header(names: &Roots, ruled: &Ruled) -> Result<Header, Memory>
+    ensures { IfOk result (λ header. header ≡ header_of names.now ruled.now) }
 {
     let from = names.from.clone()?;
     let to = names.to.clone()?;
@@ -55,10 +56,10 @@ fn read_inputs<F: Folders>(
 ) -> Result<Vec<Input>, Halt>
     requires { AreRoots names.now }
     ensures told { F.told folders.new ≡ F.told folders.old }
-    ensures inputs { IfOk result (λ inputs. IfSome (F.told folders.old) (λ m. AreInputs (run_of names.now ruled.now) m inputs.items)) }
+    ensures inputs { IfOk result (λ inputs. IfSome (F.told folders.old) (λ m. AreInputs names.now.from (target ruled.now.rules) m inputs.items)) }
     ensures relative { IfOk result (λ inputs. AllRelative (map (λ input. input.target) inputs.items)) }
     ensures few { IfOk result (λ inputs. length inputs.items < 2 ^ 32) }
-    ensures err { IfErr result (HaltsAtFiles (run_of names.now ruled.now) (F.told folders.old) (F.faults folders.old) (F.faults folders.new)) }
+    ensures err { IfErr result (HaltsAtFiles names.now.from (target ruled.now.rules) (F.told folders.old) (F.faults folders.old) (F.faults folders.new)) }
     ensures counts { F.faults folders.old ≤ F.faults folders.new }
     ensures bytes { IfOk result (λ inputs. All (λ input. IsBytes input.bytes) inputs.items) }
 {
@@ -77,18 +78,18 @@ fn gather_by<F: Folders>(
     requires { AreRoots names.value }
     ensures told { F.told folders.new ≡ F.told folders.old }
     ensures names { IfOk result (λ g. g.names.value ≡ names.value) }
-    ensures header { IfOk result (λ g. g.header ≡ (run_of names.value g.ruled.value).header) }
+    ensures header { IfOk result (λ g. g.header ≡ header_of names.value g.ruled.value) }
     ensures rules { IfOk result (λ g. IfSome (F.told folders.old) (λ m. ruled names.value.rules (files_below names.value.rules m) ≡ Ok g.ruled.value)) }
-    ensures inputs { IfOk result (λ g. IfSome (F.told folders.old) (λ m. AreInputs (run_of names.value g.ruled.value) m g.inputs.items)) }
+    ensures inputs { IfOk result (λ g. IfSome (F.told folders.old) (λ m. AreInputs names.value.from (target g.ruled.value.rules) m g.inputs.items)) }
     ensures relative { IfOk result (λ g. AllRelative (map (λ input. input.target) g.inputs.items)) }
     ensures few { IfOk result (λ g. length g.inputs.items < 2 ^ 32) }
     ensures err { IfErr result (HaltsReadingAll names.value (F.told folders.old) (F.faults folders.old) (F.faults folders.new)) }
     ensures counts { F.faults folders.old ≤ F.faults folders.new }
     ensures bytes { IfOk result (λ g. All (λ input. IsBytes input.bytes) g.inputs.items) }
-    ensures settled { IfOk result (λ g. IsRuleSet g.ruled.value.rules) }
+    ensures are { IfOk result (λ g. AreRules g.ruled.value.rules) }
 {
     let ruled = read_rules(alloc, folders, &names.rules)?;
-    let header = header_of(&names, &ruled)?;
+    let header = make_header(&names, &ruled)?;
     let inputs = read_inputs(alloc, folders, &names, &ruled)?;
     Ok(Gathered {
         names,
@@ -108,15 +109,15 @@ pub(crate) fn gather<F: Folders>(
     ensures told { F.told folders.new ≡ F.told folders.old }
     ensures names { IfOk result (λ g. asked_roots names ≡ Ok g.names.value) }
     ensures sound { IfOk result (λ g. AreRoots g.names.value) }
-    ensures header { IfOk result (λ g. g.header ≡ (run_of g.names.value g.ruled.value).header) }
-    ensures run { IfOk result (λ g. IfSome (F.told folders.old) (λ m. run_of_asked (asked_roots names) m ≡ Ok (run_of g.names.value g.ruled.value))) }
-    ensures inputs { IfOk result (λ g. IfSome (F.told folders.old) (λ m. AreInputs (run_of g.names.value g.ruled.value) m g.inputs.items)) }
+    ensures header { IfOk result (λ g. g.header ≡ header_of g.names.value g.ruled.value) }
+    ensures run { IfOk result (λ g. IfSome (F.told folders.old) (λ m. run_of_asked (asked_roots names) m ≡ Ok (run_of g.names.value g.ruled.value (files_below g.names.value.from m)))) }
+    ensures inputs { IfOk result (λ g. IfSome (F.told folders.old) (λ m. AreInputs g.names.value.from (target g.ruled.value.rules) m g.inputs.items)) }
     ensures relative { IfOk result (λ g. AllRelative (map (λ input. input.target) g.inputs.items)) }
     ensures few { IfOk result (λ g. length g.inputs.items < 2 ^ 32) }
     ensures err { IfErr result (HaltsGathering (asked_roots names) (F.told folders.old) (F.faults folders.old) (F.faults folders.new)) }
     ensures counts { F.faults folders.old ≤ F.faults folders.new }
     ensures bytes { IfOk result (λ g. All (λ input. IsBytes input.bytes) g.inputs.items) }
-    ensures settled { IfOk result (λ g. IsRuleSet g.ruled.value.rules) }
+    ensures are { IfOk result (λ g. AreRules g.ruled.value.rules) }
 {
     gather_by(alloc, folders, Box::new(alloc, names)?)
 }

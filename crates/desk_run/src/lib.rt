@@ -14,10 +14,12 @@ ghost use Rattle.desk_run.specs.Answers.{first_answer};
 ghost use Rattle.desk_run.specs.Classes.{Classes};
 ghost use Rattle.desk_run.specs.Clauses.{Exact, Files, LedgerHolds, Left, Output};
 ghost use Rattle.desk_run.specs.Endings.{Committed, HasCauses, Named, ReportedOf, StandsAfter, Tells, WhereTold, is_final};
+ghost use Rattle.desk_run.specs.Follows.{Follow};
 ghost use Rattle.desk_run.specs.Generated.{Generates, TellsTotals};
 ghost use Rattle.desk_run.specs.Named.{OfGenerate, OfRun, asked_of};
 
 mod clash;
+mod classes;
 mod files;
 mod finish;
 mod gather;
@@ -97,7 +99,9 @@ fn follow<F: Folders, K: Keeper, O: Sink>(
 /// `Usage` (words without a task), `NestedRoots` (a root lies in another that is written to or holds the
 /// ledger), `Limit` of `RuleFiles` or `RuleSize`, `BadRules`, `Limit` of `Files`, of `PathLength` with the
 /// least such path, of `FileSize` or `Sum` with the first such file, `PathClash` with the first two files
-/// of which one's target equals the other's or is a folder of it, `OtherRun` (the ledger's header isn't
+/// of which one's target equals the other's or is a folder of it, `NameClash` with the first two names of classes that
+/// would become one, of which the source defines the first, `Stranded` with the first class that isn't selected and holds
+/// the name of a class of the source that changes, `OtherRun` (the ledger's header isn't
 /// this run's), `Refusals` (a file is neither kept nor has an image), `Done`.
 /// `FolderFault`, `LedgerFault` and `OutputFault` come only where the count of faults of that object rose
 /// in this call; `Memory` may come at any step. Rows that wait are written outside before the report: where
@@ -118,6 +122,7 @@ pub fn desk<F: Folders, K: Keeper, O: Sink>(
     ensures causes { HasCauses (asked_of words.now) result (F.faults folders.old) (F.faults folders.new) (K.faults keeper.old) (K.faults keeper.new) (O.faults out.old) (O.faults out.new) }
     ensures remains { OfRun words.now (WhereTold (F.told folders.old) (K.told keeper.old) (λ m0 l0. Tells (F.told folders.new) (K.told keeper.new) (λ m l. Left (asked_of words.now) m0 l0 m l result))) }
     ensures classes { OfRun words.now (WhereTold (F.told folders.old) (K.told keeper.old) (λ m0 l0. Tells (F.told folders.new) (K.told keeper.new) (λ m l. Classes (asked_of words.now) m0 l0 m result))) }
+    ensures follow { OfRun words.now (WhereTold (F.told folders.old) (K.told keeper.old) (λ m0 _. Follow (asked_of words.now) m0 result)) }
     ensures untouched { OfGenerate words.now (λ _. (folders.new ≡ folders.old) × (keeper.new ≡ keeper.old)) }
     ensures generate { OfGenerate words.now (λ count. Generates count (O.told out.old) (O.told out.new) (O.faults out.old) (O.faults out.new) result) }
 {

@@ -2,7 +2,7 @@
 
 ghost use Rattle.std.specs.Prelude.{◌≡◌, ◌≤◌, IfOk, IfSome, IfErr, IsSome, option_map, is_some, cond, length, map};
 ghost use Rattle.desk_ledger.specs.Ledger.{held_in};
-ghost use Rattle.desk_file.specs.Images.{image};
+ghost use Rattle.desk_file.specs.Linked.{image_in};
 ghost use Rattle.desk_run.specs.Inputs.{work_of_input};
 ghost use Rattle.desk_run.specs.Runs.{is_kept};
 ghost use Rattle.desk_run.specs.Works.{fresh, writes, keeps, leaves};
@@ -13,6 +13,7 @@ use crate::files::{Content, Input};
 use crate::stops::Halt;
 use desk_base::{Memory, Text};
 use desk_file::{FileFault, Image, image_of};
+use desk_graph::ClassGraph;
 use desk_ledger::{Digest, Keeper, Row, digest_of};
 use desk_report::Reason;
 use desk_rules::RuleSet;
@@ -75,13 +76,15 @@ fn keeps(row: &Option<Row>, path: &Text, digest: &Digest) -> bool
 fn fresh_plan(
     alloc: Global,
     rules: &RuleSet,
+    graph: &ClassGraph<'_>,
     found: bool,
     path: &Text,
     bytes: Content,
 ) -> Result<Plan, Memory>
-    ensures { IfOk result (λ plan. plan ≡ fresh found (image rules.now path.now bytes)) }
+    requires { graph.now.renames ≡ rules.now.renames }
+    ensures { IfOk result (λ plan. plan ≡ fresh found (image_in rules.now graph.now.defined path.now bytes)) }
 {
-    match image_of(alloc, rules, path, bytes.into_text()) {
+    match image_of(alloc, rules, graph, path, bytes.into_text()) {
         Ok(image) => Ok(Plan::Write { found, image }),
         Err(FileFault::Refused(reason)) => Ok(Plan::Leave { reason }),
         Err(FileFault::Memory) => Err(Memory),
@@ -92,18 +95,20 @@ fn fresh_plan(
 fn plan_of(
     alloc: Global,
     rules: &RuleSet,
+    graph: &ClassGraph<'_>,
     row: &Option<Row>,
     digest: &Digest,
     path: &Text,
     bytes: Content,
 ) -> Result<Plan, Memory>
+    requires { graph.now.renames ≡ rules.now.renames }
     ensures { IfOk result (λ plan. plan ≡ cond (is_kept (option_map held_in row.now) path.now digest.now.0) Keep
-        (fresh (is_some row.now) (image rules.now path.now bytes))) }
+        (fresh (is_some row.now) (image_in rules.now graph.now.defined path.now bytes))) }
 {
     if keeps(row, path, digest) {
         Ok(Plan::Keep)
     } else {
-        fresh_plan(alloc, rules, row.is_some(), path, bytes)
+        fresh_plan(alloc, rules, graph, row.is_some(), path, bytes)
     }
 }
 
@@ -112,11 +117,13 @@ fn plan_one<K: Keeper>(
     alloc: Global,
     keeper: &mut K,
     rules: &RuleSet,
+    graph: &ClassGraph<'_>,
     input: Input,
 ) -> Result<Work, Halt>
-    requires { IsSome (K.attached keeper.old) }
+    requires attached { IsSome (K.attached keeper.old) }
+    requires graph { graph.now.renames ≡ rules.now.renames }
     ensures told { K.told keeper.new ≡ K.told keeper.old }
-    ensures work { IfOk result (λ work. IfSome (K.told keeper.old) (λ l. work ≡ work_of_input (image rules.now) l.rows input)) }
+    ensures work { IfOk result (λ work. IfSome (K.told keeper.old) (λ l. work ≡ work_of_input (image_in rules.now graph.now.defined) l.rows input)) }
     ensures target { IfOk result (λ work. work.target ≡ input.target) }
     ensures attached { K.attached keeper.new ≡ K.attached keeper.old }
     ensures err { IfErr result (HaltsPlanning (K.faults keeper.old) (K.faults keeper.new)) }
@@ -129,7 +136,7 @@ fn plan_one<K: Keeper>(
     } = input;
     let digest = digest_of(bytes.as_bytes());
     let row = keeper.find(&target)?;
-    let plan = plan_of(alloc, rules, &row, &digest, &path, bytes)?;
+    let plan = plan_of(alloc, rules, graph, &row, &digest, &path, bytes)?;
     Ok(Work {
         path,
         target,
@@ -143,11 +150,13 @@ pub(crate) fn plan_works<K: Keeper>(
     alloc: Global,
     keeper: &mut K,
     rules: &RuleSet,
+    graph: &ClassGraph<'_>,
     inputs: Vec<Input>,
 ) -> Result<Vec<Work>, Halt>
-    requires { IsSome (K.attached keeper.old) }
+    requires attached { IsSome (K.attached keeper.old) }
+    requires graph { graph.now.renames ≡ rules.now.renames }
     ensures told { K.told keeper.new ≡ K.told keeper.old }
-    ensures works { IfOk result (λ works. IfSome (K.told keeper.old) (λ l. works.items ≡ map (work_of_input (image rules.now) l.rows) inputs.items)) }
+    ensures works { IfOk result (λ works. IfSome (K.told keeper.old) (λ l. works.items ≡ map (work_of_input (image_in rules.now graph.now.defined) l.rows) inputs.items)) }
     ensures targets { IfOk result (λ works. map (λ work. work.target) works.items ≡ map (λ input. input.target) inputs.items) }
     ensures attached { K.attached keeper.new ≡ K.attached keeper.old }
     ensures err { IfErr result (HaltsPlanning (K.faults keeper.old) (K.faults keeper.new)) }
@@ -155,7 +164,7 @@ pub(crate) fn plan_works<K: Keeper>(
 {
     let mut works = Vec::new(alloc);
     for input in inputs {
-        works.push(plan_one(alloc, keeper, rules, input)?)?;
+        works.push(plan_one(alloc, keeper, rules, graph, input)?)?;
     }
     Ok(works)
 }

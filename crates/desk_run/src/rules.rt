@@ -12,7 +12,7 @@ ghost use Rattle.desk_rules.specs.RuleFiles.{rules_of_files};
 ghost use Rattle.desk_run.specs.Halts.{HaltsAtRules, HaltsBuilding, HaltsTaking, HaltsTakingOne};
 ghost use Rattle.desk_run.specs.Meaning.{digest_entry, ruled, with_digest};
 ghost use Rattle.desk_run.specs.RuleFolders.{HasTakenAll, Takes};
-ghost use Rattle.desk_rules.specs.RuleSets.{IsRuleSet};
+ghost use Rattle.desk_second.specs.Second.{AreRules};
 
 use crate::sources::{limit, read_below};
 use crate::stops::Halt;
@@ -51,10 +51,11 @@ fn digest_file(digester: &mut Digester, name: &Text, content: &[u8])
 }
 
 /// The rules of rule files, with the digest that was taken of them.
+#[tactic(auto, using(crate::proofs::Ruling::are))]
 fn build(alloc: Global, taken: Taken) -> Result<Box<Ruled>, Halt>
     ensures ok { IfOk result (λ ruled. (text : List ℕ) → HasTaken taken.digester text → with_digest text (rules_of_files taken.files) ≡ Ok ruled.value) }
     ensures err { IfErr result (HaltsBuilding (rules_of_files taken.files)) }
-    ensures settled { IfOk result (λ ruled. IsRuleSet ruled.value.rules) }
+    ensures are { IfOk result (λ ruled. AreRules ruled.value.rules) }
 {
     let Taken { files, digester } = taken;
     match RuleSet::build(alloc, &files) {
@@ -128,7 +129,7 @@ pub(crate) fn read_rules<F: Folders>(
     ensures ok { IfOk result (λ read. IfSome (F.told folders.old) (λ m. ruled root.now (files_below root.now m) ≡ Ok read.value)) }
     ensures err { IfErr result (HaltsAtRules root.now (F.told folders.old) (F.faults folders.old) (F.faults folders.new)) }
     ensures counts { F.faults folders.old ≤ F.faults folders.new }
-    ensures settled { IfOk result (λ ruled. IsRuleSet ruled.value.rules) }
+    ensures are { IfOk result (λ ruled. AreRules ruled.value.rules) }
 {
     let paths = folders.list(root, RULE_FILES)?;
     if paths.len() > RULE_FILES as usize {

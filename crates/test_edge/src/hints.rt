@@ -31,7 +31,7 @@ fn each_hint_is_two_lines_and_no_two_are_alike(rt: HostRuntime) {
             assert!(rt; hint.text() != other.text() || hint == other);
         }
     }
-    assert_eq!(rt; HINTS.len(), 37);
+    assert_eq!(rt; HINTS.len(), 39);
 }
 
 fn header(alloc: Global, from: &[u8], to: &[u8], rules: u8) -> Result<Header, Fail> {
@@ -97,6 +97,22 @@ fn each_status_has_its_hint(rt: HostRuntime) -> Result<(), Fail> {
         hint_of(&Status::PathClash { first, second }),
         Some(Hint::Clash)
     );
+    Ok(())
+}
+
+#[test]
+fn what_stands_against_the_names_has_its_hint(rt: HostRuntime) -> Result<(), Fail> {
+    let status = Status::NameClash {
+        defined: Text::from_bytes(rt.alloc(), b"a")?,
+        other: Text::from_bytes(rt.alloc(), b"b")?,
+        image: Text::from_bytes(rt.alloc(), b"a")?,
+    };
+    assert_eq!(rt; hint_of(&status), Some(Hint::NameClash));
+    let status = Status::Stranded {
+        path: Text::from_bytes(rt.alloc(), b"A.class")?,
+        name: Text::from_bytes(rt.alloc(), b"b")?,
+    };
+    assert_eq!(rt; hint_of(&status), Some(Hint::Stranded));
     Ok(())
 }
 

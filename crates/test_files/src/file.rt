@@ -1,11 +1,12 @@
 //! Files under rules.
 
-ghost use Rattle.std.specs.Prelude.{◌≤◌, length};
+ghost use Rattle.std.specs.Prelude.{◌≡◌, ◌≤◌, IfOk, length};
 ghost use Rattle.desk_base.specs.Limits.{file_size};
 
-use desk_base::{FaultKind, Malformed, Text};
-use desk_file::{FileFault, Image, Outcome, image_of, migrate_file, target_of};
+use desk_base::{FILE_SIZE, FaultKind, Malformed, Text};
+use desk_file::{FileFault, Image, Outcome, image_of, migrate_file, scan_file, target_of};
 use desk_fixtures::rule_set;
+use desk_graph::{ClassGraph, Scanned};
 use desk_report::{Detail, Reason};
 use desk_rules::{BuildFault, RuleSet};
 use std::alloc::Global;
@@ -19,13 +20,67 @@ fn build(alloc: Global) -> Result<Box<RuleSet>, BuildFault> {
     )
 }
 
+/// The graph of these classes, of which a test has few.
+fn graph_of(alloc: Global, classes: Vec<Scanned>, rules: &RuleSet) -> Result<ClassGraph<'_>, Fail>
+    ensures { IfOk result (λ graph. graph.renames ≡ rules.entry.now.renames) }
+{
+    if classes.len() > 1000 {
+        return Err(Fail::from("many classes"));
+    }
+    match ClassGraph::build(alloc, classes, rules) {
+        Ok(graph) => Ok(graph),
+        Err(_) => Err(Fail::from("no graph")),
+    }
+}
+
+/// Adds what is kept of a file for a graph.
+fn add_class(
+    alloc: Global,
+    classes: &mut Vec<Scanned>,
+    rules: &RuleSet,
+    path: &[u8],
+    bytes: &[u8],
+) -> Result<(), Fail> {
+    if bytes.len() > FILE_SIZE {
+        return Err(Fail::from("a long file"));
+    }
+    let path = Text::from_bytes(alloc, path)?;
+    if let Some(class) = scan_file(alloc, rules, &path, bytes)? {
+        classes.push(class)?;
+    }
+    Ok(())
+}
+
+/// The graph of an application of files of these paths and contents.
+fn graph_of_files<'r>(
+    alloc: Global,
+    rules: &'r RuleSet,
+    files: &[(&[u8], &[u8])],
+) -> Result<ClassGraph<'r>, Fail>
+    ensures { IfOk result (λ graph. graph.renames ≡ rules.entry.now.renames) }
+{
+    let mut classes = Vec::new(alloc);
+    for (path, bytes) in files {
+        add_class(alloc, &mut classes, rules, path, bytes)?;
+    }
+    graph_of(alloc, classes, rules)
+}
+
+/// What becomes of a file by these rules, in an application of that file alone.
+fn migrated_by(alloc: Global, rules: &RuleSet, path: &[u8], bytes: &[u8]) -> Result<Outcome, Fail>
+    requires { length bytes.now ≤ file_size }
+{
+    let graph = graph_of_files(alloc, rules, &[(path, bytes)])?;
+    let path = Text::from_bytes(alloc, path)?;
+    Ok(migrate_file(alloc, rules, &graph, &path, bytes)?)
+}
+
 /// What becomes of these bytes at a path.
 fn migrated(alloc: Global, path: &[u8], bytes: &[u8]) -> Result<Outcome, Fail>
     requires { length bytes.now ≤ file_size }
 {
     let rules = build(alloc)?;
-    let path = Text::from_bytes(alloc, path)?;
-    Ok(migrate_file(alloc, &rules, &path, bytes)?)
+    migrated_by(alloc, &rules, path, bytes)
 }
 
 /// Whether a file is written at this target, with this image and detail.
@@ -140,8 +195,7 @@ fn with_texts<'x>(
             (b"text.properties", patterns),
         ],
     )?;
-    let path = Text::from_bytes(alloc, path)?;
-    Ok(migrate_file(alloc, &rules, &path, b"ab")?)
+    migrated_by(alloc, &rules, path, b"ab")
 }
 
 /// Texts `ab` that are written: patterns, text rules, the path, the image, and how many places changed.
@@ -199,9 +253,40 @@ fn a_class_has_its_names_exchanged(rt: HostRuntime) -> Result<(), Fail> {
         renamed: 1,
         added: 0,
         odd: 0,
-        links: 0,
+        links: 1,
     };
     assert!(rt; is_written(&outcome, b"jakarta/servlet/F.class", NEW_F, detail));
+    Ok(())
+}
+
+/// `class A extends javax.servlet.F`.
+const SUB: &[u8] =
+    b"\xCA\xFE\xBA\xBE\x00\x00\x00\x34\x00\x05\x01\x00\x01A\x07\x00\x01\x01\x00\x0Fjavax/servlet/F\x07\x00\x03\x00\x21\x00\x02\x00\x04\x00\x00\x00\x00\x00\x00\x00\x00";
+
+/// `class A extends jakarta.servlet.F`.
+const NEW_SUB: &[u8] =
+    b"\xCA\xFE\xBA\xBE\x00\x00\x00\x34\x00\x05\x01\x00\x01A\x07\x00\x01\x01\x00\x11jakarta/servlet/F\x07\x00\x03\x00\x21\x00\x02\x00\x04\x00\x00\x00\x00\x00\x00\x00\x00";
+
+#[test]
+fn links_count_the_classes_of_the_application_that_a_class_holds(
+    rt: HostRuntime,
+) -> Result<(), Fail> {
+    let alloc = rt.alloc();
+    let rules = build(alloc)?;
+    let graph = graph_of_files(
+        alloc,
+        &rules,
+        &[(b"A.class", SUB), (b"javax/servlet/F.class", F)],
+    )?;
+    let path = Text::from_bytes(alloc, b"A.class")?;
+    let outcome = migrate_file(alloc, &rules, &graph, &path, SUB)?;
+    let detail = Detail::Class {
+        renamed: 1,
+        added: 0,
+        odd: 0,
+        links: 2,
+    };
+    assert!(rt; is_written(&outcome, b"A.class", NEW_SUB, detail));
     Ok(())
 }
 
@@ -210,9 +295,10 @@ fn made(alloc: Global, path: &[u8], bytes: &[u8]) -> Result<Result<Image, FileFa
     requires { length bytes.now ≤ file_size }
 {
     let rules = build(alloc)?;
+    let graph = graph_of(alloc, Vec::new(alloc), &rules)?;
     let path = Text::from_bytes(alloc, path)?;
     let bytes = Text::from_bytes(alloc, bytes)?;
-    Ok(image_of(alloc, &rules, &path, bytes))
+    Ok(image_of(alloc, &rules, &graph, &path, bytes))
 }
 
 #[test]
@@ -248,7 +334,8 @@ fn selecting(alloc: Global, path: &[u8]) -> Result<Outcome, Fail> {
         ],
     )?;
     let path = Text::from_bytes(alloc, path)?;
-    Ok(migrate_file(alloc, &rules, &path, F)?)
+    let graph = graph_of(alloc, Vec::new(alloc), &rules)?;
+    Ok(migrate_file(alloc, &rules, &graph, &path, F)?)
 }
 
 #[test]

@@ -40,6 +40,7 @@ enum Pair {
     MissingText,
     Chain,
     PathClash,
+    Stranded,
 }
 
 /// Statuses of two texts, with their codes and lines.
@@ -79,6 +80,13 @@ const PAIRS: &[(Pair, &[u8], &[u8], u8, &[u8])] = &[
         b"javax/x/a.txt",
         24,
         b"migrate: 24 path clash jakarta/x/a.txt javax/x/a.txt\n",
+    ),
+    (
+        Pair::Stranded,
+        b"a.jar/javax/servlet/F.class",
+        b"javax/servlet/F",
+        26,
+        b"migrate: 26 stranded a.jar/javax/servlet/F.class javax/servlet/F\n",
     ),
 ];
 
@@ -175,6 +183,10 @@ fn status_of(pair: Pair, first: Text, second: Text) -> Status {
             second,
         }),
         Pair::PathClash => Status::PathClash { first, second },
+        Pair::Stranded => Status::Stranded {
+            path: first,
+            name: second,
+        },
     }
 }
 
@@ -196,6 +208,26 @@ fn two_texts_are_told_in_their_order(rt: HostRuntime) -> Result<(), Fail> {
         let status = pair_status(alloc, *pair, first, second)?;
         assert!(rt; is_told(alloc, &status, *code, line)?);
     }
+    Ok(())
+}
+
+fn name_clash(alloc: Global) -> Result<Box<Status>, Fail> {
+    let defined = Text::from_bytes(alloc, b"jakarta/x/C")?;
+    let other = Text::from_bytes(alloc, b"javax/x/C")?;
+    let image = Text::from_bytes(alloc, b"jakarta/x/C")?;
+    let status = Status::NameClash {
+        defined,
+        other,
+        image,
+    };
+    Ok(Box::new(alloc, status)?)
+}
+
+#[test]
+fn two_names_that_become_one_are_told(rt: HostRuntime) -> Result<(), Fail> {
+    let alloc = rt.alloc();
+    let line = b"migrate: 25 name clash jakarta/x/C javax/x/C jakarta/x/C\n";
+    assert!(rt; is_told(alloc, &*name_clash(alloc)?, 25, line)?);
     Ok(())
 }
 

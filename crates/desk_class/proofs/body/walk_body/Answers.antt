@@ -1,5 +1,4 @@
 use Rattle.std.proofs.lemmas.Result.{err_from_is_err_and}
-use Rattle.desk_format.specs.Walk.{walk_at}
 use Rattle.desk_class.proofs.Bodies.{interfaces_stop, fields_stop, methods_stop, body_scans, passed, failed}
 use Rattle.desk_class.proofs.body.walk_body.Goals as goal
 

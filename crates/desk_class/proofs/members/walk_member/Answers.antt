@@ -2,7 +2,7 @@ use Rattle.std.proofs.Common.{◌∙◌}
 use Rattle.std.proofs.lemmas.Result.{err_from_is_err_and}
 use Rattle.desk_format.specs.Attributes.{attributes_of}
 use Rattle.desk_format.specs.Walk.{walk_at}
-use Rattle.desk_format.proofs.Walks.{row_walks, row_walked, stops}
+use Rattle.desk_format.proofs.Walks.{row_walks, stops}
 use Rattle.desk_class.specs.Scan.{head_layout, member_place}
 use Rattle.desk_class.proofs.members.walk_member.Goals as goal
 

@@ -1,5 +1,5 @@
-use Rattle.desk_class.proofs.Sets.{Holding}
+use Rattle.desk_class.proofs.Sets.{Holding, AreHeld}
 use Rattle.desk_class.proofs.names.held_names.Given as goal
 
 abbrev pub invariant-loop-used : goal.invariant-loop-used
-invariant-loop-used l = Holding l.pool.entries l.uses l.used-index l.names
+invariant-loop-used l = record { held : Holding l.pool.entries l.uses l.used-index l.names; marked : AreHeld l.pool.entries l.marks.items l.names }

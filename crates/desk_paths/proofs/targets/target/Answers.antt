@@ -7,45 +7,20 @@ use Rattle.desk_patterns.specs.Selections.{selects}
 use Rattle.desk_rules.specs.Rules.{Rules}
 use Rattle.desk_paths.specs.Paths.{renamed_path, target, root_of}
 use Rattle.desk_paths.specs.Kinds.{RenamedStays, TargetStays, kind_of}
+use Rattle.desk_paths.proofs.TargetLaws.{target_selected, target_other, selected_stays, other_stays}
 use Rattle.desk_paths.proofs.targets.target.Goals as goal
-
-target_selected : (rules : Rules) (path : Text) → selects rules.selection path ≡ true → target rules path ≡ renamed_path rules.renames path
-unfolding target
-target_selected rules path e = ap (λ (b : Bool). cond b (renamed_path rules.renames path) path) e
-
-target_other : (rules : Rules) (path : Text) → selects rules.selection path ≡ false → target rules path ≡ path
-unfolding target
-target_other rules path e = ap (λ (b : Bool). cond b (renamed_path rules.renames path) path) e
 
 found_along : (text other : Text) → other ≡ text → (r : Result Text Memory) → IfOk r (λ found. found ≡ text) → IfOk r (λ found. found ≡ other)
 found_along text other e (Ok found) h = h ∙ sym e
 found_along text other e (Err m) h = tt
 
--- the target of the target of a selected file, which may be unselected there
-again : (rules : Rules) (path : Text) → selects rules.selection path ≡ true → RenamedStays rules.renames path → target rules (target rules path) ≡ target rules path
-again rules path e h =
-    let is : target rules path ≡ renamed_path rules.renames path = target_selected rules path e in
-    ap (target rules) is ∙ there (cases_Bool (selects rules.selection (renamed_path rules.renames path))) ∙ sym is
-  where
-    there : ((selects rules.selection (renamed_path rules.renames path) ≡ true) ⊎ (selects rules.selection (renamed_path rules.renames path) ≡ false)) → target rules (renamed_path rules.renames path) ≡ renamed_path rules.renames path
-    there (inl yes_it) = target_selected rules (renamed_path rules.renames path) yes_it ∙ h.again
-    there (inr no_it) = target_other rules (renamed_path rules.renames path) no_it
+on_found : (r : Result Text Memory) (P : Type 0) → P → IfOk r (λ found. P)
+on_found (Ok found) P h = h
+on_found (Err m) P h = tt
 
 stays : (rules : Rules) (path : Text) → selects rules.selection path ≡ true → (r : Result Text Memory) → IfOk r (λ found. RenamedStays rules.renames path) → IfOk r (λ found. TargetStays rules path)
-stays rules path e (Ok found) h = record {
-  again = again rules path e h;
-  same_root = ap root_of (target_selected rules path e) ∙ h.same_root;
-  same_kind = ap kind_of (target_selected rules path e) ∙ h.same_kind;
-}
+stays rules path e (Ok found) h = selected_stays rules path e h
 stays rules path e (Err m) h = tt
-
-other_stays : (rules : Rules) (path : Text) → selects rules.selection path ≡ false → (r : Result Text Memory) → IfOk r (λ found. TargetStays rules path)
-other_stays rules path e (Ok found) = record {
-  again = ap (target rules) (target_other rules path e);
-  same_root = ap root_of (target_other rules path e);
-  same_kind = ap kind_of (target_other rules path e);
-}
-other_stays rules path e (Err m) = tt
 
 weaker : (r : Result Text Memory) (P Q : Text → Type 0) → ((t : Text) → P t → Q t) → IfOk r P → IfOk r Q
 weaker (Ok t) P Q h p = h t p
@@ -67,7 +42,7 @@ returns-else-selected-clause-target c =
 
 pub returns-else-selected-clause-stays : goal.returns-else-selected-clause-stays
 returns-else-selected-clause-stays c =
-    other_stays c.args.rules.now c.args.path.now (sym c.selected.ensures ∙ c.if-selected.false) c.from_bytes.result
+    on_found c.from_bytes.result (TargetStays c.args.rules.now c.args.path.now) (other_stays c.args.rules.now c.args.path.now (sym c.selected.ensures ∙ c.if-selected.false))
 
 pub returns-else-selected-clause-relative : goal.returns-else-selected-clause-relative
 returns-else-selected-clause-relative c =

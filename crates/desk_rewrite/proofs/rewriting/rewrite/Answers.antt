@@ -12,7 +12,8 @@ use Rattle.desk_laws.specs.Classes.{IsUnchangedClass}
 use Rattle.desk_format.specs.NewClass.{new_class}
 use Rattle.desk_new_pool.specs.Wants.{IsWanted}
 use Rattle.desk_new_pool.specs.declared.wants.WantedText.{WantedText}
-use Rattle.desk_rewrite.specs.RuleImages.{images_of}
+use Rattle.desk_follow.specs.RuleImages.{images_of}
+use Rattle.desk_follow.proofs.Follow.{follow}
 use Rattle.desk_rewrite.specs.Wanting.{has_other, IsWantedUnder, AreWanted}
 use Rattle.desk_rewrite.proofs.Making.{IsWantedIn, wanted_in, wants_in, own_in}
 use Rattle.desk_rewrite.proofs.Forms.{forms_kept, images_settled}
@@ -109,6 +110,10 @@ returns-clause-accepted g c = λ d e.
 pub returns-clause-isomorphic : goal.returns-clause-isomorphic
 returns-clause-isomorphic g c = λ d e.
     renamed_classes (images_of c.args.rules.now) c.args.view.now d (forms_kept c.args.rules.now c.tell_settled.ensures) c.bytes_of-bytes.ensures.each e (returns-clause-accepted g c d e)
+
+pub returns-clause-names : goal.returns-clause-names
+returns-clause-names g c = λ d e.
+    follow c.args.rules.now c.args.view.now d c.tell_settled.ensures c.bytes_of-bytes.ensures.each e (returns-clause-isomorphic g c d e)
 
 pub returns-clause-again : goal.returns-clause-again
 returns-clause-again g c = λ d e.

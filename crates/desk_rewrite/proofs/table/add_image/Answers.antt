@@ -2,7 +2,7 @@ use Rattle.std.proofs.Common.{subst}
 use Rattle.desk_base.specs.Names.{Text}
 use Rattle.desk_format.specs.Resolved.{image}
 use Rattle.desk_rules.specs.Images.{IsImage}
-use Rattle.desk_rewrite.specs.RuleImages.{images_of}
+use Rattle.desk_follow.specs.RuleImages.{images_of}
 use Rattle.desk_rewrite.specs.Tables.{role_of}
 use Rattle.desk_rewrite.proofs.Tables.{grows_put, sound_put, puts}
 use Rattle.desk_rewrite.proofs.table.add_image.Goals as goal

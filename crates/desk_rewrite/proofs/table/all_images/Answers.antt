@@ -2,7 +2,7 @@ use Rattle.std.proofs.Common.{◌≡◌, ◌+◌, true, All, take, sym, ◌∙�
 use Rattle.std.proofs.lemmas.List.{take_all}
 use Rattle.desk_base.specs.declared.kinds.Role.TheVariants.{Class}
 use Rattle.desk_base.specs.declared.kinds.Used.{Used}
-use Rattle.desk_rewrite.specs.RuleImages.{images_of}
+use Rattle.desk_follow.specs.RuleImages.{images_of}
 use Rattle.desk_rewrite.specs.Tables.{Table, has_image, IsSoundTable}
 use Rattle.desk_rewrite.proofs.Tables.{next_has, next_passed, has_images, none_of}
 use Rattle.desk_rewrite.proofs.table.all_images.Goals as goal

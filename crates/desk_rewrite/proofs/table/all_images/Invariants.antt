@@ -1,6 +1,6 @@
 use Rattle.std.proofs.Common.{◌≡◌, true, All, take}
 use Rattle.desk_base.specs.declared.kinds.Used.{Used}
-use Rattle.desk_rewrite.specs.RuleImages.{images_of}
+use Rattle.desk_follow.specs.RuleImages.{images_of}
 use Rattle.desk_rewrite.specs.Tables.{has_image, IsSoundTable}
 use Rattle.desk_rewrite.proofs.table.all_images.Given as goal
 

@@ -7,7 +7,7 @@ pub returns-clause-planned : goal.returns-clause-planned
 returns-clause-planned g c =
     let gathered = c.in_ok-gather.field-0 in
     let e = c.in_ok-gather.ensures in
-    ok_planned (asked_roots c.args.names) gathered.names.value gathered.ruled.value gathered.header gathered.inputs.items _ _ c.plan.result e.settled e.bytes e.sound e.header e.run e.inputs e.relative
+    ok_planned (asked_roots c.args.names) gathered.names.value gathered.ruled.value gathered.header gathered.inputs.items _ _ c.plan.result e.are e.bytes e.sound e.header e.run e.inputs c.plan.ensures.clear e.relative
     c.plan.ensures.header c.plan.ensures.to c.plan.ensures.works c.plan.ensures.ours c.plan.ensures.other
 
 pub returns-clause-few : goal.returns-clause-few

@@ -1,7 +1,6 @@
 use Rattle.desk_base.specs.Spot.{Spot}
-use Rattle.std.proofs.Common.{rules, ◌≡◌, Some, None, ap, sym, ◌∙◌, arith, List}
+use Rattle.std.proofs.Common.{rules, ◌≡◌, ap, sym, ◌∙◌, arith, List}
 use Rattle.std.proofs.lemmas.Result.{err_from_is_err_and}
-use Rattle.desk_base.specs.declared.kinds.Used.{Used}
 use Rattle.desk_format.specs.declared.members.Member.{Member}
 use Rattle.desk_format.specs.Members.{first_twins, named_in}
 use Rattle.desk_class.specs.Scan.{scan_at}

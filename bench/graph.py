@@ -1,0 +1,51 @@
+"""Prints scan and build as a ratio to reading the same classes, how building grows with the number of classes, and its peak
+memory. What only makes the classes up, or reads their files, is taken off each time.
+
+    graph.py PROGRAM [LIST]     LIST names class files, one a line
+"""
+
+import resource
+import subprocess
+import sys
+
+program, *lists = sys.argv[1:]
+ROUNDS = 5
+
+
+def once(mode, what):
+    """The processor seconds of one run."""
+    before = resource.getrusage(resource.RUSAGE_CHILDREN).ru_utime
+    subprocess.run([program, mode, str(what)], stdout=subprocess.DEVNULL, check=True)
+    return resource.getrusage(resource.RUSAGE_CHILDREN).ru_utime - before
+
+
+def best(modes, what):
+    """The least seconds of each mode, whose runs alternate."""
+    times = [[once(mode, what) for mode in modes] for _ in range(ROUNDS)]
+    return [min(row[i] for row in times) for i in range(len(modes))]
+
+
+def compare(what, said):
+    """Scan and build beside reading."""
+    make, read, graph = best(["make", "read", "graph"], what)
+    print(f"{said}: read in {read - make:.2f} s, scanned and built in {graph - read:.2f} s, "
+          f"ratio {(graph - read) / (read - make):.2f} (aim: at most 0.5)")
+
+
+# The memory comes first, since the system tells the greatest of all runs so far.
+subprocess.run([program, "build", "200000"], stdout=subprocess.DEVNULL, check=True)
+peak = resource.getrusage(resource.RUSAGE_CHILDREN).ru_maxrss * 1024 / 1e6
+print(f"200,000 classes with 3,200,000 held names: {peak:.0f} MB at the peak (aim: at most 250 MB)")
+
+compare(20_000, "20,000 generated classes")
+for file in lists:
+    with open(file, encoding="utf-8") as paths:
+        count = sum(1 for _ in paths)
+    compare(file, f"{count:,} classes of a JDK")
+
+each = {}
+for count in (3_000, 30_000):
+    names, build = best(["names", "build"], count)
+    each[count] = (build - names) / count * 1e6
+print(f"building takes {each[3_000]:.1f} microseconds a class of 3,000 and {each[30_000]:.1f} of 30,000, "
+      f"ratio {each[30_000] / each[3_000]:.2f} (aim: at most 1.2)")

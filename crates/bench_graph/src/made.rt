@@ -1,0 +1,59 @@
+//! Classes as a scan keeps them, made up.
+
+use desk_base::{Memory, Text, TextList};
+use desk_graph::{HeldNames, Scanned};
+use std::alloc::Global;
+
+/// How many names a class holds beside its own.
+const HELD: u32 = 15;
+
+/// Adds the decimal digits of a number.
+fn push_number(name: &mut Text, number: u32) -> Result<(), Memory> {
+    let mut divisor = 100_000u32;
+    for _ in 0..6 {
+        let digit = number.checked_div(divisor).unwrap_or(0) % 10;
+        name.push(b'0' + digit as u8)?;
+        divisor = divisor / 10;
+    }
+    Ok(())
+}
+
+/// A class name: a front, a package of a number, and a simple name of a number.
+fn name_of(alloc: Global, front: &[u8], number: u32) -> Result<Text, Memory> {
+    let mut name = Text::from_bytes(alloc, front)?;
+    push_number(&mut name, number / 50)?;
+    name.append(b"/ServiceBean")?;
+    push_number(&mut name, number)?;
+    Ok(name)
+}
+
+/// The class of a number among so many: of the names that it holds three are of the rename, three of libraries that no class
+/// defines, and all others of the application.
+pub fn class_of(alloc: Global, number: u32, count: u32) -> Result<Scanned, Memory> {
+    let mut held = TextList::empty(alloc);
+    held.push(name_of(alloc, b"org/shop/orders/part", number)?)?;
+    for k in 0..HELD {
+        let other = number
+            .wrapping_mul(7919)
+            .wrapping_add(k.wrapping_mul(104_729));
+        let name = if k < 3 {
+            name_of(alloc, b"javax/servlet/part", other % 1000)?
+        } else if k < 6 {
+            name_of(alloc, b"com/library/part", other % 60_000)?
+        } else {
+            name_of(
+                alloc,
+                b"org/shop/orders/part",
+                other.checked_rem(count).unwrap_or(0),
+            )?
+        };
+        held.push(name)?;
+    }
+    held.sort()?;
+    Ok(Scanned {
+        path: name_of(alloc, b"WEB-INF/classes/org/shop/orders/part", number)?,
+        selected: number % 10 > 0,
+        name: name_of(alloc, b"org/shop/orders/part", number)?,
+        held: HeldNames::of(alloc, held.as_slice())?,
+    })
+}

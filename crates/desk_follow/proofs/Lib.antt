@@ -1,0 +1,3 @@
+pub mod NameImages
+pub mod TreeNames
+pub mod Follow

@@ -1,0 +1,2 @@
+pub mod RuleImages
+pub mod Follow

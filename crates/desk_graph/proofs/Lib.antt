@@ -1,0 +1,12 @@
+pub mod Searched
+pub mod Packing
+pub mod Numbering
+pub mod Sets
+pub mod Orders
+pub mod Clashing
+pub mod Laws
+pub mod Alike
+pub mod Building
+pub mod Stranding
+pub mod Links
+pub mod Kept

@@ -1,0 +1,12 @@
+pub mod Application
+pub mod Packed
+pub mod Scans
+pub mod Marks
+pub mod MarkOrder
+pub mod Alike
+pub mod Tables
+pub mod Nodes
+pub mod Clashes
+pub mod Strandings
+pub mod Graphs
+pub mod Refusals

@@ -1,0 +1,19 @@
+//! The classes of an application: which names they define and hold, what each name becomes, which two names would become one,
+//! and which class would be left behind.
+#![tactic(auto)]
+
+mod clashes;
+mod graph;
+mod held;
+mod known;
+mod marked;
+mod name;
+mod names;
+mod nodes;
+mod scanned;
+mod search;
+mod stranded;
+
+pub use graph::{ClassGraph, GraphFault};
+pub use held::HeldNames;
+pub use scanned::{Scanned, scan};

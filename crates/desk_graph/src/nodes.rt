@@ -1,0 +1,59 @@
+//! The nodes of a graph: the defined names, numbered in byte order.
+
+ghost use Rattle.std.specs.Prelude.{◌≡◌, IfOk, MatchOption};
+ghost use Rattle.desk_graph.specs.Tables.{IsNowhere, IsPlaceOf, as_is, holds, is_defined};
+ghost use Rattle.desk_graph.specs.Nodes.{IsTable, firsts, defined_of, nodes_from};
+
+use crate::known::Known;
+use crate::marked::Marked;
+use crate::name::Name;
+use crate::names::{defined_in, holds};
+use crate::scanned::Scanned;
+use crate::search::place_in;
+use desk_base::Memory;
+use std::alloc::Global;
+use std::collections::BTreeSet;
+
+/// Of names in byte order, the number of each that a set holds, counted from 0.
+fn numbers_of<'a>(
+    alloc: Global,
+    names: &[Name<'a>],
+    defined: &BTreeSet<Marked<'a>>,
+) -> Result<Vec<Option<u32>>, Memory>
+    ensures { IfOk result (λ nodes. nodes.items ≡ nodes_from (holds defined.now) 0 names.now) }
+{
+    let mut nodes = Vec::with_capacity(alloc, names.len())?;
+    let mut count = 0usize;
+    for name in names {
+        if holds(defined, name.bytes()) {
+            nodes.push(Some(u32::try_from(count).map_err(|_| Memory)?))?;
+            count = count + 1;
+        } else {
+            nodes.push(None)?;
+        }
+    }
+    Ok(nodes)
+}
+
+/// Of names in byte order, the number of each that a class defines, counted from 0.
+pub fn nodes_of<'a>(
+    alloc: Global,
+    names: &[Name<'a>],
+    classes: &'a [Scanned],
+) -> Result<Vec<Option<u32>>, Memory>
+    ensures { IfOk result (λ nodes. nodes.items ≡ nodes_from (is_defined classes.now) 0 names.now) }
+{
+    let defined = defined_in(alloc, classes)?;
+    numbers_of(alloc, names, &defined)
+}
+
+/// Where a name stands among the defined names, if it is one.
+pub fn node_in(known: &[Known], nodes: &[Option<u32>], name: &[u8]) -> Option<u32>
+    requires { IsTable known.now nodes.now }
+    ensures { MatchOption result (IsNowhere as_is (defined_of (firsts known.now) nodes.now) name.now) (IsPlaceOf as_is (defined_of (firsts known.now) nodes.now) name.now) }
+{
+    match place_in(known, name) {
+        Some(place) => nodes[place],
+        None => None,
+    }
+}

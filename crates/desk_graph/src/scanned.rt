@@ -1,0 +1,54 @@
+//! What is kept of a class.
+
+ghost use Rattle.std.specs.Prelude.{◌≡◌, Ok, IfOk};
+ghost use Rattle.desk_format.specs.Classes.{Class, read_class};
+ghost use Rattle.desk_graph.specs.Scans.{scan_of};
+ghost use Rattle.desk_graph.specs.Alike.{AreAlike};
+
+use crate::held::HeldNames;
+use desk_base::{Memory, Text};
+use desk_class::ClassView;
+use std::alloc::Global;
+
+/// A class of an application: where it stands, whether it is selected, its name, and the class names that it holds.
+#[derive(Debug, Drop)]
+pub struct Scanned {
+    pub path: Text,
+    pub selected: bool,
+    pub name: Text,
+    pub held: HeldNames,
+}
+
+/// What is kept of the class at a path. It holds each class name once, in byte order. The only error is want of memory.
+pub fn scan(
+    alloc: Global,
+    path: &Text,
+    selected: bool,
+    view: &ClassView<'_>,
+) -> Result<Scanned, Memory>
+    ensures { IfOk result (λ s. (c : Class) → read_class view.now ≡ Ok c → s ≡ scan_of path.now selected c) }
+{
+    let path = Text::from_bytes(alloc, path.as_bytes())?;
+    let name = Text::from_bytes(alloc, view.name())?;
+    let names = view.class_names(alloc)?;
+    let held = HeldNames::of(alloc, names.as_slice())?;
+    Ok(Scanned {
+        path,
+        selected,
+        name,
+        held,
+    })
+}
+
+/// Classes without the paths of those that are selected, of which nothing is told. Their memory is free then.
+pub fn without_paths(alloc: Global, classes: Vec<Scanned>) -> Vec<Scanned>
+    ensures { AreAlike result.items classes.items }
+{
+    let mut kept = classes;
+    for place in 0..kept.len() {
+        if kept[place].selected {
+            kept[place].path = Text::empty(alloc);
+        }
+    }
+    kept
+}
