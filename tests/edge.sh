@@ -362,12 +362,28 @@ named() {
   check "a ledger named ${1:0:20} is a file" 'SQLite format 3' "$(head -c 15 "./$1")"
   migrate run --rules rules --from app --to to --ledger "$1"
   check "a ledger named ${1:0:20} keeps" 'total files=2 written=0 kept=2 refused=0 renamed=0 added=0' "$(tail -1 out)"
-  rm -f "./$1" "./$1-wal"
+  rm -f "./$1" "./${1:0:247}-wal" ./.migrate-*
 }
 named ':memory:'
 named 'file:x'
 named 'file:x?mode=memory'
 named "$(printf 'l%.0s' $(seq 247))"
+# A name that leaves no room for the log's: while it is opened, the file has a short one, by which its log is called.
+for letters in 248 255; do
+  long=$(printf 'l%.0s' $(seq "$letters"))
+  short=.migrate-$(printf '%s' "$long" | sha256sum | cut -c1-32)
+  named "$long"
+  fresh
+  migrate run --rules rules --from app --to to --ledger "$long"
+  check "a ledger of $letters bytes and its log" "$short-wal
+$long" "$(LC_ALL=C ls -A | grep -e '^l*$' -e '^\.migrate-')"
+  mv "$long" "$short"
+  migrate run --rules rules --from app --to to --ledger "$long"
+  check "a ledger of $letters bytes that a killed program left keeps" 'total files=2 written=0 kept=2 refused=0 renamed=0 added=0' "$(tail -1 out)"
+  check "which has its name again" "$short-wal
+$long" "$(LC_ALL=C ls -A | grep -e '^l*$' -e '^\.migrate-')"
+  rm -f "$long" "$short-wal"
+done
 
 # noledger NAME LEDGER SAID: the run ends with 12 and says why
 noledger() {
@@ -376,9 +392,17 @@ noledger() {
   has "$1: $3" "$3"
 }
 fresh
-long=$(printf 'l%.0s' $(seq 255))
-noledger 'a ledger whose log has no room for its name' "$long" 'File name too long'
-check 'which leaves no file' '' "$(ls "$long" 2>/dev/null)"
+long=$(printf 'l%.0s' $(seq 256))
+noledger 'a ledger whose name has 256 bytes' "$long" 'File name too long'
+long=${long:1}
+short=.migrate-$(printf '%s' "$long" | sha256sum | cut -c1-32)
+printf 'no ledger' >"$short"
+noledger 'a ledger whose short name another file has' "$long" 'it is no database, or a damaged one'
+printf '' >"$long"
+noledger 'a ledger that is there, whose short name another file has' "$long" 'File exists'
+check 'which stays' 'no ledger' "$(cat "$short")"
+check 'and leaves no log' '' "$(ls "$short-wal" 2>/dev/null)"
+rm -f "$long" "$short"
 mkdir sub; printf 'no database' >sub/text
 noledger 'a ledger in a missing folder' missing/ledger 'migrate: opening the ledger missing/ledger: No such file or directory'
 noledger 'a folder as a ledger' sub 'migrate: opening the ledger sub: it is a folder'

@@ -11,6 +11,7 @@
 mod database;
 mod files;
 mod keeper;
+mod long_names;
 mod opened;
 mod tables;
 mod waiting;

@@ -7,6 +7,7 @@ ghost use Rattle.desk_sqlite.specs.OverFile.{all_written, nothing, with_put, wit
 
 use crate::database::Database;
 use crate::files::{Log, fault_of, file_path, has_room_beside, may_be_database};
+use crate::long_names::{Shortened, is_long, real_path, short_path};
 use crate::tables::{
     make_tables, read_contents, read_folder, write_folder, write_header, write_rows,
     write_then_remove,
@@ -57,9 +58,8 @@ struct Ledger {
     log: Log,
 }
 
-/// The database at a path, and what its tables hold. A database with other tables is left as it was.
-fn open_tables(rt: &HostRuntime, path: &str, log: Log) -> Result<Ledger, Refusal> {
-    let mut database = Database::open(rt, path, &log)?;
+/// The ledger of a database that is open. A database with other tables is left as it was.
+fn ledger_in(rt: &HostRuntime, mut database: Database, log: Log) -> Result<Ledger, Refusal> {
     match tables_in(rt, &mut database) {
         Ok(contents) => Ok(Ledger {
             database,
@@ -73,16 +73,48 @@ fn open_tables(rt: &HostRuntime, path: &str, log: Log) -> Result<Ledger, Refusal
     }
 }
 
-/// The database of a name, and what its tables hold. A file that is none is left as it was.
-fn ledger_at(rt: &HostRuntime, name: &Text) -> Result<Ledger, Refusal> {
+/// The ledger at a path whose name leaves room for others beside it. A file that is none is left as it was.
+fn ledger_at(rt: &HostRuntime, path: &str) -> Result<Ledger, Refusal> {
+    let log = Log::beside(rt, path)?;
+    may_be_database(rt, path, log.was_there())?;
+    has_room_beside(rt, path)?;
+    let database = Database::open(rt, path, &log)?;
+    ledger_in(rt, database, log)
+}
+
+/// The ledger at a path whose name leaves no room for others beside it, and in which no link stands: its file has a short
+/// name while it is opened.
+fn shortened_ledger_at(rt: &HostRuntime, path: String) -> Result<Ledger, Refusal> {
+    let short = short_path(rt.alloc(), path.as_str())?;
+    let log = Log::beside(rt, short.as_str())?;
+    let file = Shortened::at(rt, path, short, log.was_there())?;
+    let database = file.open(rt, &log)?;
+    let ledger = ledger_in(rt, database, log)?;
+    file.settle(rt)?;
+    Ok(ledger)
+}
+
+/// The ledger at a path whose name leaves no room for others beside it. A link may lead to one that does.
+fn long_ledger_at(rt: &HostRuntime, path: &str) -> Result<Ledger, Refusal> {
+    let real = real_path(rt, path)?;
+    if is_long(real.as_str()) {
+        shortened_ledger_at(rt, real)
+    } else {
+        ledger_at(rt, real.as_str())
+    }
+}
+
+/// The ledger of a name.
+fn ledger_of(rt: &HostRuntime, name: &Text) -> Result<Ledger, Refusal> {
     let Ok(name) = str::from_utf8(name.as_bytes()) else {
         return Err(Refusal::Failed(Cause::NotText));
     };
     let path = file_path(rt, name)?;
-    let log = Log::beside(rt, path.as_str())?;
-    may_be_database(rt, path.as_str(), log.was_there())?;
-    has_room_beside(rt, path.as_str())?;
-    open_tables(rt, path.as_str(), log)
+    if is_long(path.as_str()) {
+        long_ledger_at(rt, path.as_str())
+    } else {
+        ledger_at(rt, path.as_str())
+    }
 }
 
 /// Whether a root is relative.
@@ -134,7 +166,7 @@ impl Opened {
             database,
             contents,
             log,
-        } = ledger_at(rt, name)?;
+        } = ledger_of(rt, name)?;
         let name = name.clone()?;
         Ok(Opened {
             alloc,

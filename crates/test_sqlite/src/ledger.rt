@@ -14,7 +14,7 @@ use std::test::Fail;
 use std::{env, fs, process, str};
 
 /// A folder of this process and test alone, which is made.
-fn own_folder(rt: &HostRuntime, name: &str) -> Result<String, Fail> {
+pub(crate) fn own_folder(rt: &HostRuntime, name: &str) -> Result<String, Fail> {
     let temporary = env::temp_dir(rt)?;
     let process = process::id(rt.process());
     let root = format!(in rt.alloc(); "{}/desk_sqlite_{}_{}", temporary.display(), name, process)?;
@@ -22,18 +22,18 @@ fn own_folder(rt: &HostRuntime, name: &str) -> Result<String, Fail> {
     Ok(root)
 }
 
-fn path_below(alloc: Global, root: &str, name: &str) -> Result<Text, Fail> {
+pub(crate) fn path_below(alloc: Global, root: &str, name: &str) -> Result<Text, Fail> {
     let path = format!(in alloc; "{root}/{name}")?;
     Ok(Text::from_bytes(alloc, path.as_bytes())?)
 }
 
 /// A path as the system takes it.
-fn path_of(path: &Text) -> Result<&str, Fail> {
+pub(crate) fn path_of(path: &Text) -> Result<&str, Fail> {
     Ok(str::from_utf8(path.as_bytes()).ok().ok_or("path")?)
 }
 
 /// A keeper that is attached to the ledger at this path.
-fn attached<'r>(rt: &'r HostRuntime, path: &Text) -> Result<Box<SqliteKeeper<'r>>, Fail>
+pub(crate) fn attached<'r>(rt: &'r HostRuntime, path: &Text) -> Result<Box<SqliteKeeper<'r>>, Fail>
     ensures { IfOk result (λ keeper. IsSome (attached_in keeper.value)) }
 {
     let mut keeper = SqliteKeeper::new(rt);
@@ -117,14 +117,14 @@ fn header(alloc: Global) -> Result<Box<Header>, Fail> {
 
 /// A header, and rows of which two have one target.
 #[derive(Drop)]
-struct Rows {
+pub(crate) struct Rows {
     header: Box<Header>,
     old: Box<Row>,
     new: Box<Row>,
     other: Box<Row>,
 }
 
-fn own_rows(alloc: Global) -> Result<Box<Rows>, Fail> {
+pub(crate) fn own_rows(alloc: Global) -> Result<Box<Rows>, Fail> {
     let header = header(alloc)?;
     let old = row(alloc, b"one", b"a", 1)?;
     let new = row(alloc, b"one", b"c", 3)?;
@@ -141,7 +141,11 @@ fn own_rows(alloc: Global) -> Result<Box<Rows>, Fail> {
 }
 
 /// Writes the header and the rows to a new ledger, the other one twice.
-fn write_all(rt: &impl Abort, keeper: &mut SqliteKeeper<'_>, rows: &Rows) -> Result<(), Fail>
+pub(crate) fn write_all(
+    rt: &impl Abort,
+    keeper: &mut SqliteKeeper<'_>,
+    rows: &Rows,
+) -> Result<(), Fail>
     requires { IsSome (attached_in keeper.old) }
 {
     assert!(rt; !has_header(keeper, &rows.header));
@@ -157,7 +161,7 @@ fn write_all(rt: &impl Abort, keeper: &mut SqliteKeeper<'_>, rows: &Rows) -> Res
 }
 
 /// Finds the header and the last row of each target.
-fn find_all(rt: &impl Abort, keeper: &mut SqliteKeeper<'_>, rows: &Rows)
+pub(crate) fn find_all(rt: &impl Abort, keeper: &mut SqliteKeeper<'_>, rows: &Rows)
     requires { IsSome (attached_in keeper.old) }
 {
     assert!(rt; has_header(keeper, &rows.header));
@@ -167,7 +171,7 @@ fn find_all(rt: &impl Abort, keeper: &mut SqliteKeeper<'_>, rows: &Rows)
 }
 
 /// What one keeper writes at a path, a second one finds.
-fn write_and_find(
+pub(crate) fn write_and_find(
     rt: &HostRuntime,
     abort: &impl Abort,
     path: &Text,
@@ -207,7 +211,7 @@ fn a_file_that_is_no_database_is_left_as_it_is(rt: HostRuntime) -> Result<(), Fa
 }
 
 /// Makes a database file with one table of another program.
-fn make_notes(rt: &HostRuntime, path: &Text) -> Result<(), sqlite::Error> {
+pub(crate) fn make_notes(rt: &HostRuntime, path: &Text) -> Result<(), sqlite::Error> {
     let mut connection = Connection::open(rt, str::from_utf8(path.as_bytes()).unwrap_or("none"))?;
     connection.execute_batch("CREATE TABLE note (title TEXT NOT NULL) STRICT")?;
     connection.execute("INSERT INTO note VALUES ('kept')", &[])?;
@@ -215,7 +219,7 @@ fn make_notes(rt: &HostRuntime, path: &Text) -> Result<(), sqlite::Error> {
 }
 
 /// The one title in that table.
-fn title_in(rt: &HostRuntime, path: &Text) -> Result<String, sqlite::Error> {
+pub(crate) fn title_in(rt: &HostRuntime, path: &Text) -> Result<String, sqlite::Error> {
     let mut connection = Connection::open(rt, str::from_utf8(path.as_bytes()).unwrap_or("none"))?;
     connection.query_row("SELECT title FROM note", &[])?.get(0)
 }
@@ -328,7 +332,7 @@ fn rows_go_on_waiting_while_the_file_is_damaged(rt: HostRuntime) -> Result<(), F
 }
 
 /// Whether the last fault of a keeper is this one.
-fn fails_as(keeper: &SqliteKeeper<'_>, tried: Tried, path: &Text, words: &[u8]) -> bool {
+pub(crate) fn fails_as(keeper: &SqliteKeeper<'_>, tried: Tried, path: &Text, words: &[u8]) -> bool {
     match keeper.last_fault() {
         Some(fault) => {
             fault.tried == tried && fault.path == *path && fault.words.as_bytes() == words

@@ -3,3 +3,5 @@
 
 #[cfg(test)]
 mod ledger;
+#[cfg(test)]
+mod long_names;
