@@ -8,4 +8,4 @@ cd "$(dirname "$0")/.."
 program=$PWD/crates/migrate/out/migrate
 [ -x "$program" ] || { echo "build the program first: examples/first/run.sh" >&2; exit 1; }
 . bench/jdk.sh
-python3 bench/classes.py "$program" "$place"
+python3 -B bench/classes.py "$program" "$place"

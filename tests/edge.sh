@@ -302,10 +302,18 @@ badrules 'a chain' 'migrate: 22 chain 1 a b' 'the first rename gives a package t
 # ---- limits, clashes, another run
 
 fresh
+head -c 67108865 /dev/zero >app/Large.class
+migrate run --rules rules --from app --to to --ledger ledger
+ends 'a large class' 23 'migrate: 23 limit file-size Large.class'
+has 'a large class: hint' 'one that is migrated may have 67,108,864 bytes'
+fresh
 head -c 67108865 /dev/zero >app/large
 migrate run --rules rules --from app --to to --ledger ledger
-ends 'a large file' 23 'migrate: 23 limit file-size large'
-has 'a large file: hint' 'a file of the source has more than 67,108,864 bytes'
+grep '^written large ' out >large-line
+mv large-line out
+ends 'a large file that is copied' 0 'written large large copy'
+cmp app/large to/large >out 2>&1
+ends 'a large file that is copied: its bytes' 0 ''
 fresh
 mkdir -p app/x.jar/javax/servlet app/x.jar/jakarta/servlet
 printf 'a' >app/x.jar/javax/servlet/n; printf 'b' >app/x.jar/jakarta/servlet/n

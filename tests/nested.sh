@@ -121,13 +121,13 @@ ends "two files of one target" 24 'migrate: 24 path clash jakarta/servlet/a.txt 
 
 large=67108865
 mkdir large
-head -c $large /dev/zero >large/x
-ends "a file of one byte too many" 23 'migrate: 23 limit file-size x' run --rules rules --from large --to out --ledger l2
-head -c $((large - 1)) /dev/zero >large/x
+head -c $large /dev/zero >large/x.class
+ends "a class of one byte too many" 23 'migrate: 23 limit file-size x.class' run --rules rules --from large --to out --ledger l2
+mv large/x.class large/x
 "$program" run --rules rules --from large --to out --ledger l2 >got
 echo "status $?" >>got
 printf 'written x x copy\ntotal files=1 written=1 kept=0 refused=0 renamed=0 added=0\nstatus 0\n' >wanted
-same "a file of as many bytes as a file may have" wanted got
+same "a file that is copied, of one byte more than a class may have" wanted got
 rm -rf large
 
 # a relative path of 1,025 bytes: five folders of 200 bytes, each with its `/`, and a name of 20 bytes

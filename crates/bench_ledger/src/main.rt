@@ -8,10 +8,11 @@ use desk_base::{Memory, Text};
 use desk_folders::DiskFolders;
 use desk_ledger::MemoryKeeper;
 use desk_report::StdSink;
-use desk_run::desk;
+use desk_run::{FreeGate, desk};
 use std::env;
 use std::io::{self, ErrorKind};
 use std::process::ExitCode;
+use std::thread::Threads;
 use std::time::Instant;
 
 /// The words behind the program's name.
@@ -38,13 +39,28 @@ fn times_of(word: &Text) -> u8
 }
 
 /// Runs the desk so many times with one ledger, and answers the last exit status.
-fn run(rt: &HostRuntime, times: u8, words: &[Text], keeper: &mut MemoryKeeper) -> io::Result<u8> {
+fn run<R: Threads + Sync>(
+    rt: &HostRuntime,
+    threads: &R,
+    times: u8,
+    words: &[Text],
+    keeper: &mut MemoryKeeper,
+) -> io::Result<u8> {
     let mut code = 0;
     for _ in 0..times {
         let start = Instant::now(rt)?;
         let mut folders = DiskFolders::new(rt);
         let mut out = StdSink::new(rt);
-        code = desk(rt.alloc(), words, &mut folders, keeper, &mut out).code();
+        code = desk(
+            threads,
+            rt.alloc(),
+            words,
+            &mut folders,
+            keeper,
+            &mut out,
+            &FreeGate,
+        )
+        .code();
         eprintln!(rt; "{}", start.elapsed(rt)?.as_micros())?;
     }
     Ok(code)
@@ -57,7 +73,10 @@ fn main(rt: HostRuntime) -> io::Result<ExitCode> {
         return Ok(ExitCode::from(20));
     };
     match MemoryKeeper::new(alloc, Vec::new(alloc)) {
-        Ok(mut keeper) => Ok(ExitCode::from(run(&rt, times_of(times), rest, &mut keeper)?)),
+        Ok(mut keeper) => {
+            let code = run(&rt, &rt, times_of(times), rest, &mut keeper)?;
+            Ok(ExitCode::from(code))
+        }
         Err(Memory) => Ok(ExitCode::from(10)),
     }
 }

@@ -1,3 +1,4 @@
 pub mod ClassImages
 pub mod Alone
 mod Scanning
+pub mod Treating

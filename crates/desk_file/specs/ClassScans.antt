@@ -17,14 +17,17 @@ is_class_kind kinds.Service = false
 is_class_kind kinds.Manifest = false
 is_class_kind kinds.Other = false
 
+-- what is kept of bytes at a path that were read as a class, selected or not; bytes that are no well-formed class are passed over
+abbrev pub scanned_as : Text → Bool → Result Class Malformed → List Scanned
+scanned_as path selected (Ok c) = scan_of path selected c ∷ []
+scanned_as path selected (Err fault) = []
+
 -- what is kept of a class at a path
 abbrev pub scanned_class : Rules → Text → Class → Scanned
 scanned_class rules path c = scan_of path (selects rules.selection path) c
 
--- bytes that are no well-formed class are passed over
 abbrev pub scanned_read : Rules → Text → Result Class Malformed → List Scanned
-scanned_read rules path (Ok c) = scanned_class rules path c ∷ []
-scanned_read rules path (Err fault) = []
+scanned_read rules path read = scanned_as path (selects rules.selection path) read
 
 -- what is kept of bytes at a path
 abbrev pub scanned_at : Rules → Text → Text → List Scanned

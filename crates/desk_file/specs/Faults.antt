@@ -14,7 +14,7 @@ use Rattle.desk_textrules.specs.declared.TextFault.{TextFault}
 use Rattle.desk_textrules.specs.declared.TextFault.TheVariants as text
 use Rattle.desk_file.specs.Classes.{class_image}
 use Rattle.desk_file.specs.Linked.{image_in}
-use Rattle.desk_file.specs.Images.{service_image, manifest_image, other_image}
+use Rattle.desk_file.specs.Images.{service_image, manifest_image}
 use Rattle.desk_file.specs.declared.images.Image.{Image}
 use Rattle.desk_file.specs.declared.images.FileFault.{FileFault}
 use Rattle.desk_file.specs.declared.images.FileFault.TheVariants.{Refused, Memory}
@@ -31,10 +31,6 @@ IsServiceFault rules bytes fault = IsFaultOf (service_image rules bytes) fault
 -- a manifest has none for this reason
 abbrev pub IsManifestFault : Rules → Text → FileFault → Type 0
 IsManifestFault rules bytes fault = IsFaultOf (manifest_image rules bytes) fault
-
--- a file that is no class, service file or manifest has none for this reason
-abbrev pub IsOtherFault : Rules → Text → Text → FileFault → Type 0
-IsOtherFault rules path bytes fault = IsFaultOf (other_image rules path bytes) fault
 
 -- why a service file or a manifest has none
 abbrev pub line_fault : MetaFault → FileFault

@@ -3,4 +3,5 @@ pub mod Images
 pub mod Linked
 pub mod ClassScans
 pub mod Faults
-pub mod Outcomes
+pub mod Treatments
+pub mod Routes

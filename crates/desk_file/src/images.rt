@@ -2,18 +2,19 @@
 
 ghost use Rattle.std.specs.Prelude.{◌≡◌, ◌≤◌, Ok, IfOk, IfErr, length, unwrap_or};
 ghost use Rattle.desk_base.specs.Limits.{file_size};
-ghost use Rattle.desk_paths.specs.Kinds.{kind_of};
-ghost use Rattle.desk_file.specs.Faults.{IsFaultOf, IsFileFault, IsManifestFault, IsOtherFault, IsServiceFault};
-ghost use Rattle.desk_file.specs.Linked.{image_in, image_in_by};
-ghost use Rattle.desk_file.specs.Images.{copied, manifest_image, other_image, service_image};
+ghost use Rattle.desk_file.specs.Faults.{IsFaultOf, IsFileFault, IsManifestFault, IsServiceFault};
+ghost use Rattle.desk_file.specs.Linked.{image_in};
+ghost use Rattle.desk_file.specs.Images.{copied, manifest_image, service_image, texts_image};
+ghost use Rattle.desk_file.specs.Routes.{IsRouteBy, image_along};
+ghost use Rattle.desk_patterns.specs.PatternTexts.{texts_for};
 
 use crate::classes::class_image;
-use crate::targets::target_of;
+use crate::routes::Route;
+use crate::treatments::Treatment;
 use desk_base::{Changed, Memory, Text};
 use desk_graph::ClassGraph;
 use desk_manifest::migrate_manifest;
 use desk_metainf::{MetaFault, migrate_service};
-use desk_paths::{Kind, place};
 use desk_report::{Detail, Reason};
 use desk_rules::RuleSet;
 use desk_textrules::{TextFault, migrate_text};
@@ -98,20 +99,18 @@ fn manifest_image(alloc: Global, rules: &RuleSet, bytes: &[u8]) -> Result<Image,
     })
 }
 
-/// The image of a selected file that is no class, service file or manifest, and none where it is copied.
-#[tactic(auto, unfolding(crate::specs::Images::target))]
-fn other_image(
+/// The image of a file by the text rules of its path and its target, and none where it is copied.
+fn texts_image(
     alloc: Global,
     rules: &RuleSet,
-    path: &Text,
+    route: &Route,
     bytes: &[u8],
 ) -> Result<Option<Image>, FileFault>
     requires { length bytes.now ≤ file_size }
-    ensures ok { IfOk result (λ found. other_image rules.now path.now bytes.now ≡ Ok (unwrap_or found (copied bytes.now))) }
-    ensures err { IfErr result (IsOtherFault rules.now path.now bytes.now) }
+    ensures ok { IfOk result (λ found. texts_image (texts_for rules.now.texts route.now.path route.now.target) bytes.now ≡ Ok (unwrap_or found (copied bytes.now))) }
+    ensures err { IfErr result (IsFaultOf (texts_image (texts_for rules.now.texts route.now.path route.now.target) bytes.now)) }
 {
-    let target = target_of(alloc, rules, path)?;
-    let Some(texts) = rules.texts_for(path.as_bytes(), target.as_bytes()) else {
+    let Some(texts) = rules.texts_for(route.path.as_bytes(), route.target.as_bytes()) else {
         return Ok(None);
     };
     let Changed { bytes, changed } = migrate_text(alloc, bytes, texts.here, texts.there)?;
@@ -121,94 +120,71 @@ fn other_image(
     }))
 }
 
-/// The image of a selected file, and none where it is copied.
-fn changed_image(
+/// The image of a file along its route, and none where it is copied.
+fn image_along(
     alloc: Global,
     rules: &RuleSet,
     graph: &ClassGraph<'_>,
-    path: &Text,
+    route: &Route,
     bytes: &[u8],
 ) -> Result<Option<Image>, FileFault>
     requires size { length bytes.now ≤ file_size }
     requires graph { graph.now.renames ≡ rules.now.renames }
-    ensures ok { IfOk result (λ found. image_in_by rules.now graph.now.defined path.now bytes.now (kind_of path.now) ≡ Ok (unwrap_or found (copied bytes.now))) }
-    ensures err { IfErr result (IsFaultOf (image_in_by rules.now graph.now.defined path.now bytes.now (kind_of path.now))) }
+    ensures ok { IfOk result (λ found. image_along rules.now graph.now.defined route.now bytes.now ≡ Ok (unwrap_or found (copied bytes.now))) }
+    ensures err { IfErr result (IsFaultOf (image_along rules.now graph.now.defined route.now bytes.now)) }
 {
-    match place(path.as_bytes()).kind {
-        Kind::Service => Ok(Some(service_image(alloc, rules, bytes)?)),
-        Kind::Manifest => Ok(Some(manifest_image(alloc, rules, bytes)?)),
-        Kind::Class => Ok(Some(class_image(alloc, rules, graph, bytes)?)),
-        Kind::Other => other_image(alloc, rules, path, bytes),
+    match route.treatment {
+        Treatment::Service => Ok(Some(service_image(alloc, rules, bytes)?)),
+        Treatment::Manifest => Ok(Some(manifest_image(alloc, rules, bytes)?)),
+        Treatment::Class => Ok(Some(class_image(alloc, rules, graph, bytes)?)),
+        Treatment::Texts => texts_image(alloc, rules, route, bytes),
+        Treatment::UnselectedClass | Treatment::Copy => Ok(None),
     }
 }
 
-/// The image of a file by its path, and none where the file is copied.
-#[tactic(auto, unfolding(crate::specs::Linked::image_in))]
-fn image_at(
+/// The image of a file along its route.
+fn made_along(
     alloc: Global,
     rules: &RuleSet,
     graph: &ClassGraph<'_>,
-    path: &Text,
-    bytes: &[u8],
-) -> Result<Option<Image>, FileFault>
-    requires size { length bytes.now ≤ file_size }
-    requires graph { graph.now.renames ≡ rules.now.renames }
-    ensures ok { IfOk result (λ found. image_in rules.now graph.now.defined path.now bytes.now ≡ Ok (unwrap_or found (copied bytes.now))) }
-    ensures err { IfErr result (IsFileFault rules.now graph.now.defined path.now bytes.now) }
-{
-    if rules.selected(path.as_bytes()) {
-        changed_image(alloc, rules, graph, path, bytes)
-    } else {
-        Ok(None)
-    }
-}
-
-/// The image of a file of at most 67,108,864 bytes, by its path, in the application of a graph, which was built under these
-/// rules. A file that is copied keeps its bytes, and no others are made. `Refused` comes exactly where the file has no image: `Malformed`, `Overlong`,
-/// `PoolFull` or `Twins` for a selected class; `BadLine` for a selected service file with a provider that
-/// holds a blank, or a selected manifest with a line that is none of a manifest, with the offset of the first
-/// byte of the first such line; `Unsettled` for a selected file of another kind whose image the text rules of
-/// its target would change again, with the first such place in the image. The only other error is want of
-/// memory.
-pub fn image_of(
-    alloc: Global,
-    rules: &RuleSet,
-    graph: &ClassGraph<'_>,
-    path: &Text,
-    bytes: Text,
-) -> Result<Image, FileFault>
-    requires size { length bytes ≤ file_size }
-    requires graph { graph.now.renames ≡ rules.now.renames }
-    ensures ok { IfOk result (λ found. image_in rules.now graph.now.defined path.now bytes ≡ Ok found) }
-    ensures err { IfErr result (IsFileFault rules.now graph.now.defined path.now bytes) }
-{
-    match image_at(alloc, rules, graph, path, bytes.as_bytes())? {
-        Some(image) => Ok(image),
-        None => Ok(Image {
-            bytes,
-            detail: Detail::Copy,
-        }),
-    }
-}
-
-/// The image of a file, as `image_of` gives it; bytes are made anew where they are copied.
-pub(crate) fn image_of_bytes(
-    alloc: Global,
-    rules: &RuleSet,
-    graph: &ClassGraph<'_>,
-    path: &Text,
+    route: &Route,
     bytes: &[u8],
 ) -> Result<Image, FileFault>
     requires size { length bytes.now ≤ file_size }
     requires graph { graph.now.renames ≡ rules.now.renames }
-    ensures ok { IfOk result (λ found. image_in rules.now graph.now.defined path.now bytes.now ≡ Ok found) }
-    ensures err { IfErr result (IsFileFault rules.now graph.now.defined path.now bytes.now) }
+    ensures ok { IfOk result (λ found. image_along rules.now graph.now.defined route.now bytes.now ≡ Ok found) }
+    ensures err { IfErr result (IsFaultOf (image_along rules.now graph.now.defined route.now bytes.now)) }
 {
-    match image_at(alloc, rules, graph, path, bytes)? {
+    match image_along(alloc, rules, graph, route, bytes)? {
         Some(image) => Ok(image),
         None => Ok(Image {
             bytes: Text::from_bytes(alloc, bytes)?,
             detail: Detail::Copy,
         }),
     }
+}
+
+/// The image of a file of at most 67,108,864 bytes along its route, in the application of a graph that was built under the same
+/// rules. Along the route that these rules give its path, this is the image of the file. A file that is copied keeps its bytes.
+/// `Refused` comes exactly where the file has no image: `Malformed`, `Overlong`, `PoolFull` or `Twins` for a selected class;
+/// `BadLine` for a selected service file with a provider that holds a blank, or a selected manifest with a line that is none of
+/// a manifest, with the offset of the first byte of the first such line; `Unsettled` for a selected file of another kind whose
+/// image the text rules of its target would change again, with the first such place in the image. The only other error is want
+/// of memory.
+#[tactic(auto, using(crate::proofs::Treating::image_routed))]
+pub fn migrate_file(
+    alloc: Global,
+    rules: &RuleSet,
+    graph: &ClassGraph<'_>,
+    route: &Route,
+    bytes: &[u8],
+) -> Result<Image, FileFault>
+    requires size { length bytes.now ≤ file_size }
+    requires graph { graph.now.renames ≡ rules.now.renames }
+    ensures ok { IfOk result (λ found. image_along rules.now graph.now.defined route.now bytes.now ≡ Ok found) }
+    ensures err { IfErr result (IsFaultOf (image_along rules.now graph.now.defined route.now bytes.now)) }
+    ensures image { IfOk result (λ found. IsRouteBy rules.now route.now → image_in rules.now graph.now.defined route.now.path bytes.now ≡ Ok found) }
+    ensures refused { IfErr result (λ fault. IsRouteBy rules.now route.now → IsFileFault rules.now graph.now.defined route.now.path bytes.now fault) }
+{
+    made_along(alloc, rules, graph, route, bytes)
 }

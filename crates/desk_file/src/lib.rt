@@ -2,22 +2,24 @@
 //!
 //! ```text
 //! let path = Text::from_bytes(alloc, b"META-INF/services/javax.servlet.F")?;
-//! let target = target_of(alloc, &rules, &path)?; // META-INF/services/jakarta.servlet.F
-//! match image_of(alloc, &rules, &graph, &path, bytes) {
-//!     Ok(Image { bytes, detail }) => write(&target, &bytes, detail),
-//!     Err(FileFault::Refused(reason)) => tell(&path, reason),
+//! let route = route_of(alloc, &rules, path)?; // to META-INF/services/jakarta.servlet.F, as a service file
+//! match migrate_file(alloc, &rules, &graph, &route, bytes) {
+//!     Ok(Image { bytes, detail }) => write(&route.target, &bytes, detail),
+//!     Err(FileFault::Refused(reason)) => tell(&route.path, reason),
 //!     Err(FileFault::Memory) => return Err(Memory),
 //! }
 //! ```
 #![tactic(auto)]
 
 mod classes;
-mod files;
 mod images;
+mod routes;
 mod scans;
 mod targets;
+mod treatments;
 
-pub use files::{Outcome, migrate_file};
-pub use images::{FileFault, Image, image_of};
-pub use scans::scan_file;
+pub use images::{FileFault, Image, migrate_file};
+pub use routes::{Route, route_of};
+pub use scans::scan_class;
 pub use targets::target_of;
+pub use treatments::{Treatment, is_whole, treatment_of};

@@ -9,14 +9,13 @@ ghost use Rattle.desk_base.specs.Paths.{is_relative_path};
 ghost use Rattle.desk_base.specs.Counts.{Rose};
 
 use crate::guard::no_link_on_the_way;
-use crate::open::{Open, Reading, Writing, text_of};
+use crate::open::{Reading, Writing, text_of};
 use crate::progress::Progress;
 use crate::walk::{Stopped, files_below, first_of};
 use crate::{FolderFault, Folders};
 use desk_base::{Text, TextList};
 use desk_faults::{Fault, Refusal, Tried};
 use std::marker::Model;
-use std::mem;
 
 /// How many faults there were, and the last of them.
 #[derive(Debug, Drop)]
@@ -30,15 +29,16 @@ pub struct Faults {
 /// and a listing with more than 1,000,000 entries, folders included. The last fault is remembered, with what was
 /// tried, on which path, and why it failed.
 ///
-/// The file that is read, or written, stays open until another path is named, so that the next part needs
-/// no look-up. What stands at a path that is read must be a file: a pipe there, or a device, is a fault and is not
+/// The file that is read, and the one that is written, stay open until another path is read or written, so that the next
+/// part needs no look-up; both are closed where a file is created. What stands at a path that is read must be a file: a pipe there, or a device, is a fault and is not
 /// waited for. What stands at a path that is created is taken away and the file is made anew: a link, a
 /// pipe or a device there is replaced, and never written through. A folder there is a fault, and so is a link in
 /// place of a folder below the target that `keep_within` names.
 #[derive(Drop)]
 pub struct DiskFolders<'r> {
     rt: &'r HostRuntime,
-    open: Open,
+    reading: Option<Reading>,
+    writing: Option<Writing>,
     faults: Faults,
     at: Option<Text>,
     target: Option<Text>,
@@ -61,7 +61,8 @@ impl<'r> DiskFolders<'r> {
     {
         DiskFolders {
             rt,
-            open: Open::Nothing,
+            reading: None,
+            writing: None,
             faults: Faults {
                 count: 0,
                 last: None,
@@ -138,20 +139,13 @@ impl<'r> DiskFolders<'r> {
         }
     }
 
-    /// Closes the file that is open, and answers it.
-    fn close(&mut self) -> Open
-        ensures { self.new ≡ self.old }
-    {
-        mem::replace(&mut self.open, Open::Nothing)
-    }
-
     /// The file at a path, open to be read from a byte on.
     fn reading(&mut self, path: &Text, at: u64) -> Result<Reading, Refusal>
         ensures same { self.new ≡ self.old }
         ensures path { IfOk result (λ file. file.path ≡ path.now) }
         ensures at { IfOk result (λ file. file.at ≡ at) }
     {
-        if let Open::Reading(file) = self.close() {
+        if let Some(file) = self.reading.take() {
             if file.stands_at(path, at) {
                 return Ok(file);
             }
@@ -169,7 +163,7 @@ impl<'r> DiskFolders<'r> {
         }
         let mut file = self.reading(path, at)?;
         let part = file.read(self.rt.alloc(), want)?;
-        self.open = Open::Reading(file);
+        self.reading = Some(file);
         Ok(part)
     }
 
@@ -178,7 +172,7 @@ impl<'r> DiskFolders<'r> {
         ensures same { self.new ≡ self.old }
         ensures path { IfOk result (λ file. file.path ≡ path.now) }
     {
-        if let Open::Writing(file) = self.close() {
+        if let Some(file) = self.writing.take() {
             if file.is_of(path) {
                 return Ok(file);
             }
@@ -206,11 +200,12 @@ impl<'r> DiskFolders<'r> {
     fn make(&mut self, path: &Text) -> Result<(), Refusal>
         ensures { self.new ≡ self.old }
     {
-        let _ = self.close();
+        self.reading = None;
+        self.writing = None;
         self.look(path)?;
         let file = Writing::create(self.rt, path)?;
         self.progress.note_made(self.rt);
-        self.open = Open::Writing(file);
+        self.writing = Some(file);
         Ok(())
     }
 
@@ -220,7 +215,7 @@ impl<'r> DiskFolders<'r> {
     {
         let mut file = self.writing(path)?;
         file.write(bytes)?;
-        self.open = Open::Writing(file);
+        self.writing = Some(file);
         Ok(())
     }
 

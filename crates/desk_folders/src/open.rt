@@ -14,14 +14,6 @@ use std::io::{self, ErrorKind, Read, Seek, SeekFrom, Write};
 use std::path::Path;
 use std::str;
 
-/// The file that is open between two calls.
-#[derive(Drop)]
-pub(crate) enum Open {
-    Nothing,
-    Reading(Reading),
-    Writing(Writing),
-}
-
 /// A file that is open to be read: its path, how many bytes it had when it was opened, and the byte that is
 /// read next.
 #[derive(Drop)]
@@ -81,6 +73,9 @@ fn read_bytes(alloc: Global, file: &mut File, size: usize) -> Result<Text, Refus
     let mut bytes = vec![in alloc; 0; size]?;
     let mut filled = 0;
     for _ in 0..size {
+        if filled == size {
+            break;
+        }
         let taken = file.read(&mut bytes[filled..]).map_err(fault_of)?;
         if taken == 0 {
             break;
@@ -112,7 +107,9 @@ fn file_in(kind: FileType) -> Result<(), Cause>
 /// The length of a file that is open, set to be read from a byte on.
 fn seek_in(file: &mut File, at: u64) -> io::Result<u64> {
     let len = file.metadata()?.len();
-    file.seek(SeekFrom::Start(at))?;
+    if at > 0 {
+        file.seek(SeekFrom::Start(at))?;
+    }
     Ok(len)
 }
 

@@ -34,8 +34,11 @@ impl Progress {
         let _ = eprint!(rt; "\rmigrate: {read} files read, {made} written\r");
     }
 
-    /// A file was begun to be read.
+    /// A file was begun to be read. One that is read again, behind the first that is made, isn't counted anew.
     pub(crate) fn note_read(&mut self, rt: &HostRuntime) {
+        if self.made > 0 {
+            return;
+        }
         self.read = self.read.saturating_add(1);
         if self.is_shown && self.read % STEP == 0 {
             self.write(rt);

@@ -42,8 +42,7 @@ hint_text hint.Chain8 = codes "migrate: the package that a rename gives is a str
 hint_text hint.Chain9 = codes "migrate: a direct rule gives the package of a rename, which would change it once more\n         let the direct rule give the new package, or remove it\n"
 hint_text hint.Files = codes "migrate: the source holds more than 200,000 files\n         migrate it in parts, each with a target and a ledger of its own\n"
 hint_text hint.PathLength = codes "migrate: a path of the source, or its target, has more than 1,024 bytes\n         shorten the names of its folders, or leave the file out of the source\n"
-hint_text hint.FileSize = codes "migrate: a file of the source has more than 67,108,864 bytes\n         leave it out of the source, and copy it by hand\n"
-hint_text hint.Sum = codes "migrate: the files of the source have more than 1,073,741,824 bytes together\n         migrate it in parts, each with a target and a ledger of its own\n"
+hint_text hint.FileSize = codes "migrate: a file of the source is too large: one that is migrated may have 67,108,864 bytes, another 1,099,511,627,776\n         leave it out of the source, and copy it by hand\n"
 hint_text hint.RuleFiles = codes "migrate: the rule folder holds more than 1,000 files\n         keep nothing but rule files there\n"
 hint_text hint.RuleSize = codes "migrate: a rule file has more than 1,048,576 bytes\n         keep nothing but rule files there, or split a long one\n"
 hint_text hint.NameClash = codes "migrate: a class of the source and another name that it uses would get one name\n         change the rules so that the two stay apart, or leave the class out by `selection.properties`\n"
@@ -57,6 +56,7 @@ hint_text hint.OtherSource = codes "migrate: the ledger belongs to a run with an
 hint_text hint.OtherSourceRules = codes "migrate: the ledger belongs to a run with other source and rules\n         name what it was made with, or another ledger: another one starts anew, and writes every file\n"
 hint_text hint.OtherSourceTarget = codes "migrate: the ledger belongs to a run with other source and target\n         name what it was made with, or another ledger: another one starts anew, and writes every file\n"
 hint_text hint.OtherSourceTargetRules = codes "migrate: the ledger belongs to a run with other source, target and rules\n         name what it was made with, or another ledger: another one starts anew, and writes every file\n"
+hint_text hint.Moved = codes "migrate: a file of the source changed while the run read it\n         run again once nothing writes to the source\n"
 
 -- the hint of a chain of rules, by its kind
 abbrev pub chain_hint : ChainKind → Hint
@@ -89,7 +89,6 @@ abbrev pub limit_hint : LimitKind → Hint
 limit_hint limit.Files = hint.Files
 limit_hint limit.PathLength = hint.PathLength
 limit_hint limit.FileSize = hint.FileSize
-limit_hint limit.Sum = hint.Sum
 limit_hint limit.RuleFiles = hint.RuleFiles
 limit_hint limit.RuleSize = hint.RuleSize
 
@@ -123,3 +122,4 @@ hint_of (status.PathClash first second) = Some hint.Clash
 hint_of (status.NameClash defined other image) = Some hint.NameClash
 hint_of (status.Stranded path name) = Some hint.Stranded
 hint_of (status.OtherRun kept wanted) = Some (other_hint kept wanted)
+hint_of (status.Moved path first second) = Some hint.Moved

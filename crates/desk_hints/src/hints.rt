@@ -60,10 +60,8 @@ pub enum Hint {
     Files,
     /// Status 23: a path of the source, or its target, has more than 1,024 bytes.
     PathLength,
-    /// Status 23: a file of the source has more than 67,108,864 bytes.
+    /// Status 23: a file of the source that is read whole has more than 67,108,864 bytes, or another more than 1,099,511,627,776.
     FileSize,
-    /// Status 23: the files of the source have more than 1,073,741,824 bytes together.
-    Sum,
     /// Status 23: the rule folder holds more than 1,000 files.
     RuleFiles,
     /// Status 23: a rule file has more than 1,048,576 bytes.
@@ -90,6 +88,8 @@ pub enum Hint {
     OtherSourceTarget,
     /// Status 27: ledger belongs to a run with other source, target and rules.
     OtherSourceTargetRules,
+    /// Status 28.
+    Moved,
 }
 
 /// Every hint.
@@ -119,7 +119,6 @@ pub const HINTS: &[Hint] = &[
     Hint::Files,
     Hint::PathLength,
     Hint::FileSize,
-    Hint::Sum,
     Hint::RuleFiles,
     Hint::RuleSize,
     Hint::Clash,
@@ -133,6 +132,7 @@ pub const HINTS: &[Hint] = &[
     Hint::OtherSourceRules,
     Hint::OtherSourceTarget,
     Hint::OtherSourceTargetRules,
+    Hint::Moved,
 ];
 
 impl Hint {
@@ -190,9 +190,7 @@ impl Hint {
             Hint::PathLength =>
                 b"migrate: a path of the source, or its target, has more than 1,024 bytes\n         shorten the names of its folders, or leave the file out of the source\n",
             Hint::FileSize =>
-                b"migrate: a file of the source has more than 67,108,864 bytes\n         leave it out of the source, and copy it by hand\n",
-            Hint::Sum =>
-                b"migrate: the files of the source have more than 1,073,741,824 bytes together\n         migrate it in parts, each with a target and a ledger of its own\n",
+                b"migrate: a file of the source is too large: one that is migrated may have 67,108,864 bytes, another 1,099,511,627,776\n         leave it out of the source, and copy it by hand\n",
             Hint::RuleFiles =>
                 b"migrate: the rule folder holds more than 1,000 files\n         keep nothing but rule files there\n",
             Hint::RuleSize =>
@@ -219,6 +217,8 @@ impl Hint {
                 b"migrate: the ledger belongs to a run with other source and target\n         name what it was made with, or another ledger: another one starts anew, and writes every file\n",
             Hint::OtherSourceTargetRules =>
                 b"migrate: the ledger belongs to a run with other source, target and rules\n         name what it was made with, or another ledger: another one starts anew, and writes every file\n",
+            Hint::Moved =>
+                b"migrate: a file of the source changed while the run read it\n         run again once nothing writes to the source\n",
         }
     }
 }
@@ -265,7 +265,6 @@ fn limit_hint(kind: LimitKind) -> Hint
         LimitKind::Files => Hint::Files,
         LimitKind::PathLength => Hint::PathLength,
         LimitKind::FileSize => Hint::FileSize,
-        LimitKind::Sum => Hint::Sum,
         LimitKind::RuleFiles => Hint::RuleFiles,
         LimitKind::RuleSize => Hint::RuleSize,
     }
@@ -311,5 +310,6 @@ pub fn hint_of(status: &Status) -> Option<Hint>
         Status::NameClash { .. } => Some(Hint::NameClash),
         Status::Stranded { .. } => Some(Hint::Stranded),
         Status::OtherRun { kept, wanted } => Some(other_hint(kept, wanted)),
+        Status::Moved { .. } => Some(Hint::Moved),
     }
 }

@@ -13,8 +13,8 @@ use Rattle.desk_report.specs.declared.lines.Detail.TheVariants.{Class, Service, 
 use Rattle.desk_report.specs.declared.lines.Line.TheVariants.{Written, Kept, Refused}
 use Rattle.desk_report.specs.declared.lines.Reason.TheVariants.{Malformed, Overlong, PoolFull, Twins, BadLine, Unsettled}
 use Rattle.desk_base.specs.declared.faults.FaultKind.TheVariants as kinds
-use Rattle.desk_report.specs.declared.status.LimitKind.TheVariants.{Files, PathLength, FileSize, Sum, RuleFiles, RuleSize}
-use Rattle.desk_report.specs.declared.status.Status.TheVariants.{Done, Refusals, Memory, FolderFault, LedgerFault, OutputFault, Usage, NestedRoots, BadRules, Limit, PathClash, NameClash, Stranded, OtherRun}
+use Rattle.desk_report.specs.declared.status.LimitKind.TheVariants.{Files, PathLength, FileSize, RuleFiles, RuleSize}
+use Rattle.desk_report.specs.declared.status.Status.TheVariants.{Done, Refusals, Memory, FolderFault, LedgerFault, OutputFault, Usage, NestedRoots, BadRules, Limit, PathClash, NameClash, Stranded, OtherRun, Moved}
 use Rattle.desk_report.specs.Texts.{line_text, summary_text, fault_text}
 
 -- a plain text stands for itself
@@ -141,9 +141,6 @@ fault_23_path = refl
 fault_23_size : fault_text (Limit FileSize (codes "a")) ≡ codes "migrate: 23 limit file-size a\n"
 fault_23_size = refl
 
-fault_23_sum : fault_text (Limit Sum (codes "a")) ≡ codes "migrate: 23 limit sum a\n"
-fault_23_sum = refl
-
 fault_23_rules : fault_text (Limit RuleFiles (codes "r")) ≡ codes "migrate: 23 limit rule-files r\n"
 fault_23_rules = refl
 
@@ -166,3 +163,8 @@ fault_27 : fault_text (OtherRun (run_of (codes "in") (codes "out") 10) (run_of (
     ≡ codes "migrate: 27 other run kept in out 0a0a0a0a0a0a0a0a0a0a0a0a0a0a0a0a0a0a0a0a0a0a0a0a0a0a0a0a0a0a0a0a wanted in out abababababababababababababababababababababababababababababababab\n"
 unfolding encode_with
 fault_27 = refl
+
+fault_28 : fault_text (Moved (codes "f") (record { 0 = replicate 32 0xCA }) (record { 0 = replicate 32 0x3E }))
+    ≡ codes "migrate: 28 moved f cacacacacacacacacacacacacacacacacacacacacacacacacacacacacacacaca 3e3e3e3e3e3e3e3e3e3e3e3e3e3e3e3e3e3e3e3e3e3e3e3e3e3e3e3e3e3e3e3e\n"
+unfolding encode_with
+fault_28 = refl

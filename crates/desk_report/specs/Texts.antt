@@ -12,9 +12,9 @@ use Rattle.desk_report.specs.declared.lines.Reason.{Reason}
 use Rattle.desk_report.specs.declared.lines.Reason.TheVariants.{Malformed, Overlong, PoolFull, Twins, BadLine, Unsettled}
 use Rattle.desk_report.specs.declared.lines.Summary.{Summary}
 use Rattle.desk_report.specs.declared.status.Status.{Status}
-use Rattle.desk_report.specs.declared.status.Status.TheVariants.{Done, Refusals, Memory, FolderFault, LedgerFault, OutputFault, Usage, NestedRoots, BadRules, Limit, PathClash, NameClash, Stranded, OtherRun}
+use Rattle.desk_report.specs.declared.status.Status.TheVariants.{Done, Refusals, Memory, FolderFault, LedgerFault, OutputFault, Usage, NestedRoots, BadRules, Limit, PathClash, NameClash, Stranded, OtherRun, Moved}
 use Rattle.desk_report.specs.declared.status.LimitKind.{LimitKind}
-use Rattle.desk_report.specs.declared.status.LimitKind.TheVariants.{Files, PathLength, FileSize, Sum, RuleFiles, RuleSize}
+use Rattle.desk_report.specs.declared.status.LimitKind.TheVariants.{Files, PathLength, FileSize, RuleFiles, RuleSize}
 use Rattle.desk_report.specs.Joined.{joined, pair_pieces}
 use Rattle.desk_report.specs.RuleFaults.{rule_fault_pieces}
 use Rattle.desk_report.specs.Kinds.{kind_name}
@@ -65,7 +65,6 @@ abbrev pub limit_name : LimitKind → Text
 limit_name Files = codes "files"
 limit_name PathLength = codes "path-length"
 limit_name FileSize = codes "file-size"
-limit_name Sum = codes "sum"
 limit_name RuleFiles = codes "rule-files"
 limit_name RuleSize = codes "rule-size"
 
@@ -85,6 +84,7 @@ fault_pieces (PathClash first second) = pair_pieces (codes "migrate: 24 path cla
 fault_pieces (NameClash defined other image) = codes "migrate: 25 name clash " ∷ shown defined ∷ codes " " ∷ shown other ∷ codes " " ∷ shown image ∷ codes "\n" ∷ []
 fault_pieces (Stranded path name) = pair_pieces (codes "migrate: 26 stranded ") path name
 fault_pieces (OtherRun kept wanted) = codes "migrate: 27 other run kept " ∷ header_pieces kept (codes " wanted ") ++ header_pieces wanted (codes "\n")
+fault_pieces (Moved path first second) = codes "migrate: 28 moved " ∷ shown path ∷ codes " " ∷ encode_lower first.0 ∷ codes " " ∷ encode_lower second.0 ∷ codes "\n" ∷ []
 
 -- the line of a fault; Done and Refusals have none
 abbrev pub fault_text : Status → Text
@@ -106,3 +106,4 @@ code_of (PathClash first second) = 24
 code_of (NameClash defined other image) = 25
 code_of (Stranded path name) = 26
 code_of (OtherRun kept wanted) = 27
+code_of (Moved path first second) = 28

@@ -13,7 +13,7 @@ use crate::rule_faults::rule_fault_pieces;
 use crate::writer::write_pieces;
 use crate::{Sink, SinkFault};
 use desk_base::Text;
-use desk_ledger::Header;
+use desk_ledger::{Digest, Header};
 use desk_rules::RuleFault;
 
 /// The line of words without a task.
@@ -27,10 +27,8 @@ pub enum LimitKind {
     Files,
     /// 1,024 bytes of a relative path or its target.
     PathLength,
-    /// 67,108,864 bytes of a file.
+    /// 67,108,864 bytes of a file that is read whole, and 1,099,511,627,776 of any other.
     FileSize,
-    /// 1,073,741,824 bytes of all files together.
-    Sum,
     /// 1,000 files of the rule folder.
     RuleFiles,
     /// 1,048,576 bytes of a rule file.
@@ -46,7 +44,6 @@ impl LimitKind {
             LimitKind::Files => b"files",
             LimitKind::PathLength => b"path-length",
             LimitKind::FileSize => b"file-size",
-            LimitKind::Sum => b"sum",
             LimitKind::RuleFiles => b"rule-files",
             LimitKind::RuleSize => b"rule-size",
         }
@@ -108,6 +105,12 @@ pub enum Status {
         kept: Header,
         wanted: Header,
     },
+    /// The two readings of the file of this relative path gave bytes of these digests.
+    Moved {
+        path: Text,
+        first: Digest,
+        second: Digest,
+    },
 }
 
 impl Status {
@@ -130,8 +133,10 @@ impl Status {
             Status::NameClash { .. } => 25,
             Status::Stranded { .. } => 26,
             Status::OtherRun { .. } => 27,
+            Status::Moved { .. } => 28,
         }
     }
+
     /// The pieces of its line; `Done` and `Refusals` have none.
     fn pieces(&self) -> Pieces<'_>
         ensures text { pieces_text result ≡ fault_text self.now }
@@ -166,6 +171,11 @@ impl Status {
             } => name_clash(defined, other, image),
             Status::Stranded { path, name } => Pieces::pair(b"migrate: 26 stranded ", path, name),
             Status::OtherRun { kept, wanted } => other_run(kept, wanted),
+            Status::Moved {
+                path,
+                first,
+                second,
+            } => moved(path, first, second),
         }
     }
 }
@@ -213,6 +223,21 @@ fn other_run<'a>(kept: &'a Header, wanted: &'a Header) -> Pieces<'a>
         Piece::Shown(wanted.to.as_bytes()),
         Piece::Plain(b" "),
         Piece::Hex(&wanted.rules.0),
+        Piece::Plain(b"\n"),
+    ])
+}
+
+/// The pieces of the line of a file that changed between its two readings.
+fn moved<'a>(path: &'a Text, first: &'a Digest, second: &'a Digest) -> Pieces<'a>
+    ensures { pieces_text result ≡ fault_text (case.Moved path.now first.now second.now) }
+{
+    Pieces::of(&[
+        Piece::Plain(b"migrate: 28 moved "),
+        Piece::Shown(path.as_bytes()),
+        Piece::Plain(b" "),
+        Piece::Hex(&first.0),
+        Piece::Plain(b" "),
+        Piece::Hex(&second.0),
         Piece::Plain(b"\n"),
     ])
 }

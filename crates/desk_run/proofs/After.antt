@@ -8,10 +8,7 @@ use Rattle.desk_folders.specs.Contents.{Contents}
 use Rattle.desk_ledger.specs.declared.keeper.Held.{Held}
 use Rattle.desk_ledger.specs.Ledger.{Ledger}
 use Rattle.desk_base.specs.TextMaps.{get-insert-other, get-remove-other}
-use Rattle.desk_run.specs.declared.planning.Plan.{Plan}
-use Rattle.desk_run.specs.declared.planning.Plan.TheVariants.{Keep, Leave, Write}
-use Rattle.desk_run.specs.declared.planning.Work.{Work}
-use Rattle.desk_run.specs.Works.{wrote, wrote_plan, logged, logged_plan, forgot, cleared_plan, writes, files_after, ledger_after}
+use Rattle.desk_batches.specs.Works.{Plan, Keep, Leave, Write, Work, wrote, wrote_plan, logged, logged_plan, forgot, cleared_plan, writes, files_after, ledger_after}
 use Rattle.desk_run.specs.Runs.{Misses}
 
 pub full_apart : (root p q : List ℕ) → p ≢ q → full root p ≢ full root q
@@ -53,14 +50,6 @@ files_spare to path (work ∷ works) m h = files_spare to path works (wrote to w
 pub rows_spare : (target : List ℕ) (works : List Work) (l : Ledger) → Spares target works → fin.get (ledger_after works l).rows target ≡ fin.get l.rows target
 rows_spare target [] l h = refl
 rows_spare target (work ∷ works) l h = rows_spare target works (logged work l) h.1 ∙ logged_spares work.target target _ work.plan l h.0
-
-pub files_after-join : (to : List ℕ) (a b : List Work) (m : Contents) → files_after to (a ++ b) m ≡ files_after to b (files_after to a m)
-files_after-join to [] b m = refl
-files_after-join to (w ∷ a) b m = files_after-join to a b (wrote to w m)
-
-pub ledger_after-join : (a b : List Work) (l : Ledger) → ledger_after (a ++ b) l ≡ ledger_after b (ledger_after a l)
-ledger_after-join [] b l = refl
-ledger_after-join (w ∷ a) b l = ledger_after-join a b (logged w l)
 
 pub off_from_misses : (to target : List ℕ) (works : List Work) → Misses target (map (λ w. w.target) works) → Off to (full to target) works
 off_from_misses to target [] h = tt

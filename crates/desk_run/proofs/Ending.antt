@@ -1,37 +1,47 @@
 -- From the plan and the writing to where a run stands, and to what is promised of it.
-use Rattle.std.proofs.Common.{◌≡◌, ◌⊎◌, inl, inr, ℕ, ◌+◌, ◌≤◌, List, [], ◌∷◌, ◌++◌, Option, Some, refl, sym, ap, ◌∙◌, subst, true, false, Bool, cond, append-nil, length, Result, Ok, Err}
+use Rattle.std.proofs.Common.{◌≡◌, ◌⊎◌, inl, inr, ℕ, ◌+◌, ◌≤◌, List, [], ◌∷◌, ◌++◌, Option, Some, None, refl, sym, ap, ◌∙◌, subst, true, false, Bool, cond, append-nil, length, map, Result, Ok, Err}
 use Rattle.std.specs.Prelude.{not, ◌&&◌, ◌||◌, count_by, is_ok, is_err, IsOkAnd, if◌then◌else◌}
 use Rattle.std.specs.List.{flat_map, fold, list_any, sum_by}
 use Rattle.std.proofs.lemmas.List.{length-map}
+use Rattle.desk_base.specs.Counts.{Rose-earlier}
 use Rattle.desk_base.specs.Names.{Text}
 use Rattle.desk_base.specs.Paths.{full}
+use Rattle.desk_batches.specs.Stops.{Broken, HasCause, StoppedAt}
+use Rattle.desk_batches.specs.Turns.{outcome_of, outcome_of_plan}
+use Rattle.desk_batches.specs.Works.{Keep, Work, cleared, files_after, fresh, ledger_after, writes}
+use Rattle.desk_batches.specs.declared.noted.Noted.{Noted}
+use Rattle.desk_batches.specs.declared.noted.Outcome.{Outcome}
+use Rattle.desk_batches.specs.declared.stops.Stop.{Stop}
+use Rattle.desk_batches.specs.declared.stops.Stop.TheVariants as stop
+use Rattle.desk_file.specs.Routes.{route_of}
+use Rattle.desk_file.specs.declared.images.Image.{Image}
 use Rattle.desk_folders.specs.Contents.{Contents, File, setting, files_below}
-use Rattle.desk_base.specs.Counts.{Rose-earlier}
 use Rattle.desk_ledger.specs.declared.keeper.Header.{Header}
-use Rattle.desk_ledger.specs.Ledger.{Ledger, Rows, with_header}
+use Rattle.desk_ledger.specs.declared.keeper.Row.{Row}
+use Rattle.desk_ledger.specs.Ledger.{Ledger, NoneWaits, Rows, with_header}
 use Rattle.desk_report.specs.declared.lines.Detail.{Detail}
+use Rattle.desk_report.specs.declared.lines.Reason.{Reason}
 use Rattle.desk_report.specs.declared.lines.Summary.{Summary}
 use Rattle.desk_report.specs.declared.status.Status.{Status}
-use Rattle.desk_report.specs.declared.status.Status.TheVariants.{Done, Refusals, Memory, FolderFault, LedgerFault, OutputFault, Usage, NestedRoots, BadRules, Limit, PathClash, NameClash, Stranded, OtherRun}
+use Rattle.desk_report.specs.declared.status.Status.TheVariants.{Done, Refusals, Memory, FolderFault, LedgerFault, OutputFault, Usage, NestedRoots, BadRules, Limit, PathClash, NameClash, Stranded, OtherRun, Moved}
 use Rattle.desk_report.specs.Texts.{summary_text}
 use Rattle.desk_report.specs.Written.{WritesFront, writing}
-use Rattle.desk_file.specs.declared.images.Image.{Image}
-use Rattle.desk_report.specs.declared.lines.Reason.{Reason}
-use Rattle.desk_run.specs.Named.{Asked}
-use Rattle.desk_run.specs.declared.planning.Plan.TheVariants.{Keep}
-use Rattle.desk_run.specs.declared.planning.Work.{Work}
+use Rattle.desk_rules.specs.Rules.{Rules}
+use Rattle.desk_words.specs.declared.roots.Roots.{Roots}
+use Rattle.desk_run.proofs.Splits.{Mapped, mapped}
+use Rattle.desk_run.specs.Answers.{names_answer, other_run, or_else, answer_of_run, first_answer, is_answer, AskedCause}
+use Rattle.desk_run.specs.Endings.{WhereTold, Tells, Planned, LedgerEarly, HaltsEarly, AllWritten, Finishes, Reported, ReportedOf, HasCauses, StandsAt, IsDone, IsSilent, IsTold, IsWritten, StandsAfter, is_final, Named, Committed}
+use Rattle.desk_run.specs.Meaning.{run_of_asked}
+use Rattle.desk_run.specs.Named.{Asked, asked_roots}
+use Rattle.desk_run.specs.Notes.{measured_of, noted_by}
+use Rattle.desk_run.specs.Reports.{report_by, line_of, lines_of, file_line, summary_of, summary_by, ending, ending_by, outcome_line, is_written, was_kept, was_refused, number_in, renamed_uses, added_texts, number_in_file, number_of}
+use Rattle.desk_run.specs.Runs.{Run, is_kept_file, is_fresh, is_refused}
+use Rattle.desk_run.specs.Stands.{Unchanged, Between}
+use Rattle.desk_run.specs.Stops.{StoppedBehind, StopsAt, status_of_halt, status_of_stop}
+use Rattle.desk_run.specs.Truth.{IsOurs}
+use Rattle.desk_run.specs.Works.{work_of, works_of}
 use Rattle.desk_run.specs.declared.stops.Halt.{Halt}
 use Rattle.desk_run.specs.declared.stops.Halt.TheVariants as halt
-use Rattle.desk_run.specs.Runs.{Run, is_kept_file, is_fresh, is_refused}
-use Rattle.desk_run.specs.Works.{work_of, works_of, fresh, writes, keeps, leaves, cleared, files_after, ledger_after}
-use Rattle.desk_run.specs.Truth.{IsOurs}
-use Rattle.desk_run.specs.Stops.{Broken, StoppedAt, StoppedBehind, status_of_halt}
-use Rattle.desk_run.specs.Stands.{Unchanged, Between}
-use Rattle.desk_run.specs.Meaning.{run_of_asked}
-use Rattle.desk_run.specs.Answers.{names_answer, other_run, or_else, answer_of_run, first_answer, is_answer, AskedCause}
-use Rattle.desk_run.specs.Reports.{report, line_of, file_line, summary_of, ending, ending_of_works, line_of_work, plan_line, summary_of_works, report_of_works, renamed_uses, added_texts, number_in_file, number_of, number_in_plan}
-use Rattle.desk_run.specs.Endings.{WhereTold, Tells, Planned, LedgerEarly, HaltsEarly, AllWritten, Finishes, Reported, ReportedOf, HasCauses, StandsAt, IsDone, StandsAfter, is_final, Named, NamedBy, NamedByRoots, IsAttached}
-use Rattle.desk_run.proofs.Splits.{Mapped, mapped}
 
 -- all is written
 all_written : (asked : Asked) (m0 : Contents) (l0 : Ledger) (to : Text) (header : Header) (works : List Work) (f' : Option Contents) (k' : Option Ledger) → Planned asked m0 l0 to header works
@@ -151,6 +161,9 @@ finish_stands asked m0 l0 to header works f' k' OutputFault p a = all_written as
 finish_stands asked m0 l0 to header works f' k' Memory p a =
     let s = stops_stands asked m0 l0 to header works a.done f' k' p a.stopped in
     record { m = s.m; l = s.l; folders = s.folders; ledger = s.ledger; holds = record { done = a.done; stands = s.holds } }
+finish_stands asked m0 l0 to header works f' k' (Moved path one other) p a =
+    let s = stops_stands asked m0 l0 to header works a.done f' k' p a.stopped in
+    record { m = s.m; l = s.l; folders = s.folders; ledger = s.ledger; holds = record { done = a.done; stands = s.holds } }
 finish_stands asked m0 l0 to header works f' k' (FolderFault done) p a = stopped_stands asked m0 l0 to header works done f' k' p a
 finish_stands asked m0 l0 to header works f' k' (LedgerFault done) p a = stops_stands asked m0 l0 to header works done f' k' p a
 finish_stands asked m0 l0 to header works f' k' Usage p a = absurd a
@@ -198,6 +211,7 @@ answer_stands asked m0 l0 m l (Limit kind path) e u = u
 answer_stands asked m0 l0 m l (PathClash first second) e u = u
 answer_stands asked m0 l0 m l (NameClash defined other image) e u = u
 answer_stands asked m0 l0 m l (Stranded path held) e u = u
+answer_stands asked m0 l0 m l (Moved path one other) e u = cc
 answer_stands asked m0 l0 m l Done e u = cc
 answer_stands asked m0 l0 m l Refusals e u = cc
 answer_stands asked m0 l0 m l Memory e u = cc
@@ -224,191 +238,341 @@ early_first asked m0 l0 k' a b c d halt.Folders s e = cc
 early_first asked m0 l0 k' a b c d halt.Ledger s e = cc
 early_first asked m0 l0 k' a b c d (halt.Answer status) s e = sym (s.1.first m0 l0 refl refl)
 
--- the report of the works is that of the run
-line_plan : (path target : Text) (kept found : Bool) (o : Result Image Reason) → plan_line path target (cond kept Keep (fresh found o)) ≡ file_line path target kept o
-line_plan path target true found o = refl
-line_plan path target false found (Ok image) = refl
-line_plan path target false found (Err reason) = refl
+-- the report by outcomes is that of the run
+line_outcome : (path target : Text) (kept found : Bool) (o : Result Image Reason) → outcome_line path target (outcome_of_plan (cond kept Keep (fresh found o))) ≡ file_line path target kept o
+line_outcome path target true found o = refl
+line_outcome path target false found (Ok image) = refl
+line_outcome path target false found (Err reason) = refl
 
-lines_works : (run : Run) (rows : Rows) (files : List File) → flat_map line_of_work (works_of run rows files) ≡ flat_map (line_of run rows) files
-lines_works run rows [] = refl
-lines_works run rows (file ∷ files) =
-    ap (λ t. t ++ flat_map line_of_work (works_of run rows files)) (line_plan file.path (run.target file.path) _ _ _) ∙ ap (λ t. line_of run rows file ++ t) (lines_works run rows files)
+-- what became of the files of a run
+abbrev pub outcomes_of : Run → Rows → List File → List Outcome
+outcomes_of run rows files = map outcome_of (works_of run rows files)
 
-counted : (p : Work → Bool) (q : File → Bool) (run : Run) (rows : Rows) → ((file : File) → p (work_of run rows file) ≡ q file) → (files : List File) → count_by p (works_of run rows files) ≡ count_by q files
+lines_same : (run : Run) (rules : Rules) (rows : Rows) (files : List File) → ((path : Text) → (route_of rules path).target ≡ run.target path)
+    → lines_of (map (noted_by rows) (map (measured_of rules) files)) (outcomes_of run rows files) ≡ flat_map (line_of run rows) files
+lines_same run rules rows [] goes = refl
+lines_same run rules rows (file ∷ files) goes =
+    ap (λ t. outcome_line file.path t (outcome_of (work_of run rows file)) ++ lines_of (map (noted_by rows) (map (measured_of rules) files)) (outcomes_of run rows files)) (goes file.path)
+    ∙ ap (λ t. t ++ lines_of (map (noted_by rows) (map (measured_of rules) files)) (outcomes_of run rows files)) (line_outcome file.path (run.target file.path) _ _ _)
+    ∙ ap (λ t. line_of run rows file ++ t) (lines_same run rules rows files goes)
+
+counted : (p : Outcome → Bool) (q : File → Bool) (run : Run) (rows : Rows) → ((file : File) → p (outcome_of (work_of run rows file)) ≡ q file) → (files : List File) → count_by p (outcomes_of run rows files) ≡ count_by q files
 counted p q run rows same files = by 0 files where
-  by : (n : ℕ) (files : List File) → fold (λ a w. a + cond (p w) 1 0) n (works_of run rows files) ≡ fold (λ a f. a + cond (q f) 1 0) n files
+  by : (n : ℕ) (files : List File) → fold (λ a o. a + cond (p o) 1 0) n (outcomes_of run rows files) ≡ fold (λ a f. a + cond (q f) 1 0) n files
   by n [] = refl
-  by n (file ∷ files) = by (n + cond (p (work_of run rows file)) 1 0) files ∙ ap (λ b. fold (λ a f. a + cond (q f) 1 0) (n + cond b 1 0) files) (same file)
+  by n (file ∷ files) = by (n + cond (p (outcome_of (work_of run rows file))) 1 0) files ∙ ap (λ b. fold (λ a f. a + cond (q f) 1 0) (n + cond b 1 0) files) (same file)
 
-written_same : (kept found : Bool) (o : Result Image Reason) → writes (cond kept Keep (fresh found o)) ≡ not kept && is_ok o
+written_same : (kept found : Bool) (o : Result Image Reason) → is_written (outcome_of_plan (cond kept Keep (fresh found o))) ≡ not kept && is_ok o
 written_same true found o = refl
 written_same false found (Ok image) = refl
 written_same false found (Err reason) = refl
 
-kept_same : (kept found : Bool) (o : Result Image Reason) → keeps (cond kept Keep (fresh found o)) ≡ kept
+kept_same : (kept found : Bool) (o : Result Image Reason) → was_kept (outcome_of_plan (cond kept Keep (fresh found o))) ≡ kept
 kept_same true found o = refl
 kept_same false found (Ok image) = refl
 kept_same false found (Err reason) = refl
 
-left_same : (kept found : Bool) (o : Result Image Reason) → leaves (cond kept Keep (fresh found o)) ≡ not kept && is_err o
-left_same true found o = refl
-left_same false found (Ok image) = refl
-left_same false found (Err reason) = refl
+refused_same : (kept found : Bool) (o : Result Image Reason) → was_refused (outcome_of_plan (cond kept Keep (fresh found o))) ≡ not kept && is_err o
+refused_same true found o = refl
+refused_same false found (Ok image) = refl
+refused_same false found (Err reason) = refl
 
-number_same : (number : Detail → ℕ) (kept found : Bool) (o : Result Image Reason) → number_in_plan number (cond kept Keep (fresh found o)) ≡ number_in_file number kept o
+number_same : (number : Detail → ℕ) (kept found : Bool) (o : Result Image Reason) → number_in number (outcome_of_plan (cond kept Keep (fresh found o))) ≡ number_in_file number kept o
 number_same number true found o = refl
 number_same number false found (Ok image) = refl
 number_same number false found (Err reason) = refl
 
-summed : (number : Detail → ℕ) (run : Run) (rows : Rows) (files : List File) → sum_by (λ (w : Work). number_in_plan number w.plan) (works_of run rows files) ≡ sum_by (number_of number run rows) files
+summed : (number : Detail → ℕ) (run : Run) (rows : Rows) (files : List File) → sum_by (number_in number) (outcomes_of run rows files) ≡ sum_by (number_of number run rows) files
 summed number run rows files = by 0 files where
-  by : (n : ℕ) (files : List File) → fold (λ a (w : Work). a + number_in_plan number w.plan) n (works_of run rows files) ≡ fold (λ a f. a + number_of number run rows f) n files
+  by : (n : ℕ) (files : List File) → fold (λ a (o : Outcome). a + number_in number o) n (outcomes_of run rows files) ≡ fold (λ a f. a + number_of number run rows f) n files
   by n [] = refl
   by n (file ∷ files) =
-      by (n + number_in_plan number (work_of run rows file).plan) files
+      by (n + number_in number (outcome_of (work_of run rows file))) files
       ∙ ap (λ b. fold (λ a f. a + number_of number run rows f) (n + b) files) (number_same number (is_kept_file run rows file) _ (run.image file.path file.bytes))
 
-pub summary_works : (run : Run) (rows : Rows) (files : List File) → summary_of_works (works_of run rows files) ≡ summary_of run rows files
-summary_works run rows files =
-    let all : length (works_of run rows files) ≡ length files = length-map files (work_of run rows) in
-    let written = counted (λ (w : Work). writes w.plan) (is_fresh run rows) run rows (λ file. written_same (is_kept_file run rows file) _ (run.image file.path file.bytes)) files in
-    let kept = counted (λ (w : Work). keeps w.plan) (is_kept_file run rows) run rows (λ file. kept_same (is_kept_file run rows file) _ (run.image file.path file.bytes)) files in
-    let left = counted (λ (w : Work). leaves w.plan) (is_refused run rows) run rows (λ file. left_same (is_kept_file run rows file) _ (run.image file.path file.bytes)) files in
-    λ i. record { files = all i; written = written i; kept = kept i; refused = left i; renamed = summed renamed_uses run rows files i; added = summed added_texts run rows files i }
+summary_same : (run : Run) (rows : Rows) (files : List File) → summary_by (outcomes_of run rows files) ≡ summary_of run rows files
+summary_same run rows files =
+    let all : length (outcomes_of run rows files) ≡ length files = length-map (works_of run rows files) outcome_of ∙ length-map files (work_of run rows) in
+    let written = counted is_written (is_fresh run rows) run rows (λ file. written_same (is_kept_file run rows file) _ (run.image file.path file.bytes)) files in
+    let kept = counted was_kept (is_kept_file run rows) run rows (λ file. kept_same (is_kept_file run rows file) _ (run.image file.path file.bytes)) files in
+    let refused = counted was_refused (is_refused run rows) run rows (λ file. refused_same (is_kept_file run rows file) _ (run.image file.path file.bytes)) files in
+    λ i. record { files = all i; written = written i; kept = kept i; refused = refused i; renamed = summed renamed_uses run rows files i; added = summed added_texts run rows files i }
 
-report_works : (asked : Asked) (m0 : Contents) (l0 : Ledger) (to : Text) (header : Header) (works : List Work) (p : Planned asked m0 l0 to header works)
-    → report_of_works works ≡ report p.run l0.rows (files_below p.run.from m0)
-report_works asked m0 l0 to header works p =
-    ap report_of_works p.are
-    ∙ ap (λ t. t ++ summary_text (summary_of_works (works_of p.run l0.rows (files_below p.run.from m0)))) (lines_works p.run l0.rows (files_below p.run.from m0))
-    ∙ ap (λ s. flat_map (line_of p.run l0.rows) (files_below p.run.from m0) ++ summary_text s) (summary_works p.run l0.rows (files_below p.run.from m0))
+-- a run that completes ends as its files became
+refused_any : (run : Run) (rows : Rows) (files : List File) → list_any was_refused (outcomes_of run rows files) ≡ list_any (is_refused run rows) files
+refused_any run rows [] = refl
+refused_any run rows (file ∷ files) =
+    ap (λ b. b || list_any was_refused (outcomes_of run rows files)) (refused_same (is_kept_file run rows file) _ (run.image file.path file.bytes))
+    ∙ ap (λ b. is_refused run rows file || b) (refused_any run rows files)
+
+planned_first : (asked : Asked) (m0 : Contents) (l0 : Ledger) (to : Text) (header : Header) (works : List Work) (p : Planned asked m0 l0 to header works) → ending p.run l0.rows (files_below p.run.from m0) ≡ first_answer asked m0 l0
+planned_first asked m0 l0 to header works p =
+    let last = ending p.run l0.rows (files_below p.run.from m0) in
+    sym (ap (answer_of_run m0 l0) p.ready.is
+    ∙ ap (λ o. or_else o (or_else (names_answer p.run.name p.run.classes) (or_else (other_run p.run.header l0.header) last))) p.ready.built
+    ∙ ap (λ o. or_else o (or_else (other_run p.run.header l0.header) last)) p.ready.names
+    ∙ ap (λ o. or_else o last) p.other)
+
+-- what became of the files of a run that is written whole
+pub is_written_all : (asked : Asked) (m0 : Contents) (l0 : Ledger) (to : Text) (header : Header) (works : List Work) (rules : Rules) (noted : List Noted) (outcomes : List Outcome) (f' : Option Contents) (k' : Option Ledger)
+    → (p : Planned asked m0 l0 to header works) → ((path : Text) → (route_of rules path).target ≡ p.run.target path) → AllWritten to works (Some m0) f' (Some (with_header header l0)) k'
+    → noted ≡ map (noted_by l0.rows) (map (measured_of rules) (files_below p.run.from m0)) → outcomes ≡ map outcome_of works → Tells f' k' (λ m l. IsWritten asked m0 l0 m l noted outcomes)
+unfolding all_written
+is_written_all asked m0 l0 to header works rules noted outcomes f' k' p goes a e o =
+    let t = all_written asked m0 l0 to header works f' k' p a in
+    let files = files_below p.run.from m0 in
+    let are : outcomes ≡ outcomes_of p.run l0.rows files = o ∙ ap (map outcome_of) p.are in
+    let totals : summary_by outcomes ≡ summary_of p.run l0.rows files = ap summary_by are ∙ summary_same p.run l0.rows files in
+    record {
+      m = t.m;
+      l = t.l;
+      folders = t.folders;
+      ledger = t.ledger;
+      holds = record {
+        done = t.holds;
+        report_is = ap (λ os. report_by noted os) are ∙ ap (λ ns. report_by ns (outcomes_of p.run l0.rows files)) e
+            ∙ ap (λ t. t ++ summary_text (summary_by (outcomes_of p.run l0.rows files))) (lines_same p.run rules l0.rows files goes)
+            ∙ ap (λ s. flat_map (line_of p.run l0.rows) files ++ summary_text s) (summary_same p.run l0.rows files);
+        totals = totals;
+        ends = ap ending_by are ∙ ap (λ b. if b then Refusals else Done) (refused_any p.run l0.rows files) ∙ planned_first asked m0 l0 to header works p;
+      };
+    }
 
 ok_and : {T E : Type 0} (r : Result T E) (x : T) (P : T → Type 0) → r ≡ Ok x → P x → IsOkAnd r P
 ok_and r x P e p = subst (λ r. IsOkAnd r P) (sym e) p
 
-pub finish_reported : (asked : Asked) (f0 : Option Contents) (k0 : Option Ledger) (to : Text) (header : Header) (works : List Work) (f f' : Option Contents) (k k' : Option Ledger) (o o' : Option Text) (status : Status)
-    → WhereTold f0 k0 (λ m l. Planned asked m l to header works) → Finishes to works f f' k k' status → Reported (report_of_works works) o o' status → ReportedOf asked f0 k0 o o' status
-finish_reported asked f0 k0 to header works f f' k k' o o' Done p a r = λ m l ef ek.
-    let q = p m l ef ek in ok_and (run_of_asked asked m) q.run _ q.ready.is (r ∙ ap (λ t. writing t o) (report_works asked m l to header works q))
-finish_reported asked f0 k0 to header works f f' k k' o o' Refusals p a r = λ m l ef ek.
-    let q = p m l ef ek in ok_and (run_of_asked asked m) q.run _ q.ready.is (r ∙ ap (λ t. writing t o) (report_works asked m l to header works q))
-finish_reported asked f0 k0 to header works f f' k k' o o' OutputFault p a r = λ m l ef ek.
-    let q = p m l ef ek in ok_and (run_of_asked asked m) q.run _ q.ready.is (subst (λ t. WritesFront t o o') (report_works asked m l to header works q) r)
-finish_reported asked f0 k0 to header works f f' k k' o o' Memory p a r = r
-finish_reported asked f0 k0 to header works f f' k k' o o' (FolderFault done) p a r = r
-finish_reported asked f0 k0 to header works f f' k k' o o' (LedgerFault done) p a r = r
-finish_reported asked f0 k0 to header works f f' k k' o o' Usage p a r = absurd a
-finish_reported asked f0 k0 to header works f f' k k' o o' (NestedRoots first second) p a r = absurd a
-finish_reported asked f0 k0 to header works f f' k k' o o' (BadRules fault) p a r = absurd a
-finish_reported asked f0 k0 to header works f f' k k' o o' (OtherRun kept wanted) p a r = absurd a
-finish_reported asked f0 k0 to header works f f' k k' o o' (Limit kind path) p a r = absurd a
-finish_reported asked f0 k0 to header works f f' k k' o o' (PathClash first second) p a r = absurd a
-finish_reported asked f0 k0 to header works f f' k k' o o' (NameClash defined other image) p a r = absurd a
-finish_reported asked f0 k0 to header works f f' k k' o o' (Stranded path held) p a r = absurd a
+-- what is told behind a run that is written
+pub told_reported : (asked : Asked) (f0 f' : Option Contents) (k0 k' : Option Ledger) (noted : List Noted) (outcomes : List Outcome) (o o' : Option Text) (status : Status)
+    → WhereTold f0 k0 (λ m0 l0. Tells f' k' (λ m l. IsWritten asked m0 l0 m l noted outcomes)) → IsTold status → Reported (report_by noted outcomes) o o' status → ReportedOf asked f0 k0 o o' status
+told_reported asked f0 f' k0 k' noted outcomes o o' Done w t r = λ m l ef ek. let x = w m l ef ek in ok_and (run_of_asked asked m) x.holds.done.run _ x.holds.done.ready.is (r ∙ ap (λ t. writing t o) x.holds.report_is)
+told_reported asked f0 f' k0 k' noted outcomes o o' Refusals w t r = λ m l ef ek. let x = w m l ef ek in ok_and (run_of_asked asked m) x.holds.done.run _ x.holds.done.ready.is (r ∙ ap (λ t. writing t o) x.holds.report_is)
+told_reported asked f0 f' k0 k' noted outcomes o o' OutputFault w t r = λ m l ef ek. let x = w m l ef ek in ok_and (run_of_asked asked m) x.holds.done.run _ x.holds.done.ready.is (subst (λ t. WritesFront t o o') x.holds.report_is r)
+told_reported asked f0 f' k0 k' noted outcomes o o' Memory w t r = absurd t
+told_reported asked f0 f' k0 k' noted outcomes o o' (FolderFault done) w t r = absurd t
+told_reported asked f0 f' k0 k' noted outcomes o o' (LedgerFault done) w t r = absurd t
+told_reported asked f0 f' k0 k' noted outcomes o o' Usage w t r = absurd t
+told_reported asked f0 f' k0 k' noted outcomes o o' (NestedRoots first second) w t r = absurd t
+told_reported asked f0 f' k0 k' noted outcomes o o' (BadRules fault) w t r = absurd t
+told_reported asked f0 f' k0 k' noted outcomes o o' (OtherRun kept wanted) w t r = absurd t
+told_reported asked f0 f' k0 k' noted outcomes o o' (Limit kind path) w t r = absurd t
+told_reported asked f0 f' k0 k' noted outcomes o o' (PathClash first second) w t r = absurd t
+told_reported asked f0 f' k0 k' noted outcomes o o' (NameClash defined other image) w t r = absurd t
+told_reported asked f0 f' k0 k' noted outcomes o o' (Stranded path held) w t r = absurd t
+told_reported asked f0 f' k0 k' noted outcomes o o' (Moved path one other) w t r = absurd t
 
-answer_reported : (asked : Asked) (f0 : Option Contents) (k0 : Option Ledger) (o : Option Text) (status : Status) → is_answer status ≡ true → ReportedOf asked f0 k0 o o status
-answer_reported asked f0 k0 o Usage e = refl
-answer_reported asked f0 k0 o (NestedRoots first second) e = refl
-answer_reported asked f0 k0 o (BadRules fault) e = refl
-answer_reported asked f0 k0 o (OtherRun kept wanted) e = refl
-answer_reported asked f0 k0 o (Limit kind path) e = refl
-answer_reported asked f0 k0 o (PathClash first second) e = refl
-answer_reported asked f0 k0 o (NameClash defined other image) e = refl
-answer_reported asked f0 k0 o (Stranded path held) e = refl
-answer_reported asked f0 k0 o Done e = cc
-answer_reported asked f0 k0 o Refusals e = cc
-answer_reported asked f0 k0 o Memory e = refl
-answer_reported asked f0 k0 o (FolderFault done) e = refl
-answer_reported asked f0 k0 o (LedgerFault done) e = refl
-answer_reported asked f0 k0 o OutputFault e = cc
+pub told_stands : (asked : Asked) (f0 f' : Option Contents) (k0 k' : Option Ledger) (noted : List Noted) (outcomes : List Outcome) (status : Status)
+    → WhereTold f0 k0 (λ m0 l0. Tells f' k' (λ m l. IsWritten asked m0 l0 m l noted outcomes)) → IsTold status → WhereTold f0 k0 (λ m0 l0. Tells f' k' (λ m l. StandsAfter asked m0 l0 m l status))
+told_stands asked f0 f' k0 k' noted outcomes status w t = λ m0 l0 ef ek.
+    let x = w m0 l0 ef ek in record { m = x.m; l = x.l; folders = x.folders; ledger = x.ledger; holds = by m0 l0 x.m x.l status t x.holds.done } where
+      by : (m0 : Contents) (l0 : Ledger) (m : Contents) (l : Ledger) (status : Status) → IsTold status → IsDone asked m0 l0 m l → StandsAfter asked m0 l0 m l status
+      by m0 l0 m l Done t d = d
+      by m0 l0 m l Refusals t d = d
+      by m0 l0 m l OutputFault t d = d
+      by m0 l0 m l Memory t d = absurd t
+      by m0 l0 m l (FolderFault done) t d = absurd t
+      by m0 l0 m l (LedgerFault done) t d = absurd t
+      by m0 l0 m l Usage t d = absurd t
+      by m0 l0 m l (NestedRoots first second) t d = absurd t
+      by m0 l0 m l (BadRules fault) t d = absurd t
+      by m0 l0 m l (OtherRun kept wanted) t d = absurd t
+      by m0 l0 m l (Limit kind path) t d = absurd t
+      by m0 l0 m l (PathClash first second) t d = absurd t
+      by m0 l0 m l (NameClash defined other image) t d = absurd t
+      by m0 l0 m l (Stranded path held) t d = absurd t
+      by m0 l0 m l (Moved path one other) t d = absurd t
 
-pub early_reported : (asked : Asked) (f0 : Option Contents) (k0 k' : Option Ledger) (a b c d : ℕ) (o : Option Text) (h : Halt) → HaltsEarly asked f0 k0 k' a b c d h → ReportedOf asked f0 k0 o o (status_of_halt h)
-early_reported asked f0 k0 k' a b c d o halt.Memory s = refl
-early_reported asked f0 k0 k' a b c d o halt.Folders s = refl
-early_reported asked f0 k0 k' a b c d o halt.Ledger s = refl
-early_reported asked f0 k0 k' a b c d o (halt.Answer status) s = answer_reported asked f0 k0 o status s.1.is
+pub told_first : (asked : Asked) (f0 f' : Option Contents) (k0 k' : Option Ledger) (noted : List Noted) (outcomes : List Outcome) (status : Status)
+    → WhereTold f0 k0 (λ m0 l0. Tells f' k' (λ m l. IsWritten asked m0 l0 m l noted outcomes)) → (is_final status ≡ true → status ≡ ending_by outcomes) → WhereTold f0 k0 (λ m l. is_final status ≡ true → status ≡ first_answer asked m l)
+told_first asked f0 f' k0 k' noted outcomes status w ends = λ m l ef ek e. ends e ∙ (w m l ef ek).holds.ends
 
-answer_causes : (asked : Asked) (status : Status) (f f' k k' o o' : ℕ) → is_answer status ≡ true → AskedCause asked status → HasCauses asked status f f' k k' o o'
-answer_causes asked Usage f f' k k' o o' e c = c
-answer_causes asked (NestedRoots first second) f f' k k' o o' e c = c
-answer_causes asked (BadRules fault) f f' k k' o o' e c = tt
-answer_causes asked (OtherRun kept wanted) f f' k k' o o' e c = tt
-answer_causes asked (Limit kind path) f f' k k' o o' e c = tt
-answer_causes asked (PathClash first second) f f' k k' o o' e c = tt
-answer_causes asked (NameClash defined other image) f f' k k' o o' e c = tt
-answer_causes asked (Stranded path held) f f' k k' o o' e c = tt
-answer_causes asked Done f f' k k' o o' e c = tt
-answer_causes asked Refusals f f' k k' o o' e c = tt
-answer_causes asked Memory f f' k k' o o' e c = tt
-answer_causes asked (FolderFault done) f f' k k' o o' e c = cc
-answer_causes asked (LedgerFault done) f f' k k' o o' e c = cc
-answer_causes asked OutputFault f f' k k' o o' e c = cc
+pub told_totals : (asked : Asked) (f0 f' : Option Contents) (k0 k' : Option Ledger) (noted : List Noted) (outcomes : List Outcome) (totals : Summary) → WhereTold f0 k0 (λ m0 l0. Tells f' k' (λ m l. IsWritten asked m0 l0 m l noted outcomes))
+    → totals ≡ summary_by outcomes → WhereTold f0 k0 (λ m l. IsOkAnd (run_of_asked asked m) (λ run. totals ≡ summary_of run l.rows (files_below run.from m)))
+told_totals asked f0 f' k0 k' noted outcomes totals w e = λ m l ef ek. let x = w m l ef ek in ok_and (run_of_asked asked m) x.holds.done.run _ x.holds.done.ready.is (e ∙ x.holds.totals)
 
-pub early_causes : (asked : Asked) (f0 : Option Contents) (k0 k' : Option Ledger) (a b c d o o' : ℕ) (h : Halt) → HaltsEarly asked f0 k0 k' a b c d h → HasCauses asked (status_of_halt h) a b c d o o'
+pub told_named : (names : Roots) (old new : Option Text) (status : Status) → new ≡ Some names.ledger → IsTold status → Named (asked_roots names) old new status
+told_named names old new Done e t = e
+told_named names old new Refusals e t = e
+told_named names old new OutputFault e t = e
+told_named names old new Memory e t = absurd t
+told_named names old new (FolderFault done) e t = absurd t
+told_named names old new (LedgerFault done) e t = absurd t
+told_named names old new Usage e t = absurd t
+told_named names old new (NestedRoots first second) e t = absurd t
+told_named names old new (BadRules fault) e t = absurd t
+told_named names old new (OtherRun kept wanted) e t = absurd t
+told_named names old new (Limit kind path) e t = absurd t
+told_named names old new (PathClash first second) e t = absurd t
+told_named names old new (NameClash defined other image) e t = absurd t
+told_named names old new (Stranded path held) e t = absurd t
+told_named names old new (Moved path one other) e t = absurd t
+
+pub told_committed : (waiting : Option (List Row)) (status : Status) → NoneWaits waiting → IsTold status → Committed waiting status
+told_committed waiting Done n t = n
+told_committed waiting Refusals n t = n
+told_committed waiting OutputFault n t = n
+told_committed waiting Memory n t = tt
+told_committed waiting (FolderFault done) n t = tt
+told_committed waiting (LedgerFault done) n t = tt
+told_committed waiting Usage n t = tt
+told_committed waiting (NestedRoots first second) n t = tt
+told_committed waiting (BadRules fault) n t = tt
+told_committed waiting (OtherRun kept wanted) n t = tt
+told_committed waiting (Limit kind path) n t = tt
+told_committed waiting (PathClash first second) n t = tt
+told_committed waiting (NameClash defined other image) n t = tt
+told_committed waiting (Stranded path held) n t = tt
+told_committed waiting (Moved path one other) n t = tt
+
+pub told_causes : (asked : Asked) (told : Option Contents) (f f' k k' o o' : ℕ) (status : Status) → IsTold status → HasCauses (Err Done) None status 0 0 0 0 o o' → HasCauses asked told status f f' k k' o o'
+told_causes asked told f f' k k' o o' Done t c = tt
+told_causes asked told f f' k k' o o' Refusals t c = tt
+told_causes asked told f f' k k' o o' OutputFault t c = c
+told_causes asked told f f' k k' o o' Memory t c = absurd t
+told_causes asked told f f' k k' o o' (FolderFault done) t c = absurd t
+told_causes asked told f f' k k' o o' (LedgerFault done) t c = absurd t
+told_causes asked told f f' k k' o o' Usage t c = absurd t
+told_causes asked told f f' k k' o o' (NestedRoots first second) t c = absurd t
+told_causes asked told f f' k k' o o' (BadRules fault) t c = absurd t
+told_causes asked told f f' k k' o o' (OtherRun kept wanted) t c = absurd t
+told_causes asked told f f' k k' o o' (Limit kind path) t c = absurd t
+told_causes asked told f f' k k' o o' (PathClash first second) t c = absurd t
+told_causes asked told f f' k k' o o' (NameClash defined other image) t c = absurd t
+told_causes asked told f f' k k' o o' (Stranded path held) t c = absurd t
+told_causes asked told f f' k k' o o' (Moved path one other) t c = absurd t
+
+-- ---- a run that ends before its report
+
+silent_reported : (asked : Asked) (f0 : Option Contents) (k0 : Option Ledger) (o o' : Option Text) (status : Status) → IsSilent status → o' ≡ o → ReportedOf asked f0 k0 o o' status
+silent_reported asked f0 k0 o o' Done s e = absurd s
+silent_reported asked f0 k0 o o' Refusals s e = absurd s
+silent_reported asked f0 k0 o o' OutputFault s e = absurd s
+silent_reported asked f0 k0 o o' Memory s e = e
+silent_reported asked f0 k0 o o' (FolderFault done) s e = e
+silent_reported asked f0 k0 o o' (LedgerFault done) s e = e
+silent_reported asked f0 k0 o o' Usage s e = e
+silent_reported asked f0 k0 o o' (NestedRoots first second) s e = e
+silent_reported asked f0 k0 o o' (BadRules fault) s e = e
+silent_reported asked f0 k0 o o' (OtherRun kept wanted) s e = e
+silent_reported asked f0 k0 o o' (Limit kind path) s e = e
+silent_reported asked f0 k0 o o' (PathClash first second) s e = e
+silent_reported asked f0 k0 o o' (NameClash defined other image) s e = e
+silent_reported asked f0 k0 o o' (Stranded path held) s e = e
+silent_reported asked f0 k0 o o' (Moved path one other) s e = e
+
+pub nothing_reported : (asked : Asked) (f0 : Option Contents) (k0 : Option Ledger) (o : Option Text) (status : Status) → IsSilent status → ReportedOf asked f0 k0 o o status
+nothing_reported asked f0 k0 o status s = silent_reported asked f0 k0 o o status s refl
+
+pub silent_committed : (waiting : Option (List Row)) (status : Status) → IsSilent status → Committed waiting status
+silent_committed waiting Done s = absurd s
+silent_committed waiting Refusals s = absurd s
+silent_committed waiting OutputFault s = absurd s
+silent_committed waiting Memory s = tt
+silent_committed waiting (FolderFault done) s = tt
+silent_committed waiting (LedgerFault done) s = tt
+silent_committed waiting Usage s = tt
+silent_committed waiting (NestedRoots first second) s = tt
+silent_committed waiting (BadRules fault) s = tt
+silent_committed waiting (OtherRun kept wanted) s = tt
+silent_committed waiting (Limit kind path) s = tt
+silent_committed waiting (PathClash first second) s = tt
+silent_committed waiting (NameClash defined other image) s = tt
+silent_committed waiting (Stranded path held) s = tt
+silent_committed waiting (Moved path one other) s = tt
+
+-- a cause that doesn't speak of the output
+pub silent_causes : (asked : Asked) (told : Option Contents) (f f' k k' o o' : ℕ) (status : Status) → IsSilent status → HasCauses asked told status f f' k k' 0 0 → HasCauses asked told status f f' k k' o o'
+silent_causes asked told f f' k k' o o' Done s c = absurd s
+silent_causes asked told f f' k k' o o' Refusals s c = absurd s
+silent_causes asked told f f' k k' o o' OutputFault s c = absurd s
+silent_causes asked told f f' k k' o o' Memory s c = c
+silent_causes asked told f f' k k' o o' (FolderFault done) s c = c
+silent_causes asked told f f' k k' o o' (LedgerFault done) s c = c
+silent_causes asked told f f' k k' o o' Usage s c = c
+silent_causes asked told f f' k k' o o' (NestedRoots first second) s c = c
+silent_causes asked told f f' k k' o o' (BadRules fault) s c = c
+silent_causes asked told f f' k k' o o' (OtherRun kept wanted) s c = c
+silent_causes asked told f f' k k' o o' (Limit kind path) s c = c
+silent_causes asked told f f' k k' o o' (PathClash first second) s c = c
+silent_causes asked told f f' k k' o o' (NameClash defined other image) s c = c
+silent_causes asked told f f' k k' o o' (Stranded path held) s c = c
+silent_causes asked told f f' k k' o o' (Moved path one other) s c = c
+
+-- an early end is silent
+answer_silent : (status : Status) → is_answer status ≡ true → IsSilent status
+answer_silent Usage e = tt
+answer_silent (NestedRoots first second) e = tt
+answer_silent (BadRules fault) e = tt
+answer_silent (OtherRun kept wanted) e = tt
+answer_silent (Limit kind path) e = tt
+answer_silent (PathClash first second) e = tt
+answer_silent (NameClash defined other image) e = tt
+answer_silent (Stranded path held) e = tt
+answer_silent (Moved path one other) e = cc
+answer_silent Done e = cc
+answer_silent Refusals e = cc
+answer_silent Memory e = tt
+answer_silent (FolderFault done) e = tt
+answer_silent (LedgerFault done) e = tt
+answer_silent OutputFault e = cc
+
+pub early_silent : (asked : Asked) (f0 : Option Contents) (k0 k' : Option Ledger) (a b c d : ℕ) (h : Halt) → HaltsEarly asked f0 k0 k' a b c d h → IsSilent (status_of_halt h)
+early_silent asked f0 k0 k' a b c d halt.Memory s = tt
+early_silent asked f0 k0 k' a b c d halt.Folders s = tt
+early_silent asked f0 k0 k' a b c d halt.Ledger s = tt
+early_silent asked f0 k0 k' a b c d (halt.Answer status) s = answer_silent status s.1.is
+
+answer_causes : (asked : Asked) (told : Option Contents) (status : Status) (f f' k k' o o' : ℕ) → is_answer status ≡ true → AskedCause asked status → HasCauses asked told status f f' k k' o o'
+answer_causes asked told Usage f f' k k' o o' e c = c
+answer_causes asked told (NestedRoots first second) f f' k k' o o' e c = c
+answer_causes asked told (BadRules fault) f f' k k' o o' e c = tt
+answer_causes asked told (OtherRun kept wanted) f f' k k' o o' e c = tt
+answer_causes asked told (Limit kind path) f f' k k' o o' e c = tt
+answer_causes asked told (PathClash first second) f f' k k' o o' e c = tt
+answer_causes asked told (NameClash defined other image) f f' k k' o o' e c = tt
+answer_causes asked told (Stranded path held) f f' k k' o o' e c = tt
+answer_causes asked told Done f f' k k' o o' e c = tt
+answer_causes asked told Refusals f f' k k' o o' e c = tt
+answer_causes asked told Memory f f' k k' o o' e c = tt
+answer_causes asked told (FolderFault done) f f' k k' o o' e c = cc
+answer_causes asked told (LedgerFault done) f f' k k' o o' e c = cc
+answer_causes asked told OutputFault f f' k k' o o' e c = cc
+answer_causes asked told (Moved path one other) f f' k k' o o' e c = cc
+
+pub early_causes : (asked : Asked) (f0 : Option Contents) (k0 k' : Option Ledger) (a b c d o o' : ℕ) (h : Halt) → HaltsEarly asked f0 k0 k' a b c d h → HasCauses asked f0 (status_of_halt h) a b c d o o'
 early_causes asked f0 k0 k' a b c d o o' halt.Memory s = tt
 early_causes asked f0 k0 k' a b c d o o' halt.Folders s = s.1
 early_causes asked f0 k0 k' a b c d o o' halt.Ledger s = s.1
-early_causes asked f0 k0 k' a b c d o o' (halt.Answer status) s = answer_causes asked status a b c d o o' s.1.is s.1.cause
+early_causes asked f0 k0 k' a b c d o o' (halt.Answer status) s = answer_causes asked f0 status a b c d o o' s.1.is s.1.cause
 
-pub finish_causes : (asked : Asked) (to : Text) (works : List Work) (x x' : Option Contents) (y y' : Option Ledger) (f0 f1 f2 k0 k1 k2 o o' : ℕ) (status : Status) → f0 ≤ f1 → k0 ≤ k1 → Finishes to works x x' y y' status
-    → HasCauses (Err Done) status f1 f2 k1 k2 o o' → HasCauses asked status f0 f2 k0 k2 o o'
-finish_causes asked to works x x' y y' f0 f1 f2 k0 k1 k2 o o' Done lf lk a c = tt
-finish_causes asked to works x x' y y' f0 f1 f2 k0 k1 k2 o o' Refusals lf lk a c = tt
-finish_causes asked to works x x' y y' f0 f1 f2 k0 k1 k2 o o' OutputFault lf lk a c = c
-finish_causes asked to works x x' y y' f0 f1 f2 k0 k1 k2 o o' Memory lf lk a c = tt
-finish_causes asked to works x x' y y' f0 f1 f2 k0 k1 k2 o o' (FolderFault done) lf lk a c = Rose-earlier f0 f1 f2 lf c
-finish_causes asked to works x x' y y' f0 f1 f2 k0 k1 k2 o o' (LedgerFault done) lf lk a c = Rose-earlier k0 k1 k2 lk c
-finish_causes asked to works x x' y y' f0 f1 f2 k0 k1 k2 o o' Usage lf lk a c = absurd a
-finish_causes asked to works x x' y y' f0 f1 f2 k0 k1 k2 o o' (NestedRoots first second) lf lk a c = absurd a
-finish_causes asked to works x x' y y' f0 f1 f2 k0 k1 k2 o o' (BadRules fault) lf lk a c = absurd a
-finish_causes asked to works x x' y y' f0 f1 f2 k0 k1 k2 o o' (OtherRun kept wanted) lf lk a c = absurd a
-finish_causes asked to works x x' y y' f0 f1 f2 k0 k1 k2 o o' (Limit kind path) lf lk a c = absurd a
-finish_causes asked to works x x' y y' f0 f1 f2 k0 k1 k2 o o' (PathClash first second) lf lk a c = absurd a
-finish_causes asked to works x x' y y' f0 f1 f2 k0 k1 k2 o o' (NameClash defined other image) lf lk a c = absurd a
-finish_causes asked to works x x' y y' f0 f1 f2 k0 k1 k2 o o' (Stranded path held) lf lk a c = absurd a
+-- ---- a stop of the writing
 
-pub finish_named : (asked : Asked) (to : Text) (works : List Work) (x x' : Option Contents) (y y' : Option Ledger) (old mid new : Option Text) (status : Status) → IsAttached asked mid → new ≡ mid → Finishes to works x x' y y' status → Named asked old new status
-finish_named asked to works x x' y y' old mid new status at same a = subst (NamedByRoots old new status) (sym at.are) (by status a) where
-  by : (status : Status) → Finishes to works x x' y y' status → NamedBy old new at.roots.ledger status
-  by Done a = same ∙ at.is
-  by Refusals a = same ∙ at.is
-  by OutputFault a = same ∙ at.is
-  by Memory a = inr (same ∙ at.is)
-  by (FolderFault done) a = inr (same ∙ at.is)
-  by (LedgerFault done) a = inr (same ∙ at.is)
-  by Usage a = absurd a
-  by (NestedRoots first second) a = absurd a
-  by (BadRules fault) a = absurd a
-  by (OtherRun kept wanted) a = absurd a
-  by (Limit kind path) a = absurd a
-  by (PathClash first second) a = absurd a
-  by (NameClash defined other image) a = absurd a
-  by (Stranded path held) a = absurd a
+-- where the writing stopped
+pub stop_finishes : (to : Text) (works : List Work) (why : Stop) (done : ℕ) (f f' : Option Contents) (k k' : Option Ledger) → StopsAt why to works done f f' k k' → Finishes to works f f' k k' (status_of_stop why done)
+stop_finishes to works stop.Memory done f f' k k' s = record { done = done; stopped = s }
+stop_finishes to works stop.Folders done f f' k k' s = s
+stop_finishes to works stop.Ledger done f f' k k' s = s
+stop_finishes to works (stop.Moved moved) done f f' k k' s = record { done = done; stopped = inl s }
 
--- a run that completes ends as its works do
-counted_left : (run : Run) (rows : Rows) (files : List File) → list_any (λ (w : Work). leaves w.plan) (works_of run rows files) ≡ list_any (is_refused run rows) files
-counted_left run rows [] = refl
-counted_left run rows (file ∷ files) =
-    ap (λ b. b || list_any (λ (w : Work). leaves w.plan) (works_of run rows files)) (left_same (is_kept_file run rows file) _ (run.image file.path file.bytes))
-    ∙ ap (λ b. is_refused run rows file || b) (counted_left run rows files)
+pub stop_silent : (why : Stop) (done : ℕ) → IsSilent (status_of_stop why done)
+stop_silent stop.Memory done = tt
+stop_silent stop.Folders done = tt
+stop_silent stop.Ledger done = tt
+stop_silent (stop.Moved moved) done = tt
 
-planned_first : (asked : Asked) (m0 : Contents) (l0 : Ledger) (to : Text) (header : Header) (works : List Work) → Planned asked m0 l0 to header works → ending_of_works works ≡ first_answer asked m0 l0
-planned_first asked m0 l0 to header works p =
-    ap ending_of_works p.are
-    ∙ ap (λ b. if b then Refusals else Done) (counted_left p.run l0.rows (files_below p.run.from m0))
-    ∙ sym (ap (answer_of_run m0 l0) p.ready.is
-    ∙ ap (λ o. or_else o (or_else (names_answer p.run.name p.run.classes) (or_else (other_run p.run.header l0.header) (ending p.run l0.rows (files_below p.run.from m0))))) p.ready.built
-    ∙ ap (λ o. or_else o (or_else (other_run p.run.header l0.header) (ending p.run l0.rows (files_below p.run.from m0)))) p.ready.names
-    ∙ ap (λ o. or_else o (ending p.run l0.rows (files_below p.run.from m0))) p.other)
+pub stop_first : (why : Stop) (done : ℕ) → is_final (status_of_stop why done) ≡ false
+stop_first stop.Memory done = refl
+stop_first stop.Folders done = refl
+stop_first stop.Ledger done = refl
+stop_first (stop.Moved moved) done = refl
 
--- a late answer is the first
-pub finish_first : (asked : Asked) (m0 : Contents) (l0 : Ledger) (to : Text) (header : Header) (works : List Work) (status : Status) → Planned asked m0 l0 to header works
-    → (is_final status ≡ true → status ≡ ending_of_works works) → is_final status ≡ true → status ≡ first_answer asked m0 l0
-finish_first asked m0 l0 to header works status p ends e = ends e ∙ planned_first asked m0 l0 to header works p
+pub stop_named : (names : Roots) (why : Stop) (done : ℕ) (old new : Option Text) → new ≡ Some names.ledger → Named (asked_roots names) old new (status_of_stop why done)
+stop_named names stop.Memory done old new e = inr e
+stop_named names stop.Folders done old new e = inr e
+stop_named names stop.Ledger done old new e = inr e
+stop_named names (stop.Moved moved) done old new e = e
 
--- the totals of a run whose works are planned
-pub totals_planned : (asked : Asked) (f0 : Option Contents) (k0 : Option Ledger) (to : Text) (header : Header) (works : List Work) (totals : Summary) → WhereTold f0 k0 (λ m l. Planned asked m l to header works)
-    → totals ≡ summary_of_works works → WhereTold f0 k0 (λ m l. IsOkAnd (run_of_asked asked m) (λ run. totals ≡ summary_of run l.rows (files_below run.from m)))
-totals_planned asked f0 k0 to header works totals p e = λ m l ef ek.
-    let q = p m l ef ek in ok_and (run_of_asked asked m) q.run _ q.ready.is (e ∙ ap summary_of_works q.are ∙ summary_works q.run l.rows (files_below q.run.from m))
+pub stop_causes : (asked : Asked) (told : Option Contents) (why : Stop) (done f f' k0 k k' : ℕ) → k0 ≤ k → HasCause told why f f' k k' → HasCauses asked told (status_of_stop why done) f f' k0 k' 0 0
+stop_causes asked told stop.Memory done f f' k0 k k' le c = tt
+stop_causes asked told stop.Folders done f f' k0 k k' le c = c
+stop_causes asked told stop.Ledger done f f' k0 k k' le c = Rose-earlier k0 k k' le c
+stop_causes asked told (stop.Moved moved) done f f' k0 k k' le c = c

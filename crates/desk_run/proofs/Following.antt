@@ -1,5 +1,5 @@
 -- The clauses of what words ask for.
-use Rattle.std.proofs.Common.{◌≡◌, inl, ℕ, List, Option, refl, sym, ap, subst, true, Result, Ok, Err}
+use Rattle.std.proofs.Common.{◌≡◌, inl, ℕ, List, Option, None, refl, sym, ap, subst, true, Result, Ok, Err}
 use Rattle.desk_base.specs.Names.{Text}
 use Rattle.desk_folders.specs.Contents.{Contents}
 use Rattle.desk_ledger.specs.declared.keeper.Row.{Row}
@@ -20,16 +20,16 @@ use Rattle.desk_run.specs.Generated.{TellsTotals}
 -- ---- of all words, and from one fact to another
 
 unless_any : (o : Result Order RootsFault) (P : Type 0) → P → UnlessGenerate o P
-unless_any (Ok (order.Run roots)) P p = p
-unless_any (Ok (order.Generate count)) P p = tt
+unless_any (Ok (order.Run roots workers)) P p = p
+unless_any (Ok (order.Generate count workers)) P p = tt
 unless_any (Err fault) P p = p
 
 pub of_run_any : (words : List Text) (P : Type 0) → P → OfRun words P
 of_run_any words P p = unless_any (order_of_words words) P p
 
 unless_both : (o : Result Order RootsFault) (A B C : Type 0) → (A → B → C) → UnlessGenerate o A → UnlessGenerate o B → UnlessGenerate o C
-unless_both (Ok (order.Run roots)) A B C h a b = h a b
-unless_both (Ok (order.Generate count)) A B C h a b = tt
+unless_both (Ok (order.Run roots workers)) A B C h a b = h a b
+unless_both (Ok (order.Generate count workers)) A B C h a b = tt
 unless_both (Err fault) A B C h a b = h a b
 
 pub of_run_both : (words : List Text) (A B C : Type 0) → (A → B → C) → OfRun words A → OfRun words B → OfRun words C
@@ -39,16 +39,16 @@ pub of_run_map : (words : List Text) (A B : Type 0) → (A → B) → OfRun word
 of_run_map words A B h a = of_run_both words A A B (λ x _. h x) a a
 
 where_map : (o : Result Order RootsFault) (P Q : ℕ → Type 0) → ((n : ℕ) → P n → Q n) → WhereGenerate o P → WhereGenerate o Q
-where_map (Ok (order.Run roots)) P Q h p = tt
-where_map (Ok (order.Generate count)) P Q h p = h count p
+where_map (Ok (order.Run roots workers)) P Q h p = tt
+where_map (Ok (order.Generate count workers)) P Q h p = h count p
 where_map (Err fault) P Q h p = tt
 
 pub of_generate_map : (words : List Text) (P Q : ℕ → Type 0) → ((n : ℕ) → P n → Q n) → OfGenerate words P → OfGenerate words Q
 of_generate_map words P Q h p = where_map (order_of_words words) P Q h p
 
 where_any : (o : Result Order RootsFault) (P : ℕ → Type 0) → ((n : ℕ) → P n) → WhereGenerate o P
-where_any (Ok (order.Run roots)) P p = tt
-where_any (Ok (order.Generate count)) P p = p count
+where_any (Ok (order.Run roots workers)) P p = tt
+where_any (Ok (order.Generate count workers)) P p = p count
 where_any (Err fault) P p = tt
 
 pub of_generate_any : (words : List Text) (P : ℕ → Type 0) → ((n : ℕ) → P n) → OfGenerate words P
@@ -56,22 +56,22 @@ of_generate_any words P p = where_any (order_of_words words) P p
 
 -- ---- words of a run
 
-pub at_run : (words : List Text) (roots : Roots) (P : Asked → Type 0) → order_of_words words ≡ Ok (order.Run roots) → P (asked_roots roots) → P (asked_of words)
-at_run words roots P e p = let Q : Result Order RootsFault → Type 0 = λ o. P (asked_by o) in subst Q (sym e) p
+pub at_run : (words : List Text) (roots : Roots) (workers : ℕ) (P : Asked → Type 0) → order_of_words words ≡ Ok (order.Run roots workers) → P (asked_roots roots) → P (asked_of words)
+at_run words roots workers P e p = let Q : Result Order RootsFault → Type 0 = λ o. P (asked_by o) in subst Q (sym e) p
 
-pub no_generate : (words : List Text) (roots : Roots) (P : ℕ → Type 0) → order_of_words words ≡ Ok (order.Run roots) → OfGenerate words P
-no_generate words roots P e = let Q : Result Order RootsFault → Type 0 = λ o. WhereGenerate o P in subst Q (sym e) tt
+pub no_generate : (words : List Text) (roots : Roots) (workers : ℕ) (P : ℕ → Type 0) → order_of_words words ≡ Ok (order.Run roots workers) → OfGenerate words P
+no_generate words roots workers P e = let Q : Result Order RootsFault → Type 0 = λ o. WhereGenerate o P in subst Q (sym e) tt
 
 -- ---- words of a generated application
 
-pub at_generate : (words : List Text) (count : ℕ) (P : ℕ → Type 0) → order_of_words words ≡ Ok (order.Generate count) → P count → OfGenerate words P
-at_generate words count P e p = let Q : Result Order RootsFault → Type 0 = λ o. WhereGenerate o P in subst Q (sym e) p
+pub at_generate : (words : List Text) (count workers : ℕ) (P : ℕ → Type 0) → order_of_words words ≡ Ok (order.Generate count workers) → P count → OfGenerate words P
+at_generate words count workers P e p = let Q : Result Order RootsFault → Type 0 = λ o. WhereGenerate o P in subst Q (sym e) p
 
-pub no_run : (words : List Text) (count : ℕ) (P : Type 0) → order_of_words words ≡ Ok (order.Generate count) → OfRun words P
-no_run words count P e = let Q : Result Order RootsFault → Type 0 = λ o. UnlessGenerate o P in subst Q (sym e) tt
+pub no_run : (words : List Text) (count workers : ℕ) (P : Type 0) → order_of_words words ≡ Ok (order.Generate count workers) → OfRun words P
+no_run words count workers P e = let Q : Result Order RootsFault → Type 0 = λ o. UnlessGenerate o P in subst Q (sym e) tt
 
-pub asked_generate : (words : List Text) (count : ℕ) (P : Asked → Type 0) → order_of_words words ≡ Ok (order.Generate count) → P (Err status.Done) → P (asked_of words)
-asked_generate words count P e p = let Q : Result Order RootsFault → Type 0 = λ o. P (asked_by o) in subst Q (sym e) p
+pub asked_generate : (words : List Text) (count workers : ℕ) (P : Asked → Type 0) → order_of_words words ≡ Ok (order.Generate count workers) → P (Err status.Done) → P (asked_of words)
+asked_generate words count workers P e p = let Q : Result Order RootsFault → Type 0 = λ o. P (asked_by o) in subst Q (sym e) p
 
 -- a run that tells totals is done where it is final
 pub totals_first : (n : ℕ) (old new : Option Text) (s : Status) → TellsTotals n old new s → is_final s ≡ true → s ≡ status.Done
@@ -89,6 +89,7 @@ totals_first n old new (status.Limit kind path) t e = absurd t
 totals_first n old new (status.PathClash first second) t e = absurd t
 totals_first n old new (status.NameClash defined other image) t e = absurd t
 totals_first n old new (status.Stranded path held) t e = absurd t
+totals_first n old new (status.Moved path one other) t e = absurd t
 
 -- ---- words that ask for nothing
 
@@ -114,10 +115,10 @@ refused_named (Ok roots) Usage name = refl
 refused_named (Ok roots) (Nested first second) name = refl
 refused_named (Ok roots) Memory name = inl refl
 
-pub refused_causes : (words : List Text) (fault : RootsFault) (f k o : ℕ) → RefusedBy (order_of_words words) fault → HasCauses (asked_of words) (status_of_words fault) f f k k o o
-refused_causes words Usage f k o e = ap asked_by e
-refused_causes words (Nested first second) f k o e = ap asked_by e
-refused_causes words Memory f k o e = tt
+pub refused_causes : (words : List Text) (fault : RootsFault) (told : Option Contents) (f k o : ℕ) → RefusedBy (order_of_words words) fault → HasCauses (asked_of words) told (status_of_words fault) f f k k o o
+refused_causes words Usage told f k o e = ap asked_by e
+refused_causes words (Nested first second) told f k o e = ap asked_by e
+refused_causes words Memory told f k o e = tt
 
 pub refused_tells : (words : List Text) (fault : RootsFault) (o : Option Text) → RefusedBy (order_of_words words) fault → OfGenerate words (λ n. TellsTotals n o o (status_of_words fault))
 refused_tells words Usage o e = let Q : Result Order RootsFault → Type 0 = λ r. WhereGenerate r (λ n. TellsTotals n o o status.Usage) in subst Q (sym e) tt
@@ -127,35 +128,35 @@ refused_tells words Memory o e = of_generate_any words (λ n. TellsTotals n o o 
 
 -- ---- the clauses of a run, as clauses of its words
 
-pub run_stands : (words : List Text) (roots : Roots) (f f' : Option Contents) (k k' : Option Ledger) (s : Status) → order_of_words words ≡ Ok (order.Run roots)
+pub run_stands : (words : List Text) (roots : Roots) (workers : ℕ) (f f' : Option Contents) (k k' : Option Ledger) (s : Status) → order_of_words words ≡ Ok (order.Run roots workers)
     → WhereTold f k (λ m0 l0. Tells f' k' (λ m l. StandsAfter (asked_roots roots) m0 l0 m l s)) → OfRun words (WhereTold f k (λ m0 l0. Tells f' k' (λ m l. StandsAfter (asked_of words) m0 l0 m l s)))
-run_stands words roots f f' k k' s e h = of_run_any words _ (at_run words roots (λ a. WhereTold f k (λ m0 l0. Tells f' k' (λ m l. StandsAfter a m0 l0 m l s))) e h)
+run_stands words roots workers f f' k k' s e h = of_run_any words _ (at_run words roots workers (λ a. WhereTold f k (λ m0 l0. Tells f' k' (λ m l. StandsAfter a m0 l0 m l s))) e h)
 
-pub run_first : (words : List Text) (roots : Roots) (m : Contents) (l : Ledger) (s : Status) → order_of_words words ≡ Ok (order.Run roots)
+pub run_first : (words : List Text) (roots : Roots) (workers : ℕ) (m : Contents) (l : Ledger) (s : Status) → order_of_words words ≡ Ok (order.Run roots workers)
     → (is_final s ≡ true → s ≡ first_answer (asked_roots roots) m l) → is_final s ≡ true → s ≡ first_answer (asked_of words) m l
-run_first words roots m l s e h i = at_run words roots (λ a. s ≡ first_answer a m l) e (h i)
+run_first words roots workers m l s e h i = at_run words roots workers (λ a. s ≡ first_answer a m l) e (h i)
 
-pub run_reported : (words : List Text) (roots : Roots) (f : Option Contents) (k : Option Ledger) (o o' : Option Text) (s : Status) → order_of_words words ≡ Ok (order.Run roots)
+pub run_reported : (words : List Text) (roots : Roots) (workers : ℕ) (f : Option Contents) (k : Option Ledger) (o o' : Option Text) (s : Status) → order_of_words words ≡ Ok (order.Run roots workers)
     → ReportedOf (asked_roots roots) f k o o' s → OfRun words (ReportedOf (asked_of words) f k o o' s)
-run_reported words roots f k o o' s e h = of_run_any words _ (at_run words roots (λ a. ReportedOf a f k o o' s) e h)
+run_reported words roots workers f k o o' s e h = of_run_any words _ (at_run words roots workers (λ a. ReportedOf a f k o o' s) e h)
 
-pub run_named : (words : List Text) (roots : Roots) (old new : Option Text) (s : Status) → order_of_words words ≡ Ok (order.Run roots)
+pub run_named : (words : List Text) (roots : Roots) (workers : ℕ) (old new : Option Text) (s : Status) → order_of_words words ≡ Ok (order.Run roots workers)
     → Named (asked_roots roots) old new s → OfRun words (Named (asked_of words) old new s)
-run_named words roots old new s e h = of_run_any words _ (at_run words roots (λ a. Named a old new s) e h)
+run_named words roots workers old new s e h = of_run_any words _ (at_run words roots workers (λ a. Named a old new s) e h)
 
-pub run_causes : (words : List Text) (roots : Roots) (f f' k k' o o' : ℕ) (s : Status) → order_of_words words ≡ Ok (order.Run roots)
-    → HasCauses (asked_roots roots) s f f' k k' o o' → HasCauses (asked_of words) s f f' k k' o o'
-run_causes words roots f f' k k' o o' s e h = at_run words roots (λ a. HasCauses a s f f' k k' o o') e h
+pub run_causes : (words : List Text) (roots : Roots) (workers : ℕ) (told : Option Contents) (f f' k k' o o' : ℕ) (s : Status) → order_of_words words ≡ Ok (order.Run roots workers)
+    → HasCauses (asked_roots roots) told s f f' k k' o o' → HasCauses (asked_of words) told s f f' k k' o o'
+run_causes words roots workers told f f' k k' o o' s e h = at_run words roots workers (λ a. HasCauses a told s f f' k k' o o') e h
 
 -- the clauses of a generated application, as clauses of its words
-pub generate_first : (words : List Text) (count : ℕ) (m : Contents) (l : Ledger) (old new : Option Text) (s : Status) → order_of_words words ≡ Ok (order.Generate count) → TellsTotals count old new s
+pub generate_first : (words : List Text) (count workers : ℕ) (m : Contents) (l : Ledger) (old new : Option Text) (s : Status) → order_of_words words ≡ Ok (order.Generate count workers) → TellsTotals count old new s
     → is_final s ≡ true → s ≡ first_answer (asked_of words) m l
-generate_first words count m l old new s e t i = asked_generate words count (λ a. s ≡ first_answer a m l) e (totals_first count old new s t i)
+generate_first words count workers m l old new s e t i = asked_generate words count workers (λ a. s ≡ first_answer a m l) e (totals_first count old new s t i)
 
-pub generate_causes : (words : List Text) (count : ℕ) (f k o o' : ℕ) (old new : Option Text) (s : Status) → order_of_words words ≡ Ok (order.Generate count) → TellsTotals count old new s
-    → HasCauses (Err status.Done) s 0 0 0 0 o o' → HasCauses (asked_of words) s f f k k o o'
-generate_causes words count f k o o' old new s e t c = asked_generate words count (λ a. HasCauses a s f f k k o o') e (by s t c) where
-  by : (s : Status) → TellsTotals count old new s → HasCauses (Err status.Done) s 0 0 0 0 o o' → HasCauses (Err status.Done) s f f k k o o'
+pub generate_causes : (words : List Text) (count workers : ℕ) (told : Option Contents) (f k o o' : ℕ) (old new : Option Text) (s : Status) → order_of_words words ≡ Ok (order.Generate count workers) → TellsTotals count old new s
+    → HasCauses (Err status.Done) None s 0 0 0 0 o o' → HasCauses (asked_of words) told s f f k k o o'
+generate_causes words count workers told f k o o' old new s e t c = asked_generate words count workers (λ a. HasCauses a told s f f k k o o') e (by s t c) where
+  by : (s : Status) → TellsTotals count old new s → HasCauses (Err status.Done) None s 0 0 0 0 o o' → HasCauses (Err status.Done) told s f f k k o o'
   by status.Done t c = c
   by status.OutputFault t c = c
   by status.Memory t c = c
@@ -170,6 +171,7 @@ generate_causes words count f k o o' old new s e t c = asked_generate words coun
   by (status.PathClash first second) t c = absurd t
   by (status.NameClash defined other image) t c = absurd t
   by (status.Stranded path held) t c = absurd t
+  by (status.Moved path one other) t c = absurd t
 
 -- ---- the clauses of words that ask for nothing
 
@@ -199,8 +201,8 @@ pub err_committed : (words : List Text) (fault : RootsFault) (s : Status) (waiti
 err_committed words fault s waiting e =
     let P : Status → Type 0 = λ s. OfRun words (Committed waiting s) in subst P (sym e) (of_run_any words _ (refused_committed fault waiting))
 
-pub err_causes : (words : List Text) (fault : RootsFault) (s : Status) (f k o : ℕ) → RefusedBy (order_of_words words) fault → s ≡ status_of_words fault → HasCauses (asked_of words) s f f k k o o
-err_causes words fault s f k o r e = let P : Status → Type 0 = λ s. HasCauses (asked_of words) s f f k k o o in subst P (sym e) (refused_causes words fault f k o r)
+pub err_causes : (words : List Text) (fault : RootsFault) (s : Status) (told : Option Contents) (f k o : ℕ) → RefusedBy (order_of_words words) fault → s ≡ status_of_words fault → HasCauses (asked_of words) told s f f k k o o
+err_causes words fault s told f k o r e = let P : Status → Type 0 = λ s. HasCauses (asked_of words) told s f f k k o o in subst P (sym e) (refused_causes words fault told f k o r)
 
 pub err_tells : (words : List Text) (fault : RootsFault) (s : Status) (o : Option Text) → RefusedBy (order_of_words words) fault → s ≡ status_of_words fault → OfGenerate words (λ n. TellsTotals n o o s)
 err_tells words fault s o r e = let P : Status → Type 0 = λ s. OfGenerate words (λ n. TellsTotals n o o s) in subst P (sym e) (refused_tells words fault o r)

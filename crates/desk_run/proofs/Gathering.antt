@@ -1,32 +1,36 @@
 -- What was read makes a run, or an answer.
-use Rattle.std.proofs.Common.{◌≡◌, ℕ, ◌≤◌, true, List, [], ◌∷◌, Option, Some, None, refl, sym, ap, ◌∙◌, subst, map, Result, Ok, Err, IfOk, IfErr, IfSome}
-use Rattle.desk_base.specs.Names.{Text}
-use Rattle.desk_clashes.specs.Clashes.{first_clash}
-use Rattle.desk_folders.specs.Contents.{Contents, file_at, files_below, paths_below}
+use Rattle.std.proofs.Common.{All, ◌≡◌, ℕ, ◌≤◌, ◌<◌, ◌^◌, Bool, true, List, [], ◌∷◌, length, Option, Some, None, refl, sym, ap, ◌∙◌, map, Result, Ok, Err, IfOk, IfErr, IfSome}
 use Rattle.desk_base.specs.Counts.{Rose-earlier}
+use Rattle.desk_base.specs.Names.{Text}
+use Rattle.desk_batches.proofs.Fronts.{at_some, if_some}
+use Rattle.desk_batches.specs.Noting.{NotedTo}
+use Rattle.desk_batches.specs.declared.measured.Measured.{Measured}
+use Rattle.desk_clashes.specs.Clashes.{first_clash}
+use Rattle.desk_file.specs.Images.{target}
+use Rattle.desk_file.specs.Routes.{route_of}
+use Rattle.desk_file.specs.Treatments.{is_whole}
+use Rattle.desk_file.specs.declared.routes.Route.{Route}
+use Rattle.desk_folders.specs.Contents.{Contents, file_at, files_below, paths_below}
+use Rattle.desk_graph.specs.declared.scanned.Scanned.{Scanned}
 use Rattle.desk_ledger.specs.Ledger.{Ledger}
 use Rattle.desk_report.specs.declared.status.Status.{Status}
-use Rattle.desk_report.specs.declared.status.Status.TheVariants.{Done, Refusals, Memory, FolderFault, LedgerFault, OutputFault, Usage, NestedRoots, BadRules, Limit, PathClash, NameClash, Stranded, OtherRun}
-use Rattle.desk_run.specs.declared.files.Input.{Input}
-use Rattle.desk_run.specs.declared.files.Route.{Route}
+use Rattle.desk_report.specs.declared.status.Status.TheVariants.{Done, Refusals, Memory, FolderFault, LedgerFault, OutputFault, Usage, NestedRoots, BadRules, Limit, PathClash, NameClash, Stranded, OtherRun, Moved}
+use Rattle.desk_rules.specs.Rules.{Rules}
+use Rattle.desk_second.specs.Second.{AreRules}
 use Rattle.desk_words.specs.declared.roots.Roots.{Roots}
+use Rattle.desk_run.proofs.FirstReadings.{SaysOf, says_of}
+use Rattle.desk_run.specs.Answers.{or_else, other_run, first_of, clash_status, clash_answer, files_answer, names_answer, answer_of_run, AskedCause}
+use Rattle.desk_run.specs.Endings.{AreRead, HasGathered}
+use Rattle.desk_run.specs.Halts.{HaltsAtFiles, HaltsWith, HaltsClashing, HaltsGathering, HaltsReadingAll, clash_of, reading_answer, is_read_status, is_early_answer}
+use Rattle.desk_run.specs.Limits.{paths_answer, size_answer}
+use Rattle.desk_run.specs.Meaning.{header_of, ruled, run_of, run_by_roots, run_by_rules, run_of_asked}
+use Rattle.desk_run.specs.Named.{Asked, asked_roots}
+use Rattle.desk_run.specs.Notes.{IsRead, measured_of}
+use Rattle.desk_run.specs.Reports.{ending}
+use Rattle.desk_run.specs.declared.gather.Gathered.{Gathered}
 use Rattle.desk_run.specs.declared.rules.Ruled.{Ruled}
 use Rattle.desk_run.specs.declared.stops.Halt.{Halt}
 use Rattle.desk_run.specs.declared.stops.Halt.TheVariants as halt
-use Rattle.desk_run.specs.Named.{Asked}
-use Rattle.desk_run.specs.Meaning.{ruled, run_of, run_by_roots, run_by_rules, run_of_asked}
-use Rattle.desk_run.specs.Answers.{or_else, other_run, first_of, clash_status, clash_answer, files_answer, names_answer, answer_of_run, AskedCause}
-use Rattle.desk_run.specs.Limits.{paths_answer, size_answer}
-use Rattle.desk_run.specs.Reports.{ending}
-use Rattle.desk_run.specs.Inputs.{route_of, input_at, input_of}
-use Rattle.desk_run.specs.Halts.{HaltsAtFiles, HaltsWith, HaltsClashing, HaltsGathering, HaltsReadingAll, clash_of, reading_answer, is_read_status, is_early_answer}
-use Rattle.desk_run.specs.Endings.{AreInputs}
-use Rattle.desk_run.proofs.Parts.{if_some, at_some}
-
--- the roots that were read by
-pub ok_named : {T : Type 0} (asked : Asked) (names : Roots) (P : T → Roots) (r : Result T Halt) → asked ≡ Ok names → IfOk r (λ g. P g ≡ names) → IfOk r (λ g. asked ≡ Ok (P g))
-ok_named asked names P (Ok g) e h = e ∙ ap Ok (sym h)
-ok_named asked names P (Err x) e h = tt
 
 -- a status of rules or files
 reading_status : (asked : Asked) (status : Status) → is_read_status status ≡ true → (is_early_answer status ≡ true) × AskedCause asked status
@@ -43,6 +47,7 @@ reading_status asked Usage e = cc
 reading_status asked (NestedRoots first second) e = cc
 reading_status asked (NameClash defined other image) e = cc
 reading_status asked (Stranded path held) e = cc
+reading_status asked (Moved path one other) e = cc
 reading_status asked (OtherRun kept wanted) e = cc
 
 reading_first : (names : Roots) (m : Contents) (l : Ledger) (status : Status) (r : Result Ruled Status) → reading_answer names m r ≡ Some status → answer_of_run m l (run_by_rules m names r) ≡ status
@@ -76,89 +81,76 @@ first_none a b e = ap (λ o. first_of o b) e
 first_some : (a b : Option Status) (status : Status) → a ≡ Some status → first_of a b ≡ Some status
 first_some a b status e = ap (λ o. first_of o b) e
 
--- the files that were read
-inputs_of_routes : (from : Text) (target : Text → Text) (m : Contents) (paths : List Text) → map (input_at from m) (map (route_of target) paths) ≡ map (input_of target) (map (file_at from m) paths)
-inputs_of_routes from target m [] = refl
-inputs_of_routes from target m (path ∷ paths) = ap (λ xs. input_of target (file_at from m path) ∷ xs) (inputs_of_routes from target m paths)
+-- the paths and targets of what was read
+paths_read : (rules : Rules) (from : Text) (m : Contents) (paths : List Text) → map (λ (file : Measured). file.route.path) (map (measured_of rules) (map (file_at from m) paths)) ≡ paths
+paths_read rules from m [] = refl
+paths_read rules from m (path ∷ paths) = ap (λ ps. path ∷ ps) (paths_read rules from m paths)
 
-paths_routed : (target : Text → Text) (paths : List Text) → map (λ (route : Route). route.path) (map (route_of target) paths) ≡ paths
-paths_routed target [] = refl
-paths_routed target (path ∷ paths) = ap (λ ps. path ∷ ps) (paths_routed target paths)
-
--- the routes that were listed
-pub routes_listed : (from : Text) (target : Text → Text) (told now : Option Contents) (routes : List Route) → now ≡ told → IfSome told (λ m. routes ≡ map (route_of target) (paths_below from m))
-    → IfSome now (λ m. map (λ (route : Route). route.path) routes ≡ paths_below from m)
-routes_listed from target told now routes same listed = if_some _ now (λ m t.
-    ap (map (λ (route : Route). route.path)) (at_some (λ m. routes ≡ map (route_of target) (paths_below from m)) told m (sym same ∙ t) listed) ∙ paths_routed target (paths_below from m))
-
-paths_of_inputs : (from : Text) (target : Text → Text) (m : Contents) (paths : List Text) → map (λ (input : Input). input.path) (map (input_of target) (map (file_at from m) paths)) ≡ paths
-paths_of_inputs from target m [] = refl
-paths_of_inputs from target m (path ∷ paths) = ap (λ ps. path ∷ ps) (paths_of_inputs from target m paths)
-
-targets_of_inputs : (from : Text) (target : Text → Text) (m : Contents) (paths : List Text) → map (λ (input : Input). input.target) (map (input_of target) (map (file_at from m) paths)) ≡ map target paths
-targets_of_inputs from target m [] = refl
-targets_of_inputs from target m (path ∷ paths) = ap (λ ts. target path ∷ ts) (targets_of_inputs from target m paths)
-
--- what is known of files that were listed and read
-pub record AreRead (from : Text) (target : Text → Text) (m : Contents) (inputs : List Input) : Type 0 where
-  pub are : inputs ≡ map (input_of target) (files_below from m)
-  pub routed : paths_answer from target (paths_below from m) ≡ None
-  pub fit : size_answer 0 (files_below from m) ≡ None
-
-pub are_read : (from : Text) (target : Text → Text) (told mid : Option Contents) (routes : List Route) (inputs : List Input) → mid ≡ told → IfSome told (λ m. routes ≡ map (route_of target) (paths_below from m))
-    → IfSome told (λ m. paths_answer from target (paths_below from m) ≡ None) → IfSome mid (λ m. inputs ≡ map (input_at from m) routes) → IfSome mid (λ m. size_answer 0 (files_below from m) ≡ None)
-    → IfSome told (λ m. AreRead from target m inputs)
-are_read from target told mid routes inputs same listed clear read fit = if_some _ told (λ m t. record {
-  are = at_some (λ m. inputs ≡ map (input_at from m) routes) mid m (same ∙ t) read
-      ∙ ap (map (input_at from m)) (at_some (λ m. routes ≡ map (route_of target) (paths_below from m)) told m t listed)
-      ∙ inputs_of_routes from target m (paths_below from m);
-  routed = at_some (λ m. paths_answer from target (paths_below from m) ≡ None) told m t clear;
-  fit = at_some (λ m. size_answer 0 (files_below from m) ≡ None) mid m (same ∙ t) fit;
-})
+targets_read : (rules : Rules) (from : Text) (m : Contents) (paths : List Text) → map (λ (file : Measured). file.route.target) (map (measured_of rules) (map (file_at from m) paths)) ≡ map (target rules) paths
+targets_read rules from m [] = refl
+targets_read rules from m (path ∷ paths) = ap (λ ts. target rules path ∷ ts) (targets_read rules from m paths)
 
 -- what clashes of them
-clash_same : (from : Text) (target : Text → Text) (m : Contents) (inputs : List Input) → AreRead from target m inputs → clash_of inputs ≡ clash_answer target (paths_below from m)
-clash_same from target m inputs r =
-    ap clash_of r.are
-    ∙ ap (λ ps. clash_status ps (first_clash (map (λ (input : Input). input.target) (map (input_of target) (files_below from m))))) (paths_of_inputs from target m (paths_below from m))
-    ∙ ap (λ ts. clash_status (paths_below from m) (first_clash ts)) (targets_of_inputs from target m (paths_below from m))
+clash_same : (rules : Rules) (from : Text) (m : Contents) (files : List Measured) → files ≡ map (measured_of rules) (files_below from m) → clash_of files ≡ clash_answer (target rules) (paths_below from m)
+clash_same rules from m files e =
+    ap clash_of e
+    ∙ ap (λ ps. clash_status ps (first_clash (map (λ (file : Measured). file.route.target) (map (measured_of rules) (files_below from m))))) (paths_read rules from m (paths_below from m))
+    ∙ ap (λ ts. clash_status (paths_below from m) (first_clash ts)) (targets_read rules from m (paths_below from m))
 
-files_answer_read : (from : Text) (target : Text → Text) (m : Contents) (inputs : List Input) → AreRead from target m inputs → files_answer from target m ≡ clash_of inputs
-files_answer_read from target m inputs r = first_none _ _ r.routed ∙ first_none _ _ r.fit ∙ sym (clash_same from target m inputs r)
+-- what stands against files of which none has too many bytes
+files_answer_read : (rules : Rules) (from : Text) (m : Contents) (files : List Measured) (classes : List Scanned) → paths_answer from (target rules) (paths_below from m) ≡ None → SaysOf rules from m files classes
+    → files_answer from (target rules) (is_whole rules) m ≡ clash_of files
+files_answer_read rules from m files classes routed says = first_none _ _ routed ∙ first_none _ _ says.fit ∙ sym (clash_same rules from m files says.are)
+
+-- what was noted of the files of these routes says this of them
+pub says_told : (rules : Rules) (from : Text) (told mid : Option Contents) (routes : List Route) (files : List Measured) (classes : List Scanned) → mid ≡ told → IfSome told (λ m. routes ≡ map (route_of rules) (paths_below from m))
+    → IfSome mid (λ m. NotedTo from m routes files classes) → IfSome told (λ m. SaysOf rules from m files classes)
+says_told rules from told mid routes files classes same listed noted = if_some _ told (λ m t.
+    says_of rules from m routes files classes (at_some (λ m. routes ≡ map (route_of rules) (paths_below from m)) told m t listed) (at_some (λ m. NotedTo from m routes files classes) mid m (same ∙ t) noted))
 
 -- nothing stands against them
-pub inputs_read : (from : Text) (target : Text → Text) (told : Option Contents) (inputs : List Input) → IfSome told (λ m. AreRead from target m inputs) → clash_of inputs ≡ None → IfSome told (λ m. AreInputs from target m inputs)
-inputs_read from target told inputs read e = if_some _ told (λ m t.
-    let r = at_some (λ m. AreRead from target m inputs) told m t read in
-    record { are = r.are; built = files_answer_read from target m inputs r ∙ e })
+pub are_read : (rules : Rules) (from : Text) (told : Option Contents) (files : List Measured) (classes : List Scanned) → IfSome told (λ m. paths_answer from (target rules) (paths_below from m) ≡ None)
+    → IfSome told (λ m. SaysOf rules from m files classes) → clash_of files ≡ None → IfSome told (λ m. AreRead rules from m files classes)
+are_read rules from told files classes clear says e = if_some _ told (λ m t.
+    let s = at_some (λ m. SaysOf rules from m files classes) told m t says in
+    record {
+      are = s.are;
+      scanned = s.scanned;
+      bytes = s.bytes;
+      built = files_answer_read rules from m files classes (at_some (λ m. paths_answer from (target rules) (paths_below from m) ≡ None) told m t clear) s ∙ e;
+    })
 
 -- two of them clash
-pub halts_clash : (from : Text) (target : Text → Text) (told : Option Contents) (inputs : List Input) (f f' : ℕ) (h : Halt) → IfSome told (λ m. AreRead from target m inputs) → HaltsClashing inputs h → HaltsAtFiles from target told f f' h
-halts_clash from target told inputs f f' halt.Memory read g = tt
-halts_clash from target told inputs f f' halt.Folders read g = absurd g
-halts_clash from target told inputs f f' halt.Ledger read g = absurd g
-halts_clash from target told inputs f f' (halt.Answer status) read g =
-    (g.0, if_some _ told (λ m t. files_answer_read from target m inputs (at_some (λ m. AreRead from target m inputs) told m t read) ∙ g.1))
-
--- they have too many bytes
-pub halts_sizes : (from : Text) (target : Text → Text) (told mid : Option Contents) (f f1 f' : ℕ) (h : Halt) → f ≤ f1 → mid ≡ told → IfSome told (λ m. paths_answer from target (paths_below from m) ≡ None)
-    → HaltsWith (λ m. size_answer 0 (files_below from m)) mid f1 f' h → HaltsAtFiles from target told f f' h
-halts_sizes from target told mid f f1 f' halt.Memory le same clear g = tt
-halts_sizes from target told mid f f1 f' halt.Folders le same clear g = Rose-earlier f f1 f' le g
-halts_sizes from target told mid f f1 f' halt.Ledger le same clear g = absurd g
-halts_sizes from target told mid f f1 f' (halt.Answer status) le same clear g = (
+pub halts_clash : (rules : Rules) (from : Text) (told : Option Contents) (files : List Measured) (classes : List Scanned) (f f' : ℕ) (h : Halt) → IfSome told (λ m. paths_answer from (target rules) (paths_below from m) ≡ None)
+    → IfSome told (λ m. SaysOf rules from m files classes) → HaltsClashing files h → HaltsAtFiles from (target rules) (is_whole rules) told f f' h
+halts_clash rules from told files classes f f' halt.Memory clear says g = tt
+halts_clash rules from told files classes f f' halt.Folders clear says g = absurd g
+halts_clash rules from told files classes f f' halt.Ledger clear says g = absurd g
+halts_clash rules from told files classes f f' (halt.Answer status) clear says g = (
   g.0,
   if_some _ told (λ m t.
-      first_none _ _ (at_some (λ m. paths_answer from target (paths_below from m) ≡ None) told m t clear)
-      ∙ first_some _ _ status (at_some (λ m. size_answer 0 (files_below from m) ≡ Some status) mid m (same ∙ t) g.1)),
+      files_answer_read rules from m files classes (at_some (λ m. paths_answer from (target rules) (paths_below from m) ≡ None) told m t clear) (at_some (λ m. SaysOf rules from m files classes) told m t says) ∙ g.1),
+)
+
+-- one has too many bytes
+pub halts_sizes : (rules : Rules) (from : Text) (told mid : Option Contents) (f f1 f' : ℕ) (h : Halt) → f ≤ f1 → mid ≡ told → IfSome told (λ m. paths_answer from (target rules) (paths_below from m) ≡ None)
+    → HaltsWith (λ m. size_answer (is_whole rules) (files_below from m)) mid f1 f' h → HaltsAtFiles from (target rules) (is_whole rules) told f f' h
+halts_sizes rules from told mid f f1 f' halt.Memory le same clear g = tt
+halts_sizes rules from told mid f f1 f' halt.Folders le same clear g = Rose-earlier f f1 f' le g
+halts_sizes rules from told mid f f1 f' halt.Ledger le same clear g = absurd g
+halts_sizes rules from told mid f f1 f' (halt.Answer status) le same clear g = (
+  g.0,
+  if_some _ told (λ m t.
+      first_none _ _ (at_some (λ m. paths_answer from (target rules) (paths_below from m) ≡ None) told m t clear)
+      ∙ first_some _ _ status (at_some (λ m. size_answer (is_whole rules) (files_below from m) ≡ Some status) mid m (same ∙ t) g.1)),
 )
 
 -- they are too many, or a path is too long
-pub halts_paths : (from : Text) (target : Text → Text) (told : Option Contents) (f f' : ℕ) (h : Halt) → HaltsWith (λ m. paths_answer from target (paths_below from m)) told f f' h → HaltsAtFiles from target told f f' h
-halts_paths from target told f f' halt.Memory g = tt
-halts_paths from target told f f' halt.Folders g = g
-halts_paths from target told f f' halt.Ledger g = absurd g
-halts_paths from target told f f' (halt.Answer status) g =
+pub halts_paths : (from : Text) (target : Text → Text) (whole : Text → Bool) (told : Option Contents) (f f' : ℕ) (h : Halt) → HaltsWith (λ m. paths_answer from target (paths_below from m)) told f f' h → HaltsAtFiles from target whole told f f' h
+halts_paths from target whole told f f' halt.Memory g = tt
+halts_paths from target whole told f f' halt.Folders g = g
+halts_paths from target whole told f f' halt.Ledger g = absurd g
+halts_paths from target whole told f f' (halt.Answer status) g =
     (g.0, if_some _ told (λ m t. first_some _ _ status (at_some (λ m. paths_answer from target (paths_below from m) ≡ Some status) told m t g.1)))
 
 pub err_reading : {T : Type 0} (asked : Asked) (names : Roots) (told : Option Contents) (f f' : ℕ) (r : Result T Halt) → asked ≡ Ok names
@@ -166,8 +158,19 @@ pub err_reading : {T : Type 0} (asked : Asked) (names : Roots) (told : Option Co
 err_reading asked names told f f' (Ok x) e g = tt
 err_reading asked names told f f' (Err h) e g = halts_reading asked names told f f' h e g
 
--- the run of the roots and rules that were read
-pub ok_run : {T : Type 0} (asked : Asked) (names : Roots) (P : T → Roots) (Q : T → Ruled) (told : Option Contents) (r : Result T Halt) → asked ≡ Ok names → IfOk r (λ g. P g ≡ names)
-    → IfOk r (λ g. IfSome told (λ m. ruled names.rules (files_below names.rules m) ≡ Ok (Q g))) → IfOk r (λ g. IfSome told (λ m. run_of_asked asked m ≡ Ok (run_of (P g) (Q g) (files_below (P g).from m))))
-ok_run asked names P Q told (Ok g) e n h = subst (λ s. IfSome told (λ m. run_of_asked asked m ≡ Ok (run_of s (Q g) (files_below s.from m)))) (sym n) (run_read asked names (Q g) told e h)
-ok_run asked names P Q told (Err x) e n h = tt
+-- what was gathered
+pub ok_gathered : (names : Roots) (told : Option Contents) (r : Result Gathered Halt) → IfOk r (λ g. g.header ≡ header_of names g.ruled.value) → IfOk r (λ g. IfSome told (λ m. ruled names.rules (files_below names.rules m) ≡ Ok g.ruled.value))
+    → IfOk r (λ g. AreRules g.ruled.value.rules) → IfOk r (λ g. IfSome told (λ m. AreRead g.ruled.value.rules names.from m g.notes.files.items g.notes.scanned.items)) → IfOk r (λ g. All (IsRead g.ruled.value.rules) g.notes.files.items)
+    → IfOk r (λ g. length g.notes.files.items < 2 ^ 32) → IfOk r (λ g. length g.notes.scanned.items < 2 ^ 32) → IfOk r (HasGathered names told)
+ok_gathered names told (Ok g) header rules are files read few few_classes = record {
+  header = header;
+  are = are;
+  read = read;
+  few = few;
+  few_classes = few_classes;
+  told_of = if_some _ told (λ m t. record {
+    run = at_some (λ m. run_of_asked (asked_roots names) m ≡ Ok (run_of names g.ruled.value (files_below names.from m))) told m t (run_read (asked_roots names) names g.ruled.value told refl rules);
+    files = at_some (λ m. AreRead g.ruled.value.rules names.from m g.notes.files.items g.notes.scanned.items) told m t files;
+  });
+}
+ok_gathered names told (Err x) header rules are files read few few_classes = tt

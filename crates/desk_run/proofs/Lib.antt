@@ -1,21 +1,21 @@
 mod Ruling
-mod Scanning
 pub mod Splits
 pub mod After
 pub mod Truths
 pub mod Remaining
-pub mod Writing
 pub mod Parts
 pub mod Sizes
 pub mod Taking
 pub mod Routed
-pub mod Filling
+pub mod FirstReadings
+pub mod Measures
 pub mod Clashing
 pub mod Reporting
 pub mod Gathering
 pub mod Preparing
 pub mod Ending
 pub mod Promised
+pub mod Finishing
 pub mod Referring
 pub mod Following
 pub mod InMemory

@@ -8,11 +8,11 @@ use Rattle.desk_ledger.specs.declared.keeper.Header.{Header}
 use Rattle.desk_ledger.specs.Ledger.{Ledger, with_header}
 use Rattle.desk_report.specs.declared.sink.SinkFault.{SinkFault}
 use Rattle.desk_report.specs.declared.status.Status.{Status}
-use Rattle.desk_report.specs.declared.status.Status.TheVariants.{Done, Refusals, Memory, FolderFault, LedgerFault, OutputFault, Usage, NestedRoots, BadRules, Limit, PathClash, NameClash, Stranded, OtherRun}
+use Rattle.desk_report.specs.declared.status.Status.TheVariants.{Done, Refusals, Memory, FolderFault, LedgerFault, OutputFault, Usage, NestedRoots, BadRules, Limit, PathClash, NameClash, Stranded, OtherRun, Moved}
 use Rattle.desk_report.specs.Texts.{fault_text}
 use Rattle.desk_report.specs.Written.{WritesFront, writing}
 use Rattle.desk_run.specs.Named.{Asked}
-use Rattle.desk_run.specs.declared.planning.Work.{Work}
+use Rattle.desk_batches.specs.Works.{Work}
 use Rattle.desk_run.specs.declared.stops.Halt.{Halt}
 use Rattle.std.proofs.lemmas.Bool.{and_parts}
 use Rattle.std.proofs.lemmas.List.Elements.{All-head, All-tail}
@@ -91,6 +91,7 @@ files_clause asked m0 l0 f k status t = record { m = t.m; l = t.l; folders = t.f
   by (PathClash first second) s = tt
   by (NameClash defined other image) s = tt
   by (Stranded path held) s = tt
+  by (Moved path one other) s = tt
 
 -- ---- classes
 
@@ -152,6 +153,7 @@ classes_clause asked m0 l0 f k status t = record { m = t.m; l = t.l; folders = t
   by (PathClash first second) s = tt
   by (NameClash defined other image) s = tt
   by (Stranded path held) s = tt
+  by (Moved path one other) s = tt
 
 keeps_ledger : (asked : Asked) (m0 : Contents) (l0 : Ledger) (m : Contents) (l : Ledger) (status : Status) → StandsAfter asked m0 l0 m l status → KeepsLedger asked m0 l0 m l status
 keeps_ledger asked m0 l0 m l status s = record { stays = λ run is. truth status s run is; complete = rows status s } where
@@ -180,6 +182,7 @@ keeps_ledger asked m0 l0 m l status s = record { stays = λ run is. truth status
   truth (PathClash first second) s run is = untouched s run
   truth (NameClash defined other image) s run is = untouched s run
   truth (Stranded path held) s run is = untouched s run
+  truth (Moved path one other) s run is = begun s.done run is s.stands
 
   rows : (status : Status) → StandsAfter asked m0 l0 m l status → CompleteRows asked m0 l0 l status
   rows Done s = ok_and (run_of_asked asked m0) s.run (λ run. HoldsRows run m0 l0 l) s.ready.is (holds_rows s.run m0 l0 m l s.stands)
@@ -196,6 +199,7 @@ keeps_ledger asked m0 l0 m l status s = record { stays = λ run is. truth status
   rows (PathClash first second) s = tt
   rows (NameClash defined other image) s = tt
   rows (Stranded path held) s = tt
+  rows (Moved path one other) s = tt
 
 pub ledger_clause : (asked : Asked) (f0 f : Option Contents) (k0 k : Option Ledger) (name0 name : Option Text) (status : Status)
     → WhereTold f0 k0 (λ m0 l0. Tells f k (λ m l. StandsAfter asked m0 l0 m l status)) → Named asked name0 name status → LedgerHolds asked f0 f k0 k name0 name status
@@ -231,11 +235,12 @@ remains_clause asked m0 l0 f k status t = record { m = t.m; l = t.l; folders = t
   by (PathClash first second) s = (s.folder, s.ledger)
   by (NameClash defined other image) s = (s.folder, s.ledger)
   by (Stranded path held) s = (s.folder, s.ledger)
+  by (Moved path one other) s = record { done = s.done; remains = remains_at asked m0 l0 t.m t.l s.done s.stands }
 
 -- what is final is the first answer, and what else is quiet is want of memory
-pub status_clause : (asked : Asked) (first status : Status) (f f' k k' o o' : ℕ) → (is_final status ≡ true → status ≡ first) → HasCauses asked status f f' k k' o o' → Exact first status f f' k k' o o'
-status_clause asked first status f f' k k' o o' h c = record { final = h; quiet = by status h c } where
-  by : (status : Status) → (is_final status ≡ true → status ≡ first) → HasCauses asked status f f' k k' o o' → ¬ Rose f f' → ¬ Rose k k' → ¬ Rose o o' → (status ≡ first) ⊎ (status ≡ Memory)
+pub status_clause : (asked : Asked) (told : Option Contents) (m : Contents) (first status : Status) (f f' k k' o o' : ℕ) → told ≡ Some m → (is_final status ≡ true → status ≡ first) → HasCauses asked told status f f' k k' o o' → Exact first status f f' k k' o o'
+status_clause asked told m first status f f' k k' o o' is h c = record { final = h; quiet = by status h c } where
+  by : (status : Status) → (is_final status ≡ true → status ≡ first) → HasCauses asked told status f f' k k' o o' → ¬ Rose f f' → ¬ Rose k k' → ¬ Rose o o' → (status ≡ first) ⊎ (status ≡ Memory)
   by Done h c a b d = inl (h refl)
   by Refusals h c a b d = inl (h refl)
   by Memory h c a b d = inr refl
@@ -250,6 +255,7 @@ status_clause asked first status f f' k k' o o' h c = record { final = h; quiet 
   by (PathClash first second) h c a b d = inl (h refl)
   by (NameClash defined other image) h c a b d = inl (h refl)
   by (Stranded path held) h c a b d = inl (h refl)
+  by (Moved path one other) h c a b d = let e : None ≡ Some m = sym c.1 ∙ is in cc
 
 pub last_write : (line : Text) (old new : Option Text) (o o' : ℕ) (r : Result (Unit {0}) SinkFault) → OnOk r (new ≡ writing line old) → OnErr r (WritesFront line old new) → OnErr r (Rose o o')
     → (new ≡ writing line old) ⊎ (WritesFront line old new × Rose o o')
@@ -298,31 +304,26 @@ output_clause asked f0 k0 (Limit kind path) old mid new o o1 o2 le r w = plain (
 output_clause asked f0 k0 (PathClash first second) old mid new o o1 o2 le r w = plain (fault_text (PathClash first second)) old mid new o o1 o2 le r w
 output_clause asked f0 k0 (NameClash defined other image) old mid new o o1 o2 le r w = plain (fault_text (NameClash defined other image)) old mid new o o1 o2 le r w
 output_clause asked f0 k0 (Stranded path held) old mid new o o1 o2 le r w = plain (fault_text (Stranded path held)) old mid new o o1 o2 le r w
+output_clause asked f0 k0 (Moved path one other) old mid new o o1 o2 le r w = plain (fault_text (Moved path one other)) old mid new o o1 o2 le r w
 
-pub causes_after : (asked : Asked) (status : Status) (f f' k k' o o1 o2 : ℕ) → o1 ≤ o2 → HasCauses asked status f f' k k' o o1 → HasCauses asked status f f' k k' o o2
-causes_after asked OutputFault f f' k k' o o1 o2 le c = Rose-later o o1 o2 c le
-causes_after asked (FolderFault done) f f' k k' o o1 o2 le c = c
-causes_after asked (LedgerFault done) f f' k k' o o1 o2 le c = c
-causes_after asked Done f f' k k' o o1 o2 le c = c
-causes_after asked Refusals f f' k k' o o1 o2 le c = c
-causes_after asked Memory f f' k k' o o1 o2 le c = c
-causes_after asked Usage f f' k k' o o1 o2 le c = c
-causes_after asked (NestedRoots first second) f f' k k' o o1 o2 le c = c
-causes_after asked (BadRules fault) f f' k k' o o1 o2 le c = c
-causes_after asked (OtherRun kept wanted) f f' k k' o o1 o2 le c = c
-causes_after asked (Limit kind path) f f' k k' o o1 o2 le c = c
-causes_after asked (PathClash first second) f f' k k' o o1 o2 le c = c
-causes_after asked (NameClash defined other image) f f' k k' o o1 o2 le c = c
-causes_after asked (Stranded path held) f f' k k' o o1 o2 le c = c
+pub causes_after : (asked : Asked) (told : Option Contents) (status : Status) (f f' k k' o o1 o2 : ℕ) → o1 ≤ o2 → HasCauses asked told status f f' k k' o o1 → HasCauses asked told status f f' k k' o o2
+causes_after asked told OutputFault f f' k k' o o1 o2 le c = Rose-later o o1 o2 c le
+causes_after asked told (FolderFault done) f f' k k' o o1 o2 le c = c
+causes_after asked told (LedgerFault done) f f' k k' o o1 o2 le c = c
+causes_after asked told Done f f' k k' o o1 o2 le c = c
+causes_after asked told Refusals f f' k k' o o1 o2 le c = c
+causes_after asked told Memory f f' k k' o o1 o2 le c = c
+causes_after asked told Usage f f' k k' o o1 o2 le c = c
+causes_after asked told (NestedRoots first second) f f' k k' o o1 o2 le c = c
+causes_after asked told (BadRules fault) f f' k k' o o1 o2 le c = c
+causes_after asked told (OtherRun kept wanted) f f' k k' o o1 o2 le c = c
+causes_after asked told (Limit kind path) f f' k k' o o1 o2 le c = c
+causes_after asked told (PathClash first second) f f' k k' o o1 o2 le c = c
+causes_after asked told (NameClash defined other image) f f' k k' o o1 o2 le c = c
+causes_after asked told (Stranded path held) f f' k k' o o1 o2 le c = c
+causes_after asked told (Moved path one other) f f' k k' o o1 o2 le c = c
 
--- where a run stands that was prepared and finished
-pub finish_told : (asked : Asked) (f0 f1 f' : Option Contents) (k0 k1 k' : Option Ledger) (m : Contents) (l : Ledger) (to : Text) (header : Header) (works : List Work) (status : Status) → f0 ≡ Some m → k0 ≡ Some l
-    → f1 ≡ f0 → k1 ≡ option_map (with_header header) k0 → Planned asked m l to header works → Finishes to works f1 f' k1 k' status → Tells f' k' (λ m' l'. StandsAfter asked m l m' l' status)
-finish_told asked f0 f1 f' k0 k1 k' m l to header works status ef ek f k p a =
-    finish_stands asked m l to header works f' k' status p
-    (subst (λ x. Finishes to works x f' (Some (with_header header l)) k' status) (f ∙ ef)
-    (subst (λ x. Finishes to works f1 f' x k' status) (k ∙ ap (option_map (with_header header)) ek) a))
-
+-- where a run stands that halts early
 pub early_told : (asked : Asked) (f0 f' : Option Contents) (k0 k' : Option Ledger) (m : Contents) (l : Ledger) (a b c d : ℕ) (h : Halt) → f0 ≡ Some m → k0 ≡ Some l → f' ≡ f0
     → HaltsEarly asked f0 k0 k' a b c d h → Tells f' k' (λ m' l'. StandsAfter asked m l m' l' (status_of_halt h))
 early_told asked f0 f' k0 k' m l a b c d h ef ek f s =
@@ -353,3 +354,4 @@ generates n (Limit kind path) old mid new o o1 o2 le t w = absurd t
 generates n (PathClash first second) old mid new o o1 o2 le t w = absurd t
 generates n (NameClash defined other image) old mid new o o1 o2 le t w = absurd t
 generates n (Stranded path held) old mid new o o1 o2 le t w = absurd t
+generates n (Moved path one other) old mid new o o1 o2 le t w = absurd t

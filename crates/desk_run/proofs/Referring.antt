@@ -7,12 +7,13 @@ use Rattle.desk_class.specs.Parts.{name_in}
 use Rattle.desk_clashes.specs.Clashes.{first_clash}
 use Rattle.desk_folders.specs.Contents.{Contents, File, file_at, files_below, paths_below}
 use Rattle.desk_file.specs.Images.{target}
+use Rattle.desk_file.specs.Treatments.{is_whole}
 use Rattle.desk_file.proofs.Alone.{has_alone}
 use Rattle.desk_format.specs.Laws.{IsBytes}
 use Rattle.desk_graph.specs.Application.{Pair, name_clash, stranded}
 use Rattle.desk_rename.specs.Images.{cls}
 use Rattle.desk_report.specs.declared.status.Status.{Status}
-use Rattle.desk_report.specs.declared.status.Status.TheVariants.{Done, Refusals, Memory, FolderFault, LedgerFault, OutputFault, Usage, NestedRoots, BadRules, Limit, PathClash, NameClash, Stranded, OtherRun}
+use Rattle.desk_report.specs.declared.status.Status.TheVariants.{Done, Refusals, Memory, FolderFault, LedgerFault, OutputFault, Usage, NestedRoots, BadRules, Limit, PathClash, NameClash, Stranded, OtherRun, Moved}
 use Rattle.desk_rules.specs.Rules.{Rules}
 use Rattle.desk_second.specs.Applications.{classes_of, targets_of, AreBytes}
 use Rattle.desk_second.specs.Second.{AreRules, Follows}
@@ -47,7 +48,7 @@ targets_same rules from m (path ∷ paths) = ap (λ ts. target rules path ∷ ts
 
 -- over the files of a run against which nothing stands
 follow_over : (roots : Roots) (r : Ruled) (m : Contents) → AreRules r.rules → All (λ (f : File). IsBytes f.bytes) (files_below roots.from m)
-    → files_answer roots.from (target r.rules) m ≡ None → names_answer (cls r.rules.renames) (classes_of r.rules (files_below roots.from m)) ≡ None
+    → files_answer roots.from (target r.rules) (is_whole r.rules) m ≡ None → names_answer (cls r.rules.renames) (classes_of r.rules (files_below roots.from m)) ≡ None
     → FollowOver (run_of roots r (files_below roots.from m)) r.rules (files_below roots.from m)
 follow_over roots r m rules_are bytes built names =
     let rules = r.rules in
@@ -79,7 +80,7 @@ done_follows asked m0 l0 m l d =
       ruled = r;
       is = d.ready.is ∙ ap Ok e;
       over = follow_over roots r m0 d.runs.are (subst (λ (s : Run). All (λ (f : File). IsBytes f.bytes) (files_below s.from m0)) e d.runs.bytes)
-          (subst (λ (s : Run). files_answer s.from s.target m0 ≡ None) e d.ready.built) (subst (λ (s : Run). names_answer s.name s.classes ≡ None) e d.ready.names);
+          (subst (λ (s : Run). files_answer s.from s.target s.whole m0 ≡ None) e d.ready.built) (subst (λ (s : Run). names_answer s.name s.classes ≡ None) e d.ready.names);
     }
 
 pub follow_clause : (asked : Asked) (m0 : Contents) (l0 : Ledger) (f : Option Contents) (k : Option Ledger) (status : Status)
@@ -100,3 +101,4 @@ follow_clause asked m0 l0 f k status t = by status t.holds where
   by (PathClash one other) s = tt
   by (NameClash defined other image) s = tt
   by (Stranded path held) s = tt
+  by (Moved path one other) s = tt

@@ -14,14 +14,14 @@ use Rattle.desk_base.specs.TextMaps.{get-insert-same, get-remove-same}
 use Rattle.desk_folders.specs.ContentsLaws.{get-setting-other}
 use Rattle.desk_file.specs.declared.images.Image.{Image}
 use Rattle.desk_report.specs.declared.lines.Reason.{Reason}
-use Rattle.desk_run.specs.declared.planning.Plan.TheVariants.{Keep}
-use Rattle.desk_run.specs.declared.planning.Work.{Work}
 use Rattle.desk_run.specs.Runs.{Run, TargetsApart, AllRelative, Misses, AllApart, held_of, is_kept, is_kept_file, is_fresh, targets_of}
-use Rattle.desk_run.specs.Works.{work_of, works_of, fresh, wrote_plan, logged_plan, cleared_plan, writes, files_after, ledger_after}
+use Rattle.desk_batches.specs.Works.{Keep, Work, fresh, wrote_plan, logged_plan, cleared_plan, writes, files_after, ledger_after}
+use Rattle.desk_run.specs.Works.{work_of, works_of}
+use Rattle.desk_batches.proofs.Steps.{files_after-join, ledger_after-join}
 use Rattle.desk_run.specs.Truth.{TrueRows, TrueLedger, IsOurs}
 use Rattle.desk_run.specs.Stands.{Unchanged, Between, Within, Stands, Remains}
 use Rattle.desk_run.proofs.Splits.{covered, same_route, apart_before, apart_behind, misses_front, misses_back, relative_at, relative_front}
-use Rattle.desk_run.proofs.After.{Off, Spares, full_apart, files_spare, rows_spare, off_from_misses, spares_from_misses, files_after-join, ledger_after-join, header_after, header_cleared, cleared_spares}
+use Rattle.desk_run.proofs.After.{Off, Spares, full_apart, files_spare, rows_spare, off_from_misses, spares_from_misses, header_after, header_cleared, cleared_spares}
 use Rattle.desk_run.proofs.Truths.{AllThere, IsThere, there_at, files_there, true_after, true_broken}
 
 pub and_both : (a b : Bool) → a && b ≡ true → (a ≡ true) × (b ≡ true)

@@ -1,14 +1,14 @@
 -- Fronts of what is to be written.
-use Rattle.std.proofs.Common.{◌≡◌, ◌<◌, suc, List, [], ◌∷◌, ◌++◌, Option, Some, None, refl, sym, ap, ◌∙◌, take, drop, length, get_or, append_assoc, append-nil, map, map-id}
-use Rattle.std.specs.List.{flat_map}
-use Rattle.std.proofs.lemmas.Grind.{flat_map-append}
+use Rattle.std.proofs.Common.{◌≡◌, ◌<◌, ℕ, suc, subst, List, [], ◌∷◌, ◌++◌, Option, Some, None, refl, sym, ap, ◌∙◌, take, drop, length, get_or, append_assoc, append-nil, map, map-id, arith}
 use Rattle.desk_base.specs.Names.{Text}
+use Rattle.desk_batches.proofs.Steps.{split_at}
+use Rattle.desk_batches.specs.declared.noted.Noted.{Noted}
+use Rattle.desk_batches.specs.declared.noted.Outcome.{Outcome}
+use Rattle.desk_batches.specs.declared.noted.Outcome.TheVariants.{Kept}
 use Rattle.desk_report.specs.declared.lines.Summary.{Summary}
 use Rattle.desk_report.specs.Texts.{summary_text}
 use Rattle.desk_report.specs.Written.{WritesFront, writing}
-use Rattle.desk_run.specs.declared.planning.Work.{Work}
-use Rattle.desk_run.specs.Reports.{line_of_work, report_of_works, summary_of_works}
-use Rattle.desk_run.proofs.Writing.{split_at}
+use Rattle.desk_run.specs.Reports.{lines_of, outcome_line, report_by, summary_by}
 
 writing-writing : (before more : Text) (old : Option Text) → writing more (writing before old) ≡ writing (before ++ more) old
 writing-writing before more None = refl
@@ -23,33 +23,59 @@ front_after all before piece rest old mid new e whole w = record {
   is = w.is ∙ ap (writing w.front) e ∙ writing-writing before w.front old;
 }
 
--- the line of a work in the report
-pub line_front : (works gone : List Work) (work : Work) (old mid new : Option Text) → map (λ x. x) gone ≡ take (length gone) works → length gone < length works → work ≡ get_or works (length gone) work
-    → mid ≡ writing (flat_map line_of_work gone) old → WritesFront (line_of_work work) mid new → WritesFront (report_of_works works) old new
-line_front works gone work old mid new e lt is told w =
-    let rest = drop (suc (length gone)) works in
-    let total = summary_text (summary_of_works works) in
-    let whole : works ≡ gone ++ work ∷ rest = split_at works (length gone) work lt is ∙ ap (λ (xs : List Work). xs ++ work ∷ rest) (sym e ∙ map-id gone) in
-    front_after (report_of_works works) (flat_map line_of_work gone) (line_of_work work) (flat_map line_of_work rest ++ total) old mid new told
-    (ap (λ (xs : List Work). flat_map line_of_work xs ++ total) whole
-    ∙ ap (λ t. t ++ total) (flat_map-append line_of_work gone (work ∷ rest))
-    ∙ append_assoc (flat_map line_of_work gone) (line_of_work work ++ flat_map line_of_work rest) total
-    ∙ ap (λ t. flat_map line_of_work gone ++ t) (append_assoc (line_of_work work) (flat_map line_of_work rest) total))
-    w
+-- the outcome of a file at a place
+abbrev pub outcome_at : List Outcome → ℕ → Outcome
+outcome_at outcomes place = get_or outcomes place Kept
+
+-- the lines of files, at one of them
+lines_split : (gone : List Noted) (file : Noted) (rest : List Noted) (outcomes : List Outcome) → length gone < length outcomes
+    → lines_of (gone ++ file ∷ rest) outcomes ≡ lines_of gone outcomes ++ (outcome_line file.route.path file.route.target (outcome_at outcomes (length gone)) ++ lines_of rest (drop (suc (length gone)) outcomes))
+lines_split [] file rest [] lt = absurd (omega arith)
+lines_split [] file rest (first ∷ outcomes) lt = refl
+lines_split (x ∷ gone) file rest [] lt = absurd (omega arith)
+lines_split (x ∷ gone) file rest (first ∷ outcomes) lt =
+    ap (λ t. outcome_line x.route.path x.route.target first ++ t) (lines_split gone file rest outcomes (omega arith))
+    ∙ sym (append_assoc (outcome_line x.route.path x.route.target first) (lines_of gone outcomes)
+    (outcome_line file.route.path file.route.target (outcome_at outcomes (length gone)) ++ lines_of rest (drop (suc (length gone)) outcomes)))
+
+-- one line more
+pub line_more : (gone : List Noted) (file : Noted) (outcomes : List Outcome) (place : ℕ) (old mid new : Option Text) → place ≡ length gone → length gone < length outcomes
+    → mid ≡ writing (lines_of gone outcomes) old → new ≡ writing (outcome_line file.route.path file.route.target (outcome_at outcomes place)) mid → new ≡ writing (lines_of (gone ++ file ∷ []) outcomes) old
+line_more gone file outcomes place old mid new at lt told e =
+    let line = outcome_line file.route.path file.route.target (outcome_at outcomes (length gone)) in
+    e ∙ ap (λ n. writing (outcome_line file.route.path file.route.target (outcome_at outcomes n)) mid) at ∙ ap (writing line) told ∙ writing-writing (lines_of gone outcomes) line old
+    ∙ ap (λ t. writing t old) (ap (λ t. lines_of gone outcomes ++ t) (sym (append-nil line)) ∙ sym (lines_split gone file [] outcomes lt))
+
+-- the line of a file in the report
+pub line_front : (noted gone : List Noted) (file : Noted) (outcomes : List Outcome) (place : ℕ) (old mid new : Option Text) → map (λ x. x) gone ≡ take (length gone) noted → length gone < length noted → file ≡ get_or noted (length gone) file
+    → place ≡ length gone → length noted ≡ length outcomes → mid ≡ writing (lines_of gone outcomes) old → WritesFront (outcome_line file.route.path file.route.target (outcome_at outcomes place)) mid new
+    → WritesFront (report_by noted outcomes) old new
+line_front noted gone file outcomes place old mid new e lt is at same told w =
+    let rest = drop (suc (length gone)) noted in
+    let more = lines_of rest (drop (suc (length gone)) outcomes) in
+    let line = outcome_line file.route.path file.route.target (outcome_at outcomes (length gone)) in
+    let total = summary_text (summary_by outcomes) in
+    let whole : noted ≡ gone ++ file ∷ rest = split_at noted (length gone) file lt is ∙ ap (λ (xs : List Noted). xs ++ file ∷ rest) (sym e ∙ map-id gone) in
+    front_after (report_by noted outcomes) (lines_of gone outcomes) line (more ++ total) old mid new told
+    (ap (λ (xs : List Noted). lines_of xs outcomes ++ total) whole
+    ∙ ap (λ t. t ++ total) (lines_split gone file rest outcomes (subst (λ n. length gone < n) same lt))
+    ∙ append_assoc (lines_of gone outcomes) (line ++ more) total
+    ∙ ap (λ t. lines_of gone outcomes ++ t) (append_assoc line more total))
+    (subst (λ n. WritesFront (outcome_line file.route.path file.route.target (outcome_at outcomes n)) mid new) at w)
 
 -- behind all lines stand the totals
-pub totals_told : (works gone : List Work) (summary : Summary) (old mid new : Option Text) → map (λ x. x) gone ≡ works → summary ≡ summary_of_works works → mid ≡ writing (flat_map line_of_work gone) old
-    → new ≡ writing (summary_text summary) mid → new ≡ writing (report_of_works works) old
-totals_told works gone summary old mid new e same told f =
-    f ∙ ap (writing (summary_text summary)) told ∙ writing-writing (flat_map line_of_work gone) (summary_text summary) old
-    ∙ ap (λ (s : Summary). writing (flat_map line_of_work gone ++ summary_text s) old) same
-    ∙ ap (λ (xs : List Work). writing (flat_map line_of_work xs ++ summary_text (summary_of_works works)) old) (sym (map-id gone) ∙ e)
+pub totals_told : (noted gone : List Noted) (outcomes : List Outcome) (summary : Summary) (old mid new : Option Text) → map (λ x. x) gone ≡ noted → summary ≡ summary_by outcomes → mid ≡ writing (lines_of gone outcomes) old
+    → new ≡ writing (summary_text summary) mid → new ≡ writing (report_by noted outcomes) old
+totals_told noted gone outcomes summary old mid new e same told f =
+    f ∙ ap (writing (summary_text summary)) told ∙ writing-writing (lines_of gone outcomes) (summary_text summary) old
+    ∙ ap (λ (s : Summary). writing (lines_of gone outcomes ++ summary_text s) old) same
+    ∙ ap (λ (xs : List Noted). writing (lines_of xs outcomes ++ summary_text (summary_by outcomes)) old) (sym (map-id gone) ∙ e)
 
-pub totals_front : (works gone : List Work) (summary : Summary) (old mid new : Option Text) → map (λ x. x) gone ≡ works → summary ≡ summary_of_works works → mid ≡ writing (flat_map line_of_work gone) old
-    → WritesFront (summary_text summary) mid new → WritesFront (report_of_works works) old new
-totals_front works gone summary old mid new e same told w =
-    front_after (report_of_works works) (flat_map line_of_work gone) (summary_text summary) [] old mid new told
-    (ap (λ (xs : List Work). flat_map line_of_work xs ++ summary_text (summary_of_works works)) (sym e ∙ map-id gone)
-    ∙ ap (λ (s : Summary). flat_map line_of_work gone ++ summary_text s) (sym same)
-    ∙ ap (λ t. flat_map line_of_work gone ++ t) (sym (append-nil (summary_text summary))))
+pub totals_front : (noted gone : List Noted) (outcomes : List Outcome) (summary : Summary) (old mid new : Option Text) → map (λ x. x) gone ≡ noted → summary ≡ summary_by outcomes → mid ≡ writing (lines_of gone outcomes) old
+    → WritesFront (summary_text summary) mid new → WritesFront (report_by noted outcomes) old new
+totals_front noted gone outcomes summary old mid new e same told w =
+    front_after (report_by noted outcomes) (lines_of gone outcomes) (summary_text summary) [] old mid new told
+    (ap (λ (xs : List Noted). lines_of xs outcomes ++ summary_text (summary_by outcomes)) (sym e ∙ map-id gone)
+    ∙ ap (λ (s : Summary). lines_of gone outcomes ++ summary_text s) (sym same)
+    ∙ ap (λ t. lines_of gone outcomes ++ t) (sym (append-nil (summary_text summary))))
     w

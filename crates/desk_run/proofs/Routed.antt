@@ -12,9 +12,9 @@ use Rattle.desk_run.specs.declared.stops.Halt.{Halt}
 use Rattle.desk_run.specs.declared.stops.Halt.TheVariants as halt
 use Rattle.desk_run.specs.Limits.{first_long, is_short, long_answer, most_files, paths_answer}
 use Rattle.desk_run.specs.Halts.{HaltsRouting, HaltsWith}
-use Rattle.desk_run.proofs.Parts.{at_some, if_some}
+use Rattle.desk_batches.proofs.Fronts.{at_some, if_some}
 use Rattle.desk_run.proofs.Sizes.{is_more, not_more}
-use Rattle.desk_run.proofs.Writing.{split_at}
+use Rattle.desk_batches.proofs.Steps.{split_at}
 
 -- a path that is short, with a short target, is passed over
 pub short_more : (target : Text → Text) (gone : List Text) (path : Text) → is_short path ≡ true → is_short (target path) ≡ true → ((rest : List Text) → first_long target (gone ++ rest) ≡ first_long target rest)

@@ -19,7 +19,7 @@ use Rattle.desk_base.specs.Counts.{Rose-earlier}
 use Rattle.desk_ledger.specs.Digests.{HasTaken}
 use Rattle.desk_report.specs.declared.status.Status.{Status}
 use Rattle.desk_report.specs.declared.status.LimitKind.TheVariants.{RuleFiles, RuleSize}
-use Rattle.desk_report.specs.declared.status.Status.TheVariants.{Done, Refusals, Memory, FolderFault, LedgerFault, OutputFault, Usage, NestedRoots, BadRules, Limit, PathClash, NameClash, Stranded, OtherRun}
+use Rattle.desk_report.specs.declared.status.Status.TheVariants.{Done, Refusals, Memory, FolderFault, LedgerFault, OutputFault, Usage, NestedRoots, BadRules, Limit, PathClash, NameClash, Stranded, OtherRun, Moved}
 use Rattle.desk_rules.specs.Files.{Files}
 use Rattle.desk_rules.specs.RuleFiles.{rules_of_files}
 use Rattle.desk_rules.specs.declared.RuleFault.{RuleFault}
@@ -27,12 +27,13 @@ use Rattle.desk_run.specs.declared.rules.Ruled.{Ruled}
 use Rattle.desk_run.specs.declared.rules.Taken.{Taken}
 use Rattle.desk_run.specs.declared.stops.Halt.{Halt}
 use Rattle.desk_run.specs.declared.stops.Halt.TheVariants as halt
-use Rattle.desk_run.specs.Limits.{within, most_rule_files, rule_size, rule_size_answer}
+use Rattle.desk_batches.specs.Notes.{within}
+use Rattle.desk_run.specs.Limits.{most_rule_files, rule_size, rule_size_answer}
 use Rattle.desk_run.specs.Meaning.{adding_files, named_files, digest_entry, with_digest, ruled, ruled_by}
 use Rattle.desk_run.specs.RuleFolders.{Takes, HasTakenAll, Free}
 use Rattle.desk_run.specs.Runs.{AllApart, Misses}
 use Rattle.desk_run.specs.Halts.{HaltsTakingOne, HaltsTaking, HaltsAtRules, HaltsBuilding}
-use Rattle.desk_run.proofs.Parts.{at_some, if_some, dropped_all, taken_all}
+use Rattle.desk_batches.proofs.Fronts.{at_some, if_some, dropped_all, taken_all}
 use Rattle.desk_run.proofs.Sizes.{within_none, rule_large, rule_fits, is_more, not_more}
 
 -- names in order differ
@@ -209,6 +210,7 @@ built_err root told now paths taken f f' (Err h) same listed few all g = by h g 
   by (halt.Answer (PathClash first second)) g = absurd g
   by (halt.Answer (NameClash defined other image)) g = absurd g
   by (halt.Answer (Stranded path held)) g = absurd g
+  by (halt.Answer (Moved path one other)) g = absurd g
   by (halt.Answer (OtherRun kept wanted)) g = absurd g
 
 -- before the first is taken in

@@ -19,11 +19,10 @@ use Rattle.desk_ledger.specs.declared.keeper.Held.{Held}
 use Rattle.desk_ledger.specs.Ledger.{Ledger, Rows}
 use Rattle.desk_file.specs.declared.images.Image.{Image}
 use Rattle.desk_report.specs.declared.lines.Reason.{Reason}
-use Rattle.desk_run.specs.declared.planning.Plan.{Plan}
-use Rattle.desk_run.specs.declared.planning.Plan.TheVariants.{Keep}
 use Rattle.desk_words.specs.Roots.{RootsApart}
 use Rattle.desk_run.specs.Runs.{Run, AllRelative, held_of, targets_of}
-use Rattle.desk_run.specs.Works.{work_of, works_of, fresh, wrote, wrote_plan, logged, logged_plan, files_after, ledger_after}
+use Rattle.desk_batches.specs.Works.{Plan, Keep, fresh, wrote, wrote_plan, logged, logged_plan, files_after, ledger_after}
+use Rattle.desk_run.specs.Works.{work_of, works_of}
 use Rattle.desk_run.specs.Truth.{TrueRows}
 use Rattle.desk_run.proofs.After.{full_apart, plan_spares}
 

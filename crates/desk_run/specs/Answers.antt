@@ -30,12 +30,12 @@ clash_status paths (Some clash) = Some (PathClash (slice_index_or paths clash.fi
 abbrev pub clash_answer : (Text → Text) → List Text → Option Status
 clash_answer target paths = clash_status paths (first_clash (map target paths))
 
--- what stands against the files below a root, by the target of each: that they are too many, that a path is too long, that they have
--- too many bytes, or that two targets clash
-abbrev pub files_answer : Text → (Text → Text) → Contents → Option Status
-files_answer from target m =
+-- what stands against the files below a root, by the target of each and whether it is read whole: that they are too many, that a
+-- path is too long, that one has too many bytes, or that two targets clash
+abbrev pub files_answer : Text → (Text → Text) → (Text → Bool) → Contents → Option Status
+files_answer from target whole m =
     first_of (paths_answer from target (paths_below from m))
-    (first_of (size_answer 0 (files_below from m)) (clash_answer target (paths_below from m)))
+    (first_of (size_answer whole (files_below from m)) (clash_answer target (paths_below from m)))
 
 abbrev pub name_clash_status : (Text → Text) → Option Pair → Option Status
 name_clash_status name None = None
@@ -64,10 +64,10 @@ or_else (Some first) status = first
 
 abbrev pub answer_of_run : Contents → Ledger → Result Run Status → Status
 answer_of_run m l (Err status) = status
-answer_of_run m l (Ok run) = or_else (files_answer run.from run.target m) (or_else (names_answer run.name run.classes) (or_else (other_run run.header l.header) (ending run l.rows (files_below run.from m))))
+answer_of_run m l (Ok run) = or_else (files_answer run.from run.target run.whole m) (or_else (names_answer run.name run.classes) (or_else (other_run run.header l.header) (ending run l.rows (files_below run.from m))))
 
 -- the first that stands of: words without a task; nested roots; too many rule files; a rule file that is
--- too large; bad rules; too many files; a path that is too long; files that are too large; two targets that
+-- too large; bad rules; too many files; a path that is too long; a file that is too large; two targets that
 -- clash; two names of classes that would become one; a class that would be left behind; another run's ledger; files that are refused; and else that all is done
 abbrev pub first_answer : Asked → Contents → Ledger → Status
 first_answer asked m l = answer_of_run m l (run_of_asked asked m)

@@ -7,7 +7,7 @@ use Rattle.desk_base.specs.Counts.{Rose}
 use Rattle.desk_folders.specs.Contents.{Contents, File, files_below}
 use Rattle.desk_ledger.specs.Ledger.{Ledger}
 use Rattle.desk_report.specs.declared.status.Status.{Status}
-use Rattle.desk_report.specs.declared.status.Status.TheVariants.{Done, Refusals, Memory, FolderFault, LedgerFault, OutputFault}
+use Rattle.desk_report.specs.declared.status.Status.TheVariants.{Done, Refusals, Memory, FolderFault, LedgerFault, OutputFault, Moved}
 use Rattle.desk_report.specs.Texts.{fault_text}
 use Rattle.desk_report.specs.Written.{WritesFront, writing}
 use Rattle.desk_file.specs.declared.images.Image.{Image}
@@ -89,6 +89,7 @@ Left asked m0 l0 m l Done = Unit {0}
 Left asked m0 l0 m l Refusals = Unit {0}
 Left asked m0 l0 m l OutputFault = IsOkAnd (run_of_asked asked m0) (λ run. HoldsFiles run m0 l0 m × HoldsRows run m0 l0 l)
 Left asked m0 l0 m l Memory = RemainsSomewhere asked m0 l0 m l
+Left asked m0 l0 m l (Moved path first second) = RemainsSomewhere asked m0 l0 m l
 Left asked m0 l0 m l (FolderFault done) = RemainsAt asked m0 l0 m l done
 Left asked m0 l0 m l (LedgerFault done) = RemainsAt asked m0 l0 m l done
 Left asked m0 l0 m l _ = (m ≡ m0) × (l ≡ l0)

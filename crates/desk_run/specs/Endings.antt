@@ -1,32 +1,40 @@
 -- How a run ends.
-use Rattle.std.specs.Prelude.{All, ◌≡◌, ◌⊎◌, ℕ, List, length, Option, Some, None, Bool, true, false, Result, Ok, Err, IfSome, option_map, map, IsOkAnd}
+use Rattle.std.specs.Prelude.{All, ◌≡◌, ◌≢◌, ◌⊎◌, ◌<◌, ◌^◌, ℕ, List, length, Option, Some, None, Bool, true, false, Result, Ok, Err, IfSome, option_map, map, IsOkAnd}
 use Rattle.desk_base.specs.Names.{Text}
 use Rattle.desk_base.specs.Counts.{Rose}
 use Rattle.desk_folders.specs.Contents.{Contents, File, files_below}
 use Rattle.desk_format.specs.Laws.{IsBytes}
+use Rattle.desk_file.specs.Images.{target}
+use Rattle.desk_file.specs.Treatments.{is_whole}
+use Rattle.desk_graph.specs.declared.scanned.Scanned.{Scanned}
+use Rattle.desk_rules.specs.Rules.{Rules}
+use Rattle.desk_second.specs.Applications.{classes_of}
 use Rattle.desk_second.specs.Second.{AreRules}
 use Rattle.desk_ledger.specs.declared.keeper.Header.{Header}
 use Rattle.desk_ledger.specs.declared.keeper.Row.{Row}
 use Rattle.desk_ledger.specs.Ledger.{Ledger, NoneWaits, with_header}
 use Rattle.desk_report.specs.declared.status.Status.{Status}
-use Rattle.desk_report.specs.declared.status.Status.TheVariants.{Done, Refusals, Memory, FolderFault, LedgerFault, OutputFault, OtherRun}
+use Rattle.desk_report.specs.declared.status.Status.TheVariants.{Done, Refusals, Memory, FolderFault, LedgerFault, OutputFault, OtherRun, Moved}
 use Rattle.desk_report.specs.Written.{WritesFront, writing}
-use Rattle.desk_run.specs.declared.planning.Work.{Work}
+use Rattle.desk_batches.specs.Works.{Work, files_after, ledger_after}
+use Rattle.desk_batches.specs.declared.measured.Measured.{Measured}
+use Rattle.desk_batches.specs.declared.noted.Noted.{Noted}
+use Rattle.desk_batches.specs.declared.noted.Outcome.{Outcome}
+use Rattle.desk_batches.specs.declared.stops.Stop.TheVariants as stop
 use Rattle.desk_words.specs.declared.roots.Roots.{Roots}
-use Rattle.desk_run.specs.declared.files.Input.{Input}
 use Rattle.desk_run.specs.declared.rules.Ruled.{Ruled}
 use Rattle.desk_run.specs.declared.stops.Halt.{Halt}
 use Rattle.desk_run.specs.declared.stops.Halt.TheVariants as halt
 use Rattle.desk_run.specs.Runs.{Run, TargetsApart}
-use Rattle.desk_run.specs.Works.{works_of, files_after, ledger_after}
+use Rattle.desk_run.specs.Works.{works_of}
 use Rattle.desk_run.specs.Truth.{IsOurs}
-use Rattle.desk_run.specs.Reports.{report}
-use Rattle.desk_run.specs.Inputs.{input_of}
-use Rattle.desk_run.specs.declared.stops.Stop.TheVariants as stop
+use Rattle.desk_run.specs.Reports.{ending_by, report, report_by, summary_by, summary_of}
+use Rattle.desk_run.specs.Notes.{IsRead, measured_of}
+use Rattle.desk_run.specs.declared.gather.Gathered.{Gathered}
 use Rattle.desk_run.specs.Stops.{StopsAt, status_of_halt}
 use Rattle.desk_run.specs.Stands.{Unchanged, Between, Within}
-use Rattle.desk_run.specs.Named.{Asked}
-use Rattle.desk_run.specs.Meaning.{run_of, run_of_asked}
+use Rattle.desk_run.specs.Named.{Asked, asked_roots}
+use Rattle.desk_run.specs.Meaning.{header_of, run_of, run_of_asked}
 use Rattle.desk_run.specs.Answers.{files_answer, names_answer, other_run, first_answer, is_answer, AskedCause}
 
 -- where folders and keeper tell their contents
@@ -44,14 +52,31 @@ pub record Tells (f : Option Contents) (k : Option Ledger) (P : Contents → Led
 -- a run whose words and rules are read and against whose files and classes nothing stands
 pub record IsReady (asked : Asked) (m : Contents) (run : Run) : Type 0 where
   pub is : run_of_asked asked m ≡ Ok run
-  pub built : files_answer run.from run.target m ≡ None
+  pub built : files_answer run.from run.target run.whole m ≡ None
   pub names : names_answer run.name run.classes ≡ None
   pub apart : TargetsApart run m
 
--- the files below a root with their targets, none of which stands against a run
-pub record AreInputs (from : Text) (target : Text → Text) (m : Contents) (inputs : List Input) : Type 0 where
-  pub are : inputs ≡ map (input_of target) (files_below from m)
-  pub built : files_answer from target m ≡ None
+-- what was read of the files below a root, against which nothing stands: their sizes and digests, the classes among them, and that
+-- what stands in them are bytes
+pub record AreRead (rules : Rules) (from : Text) (m : Contents) (files : List Measured) (classes : List Scanned) : Type 0 where
+  pub are : files ≡ map (measured_of rules) (files_below from m)
+  pub scanned : classes ≡ classes_of rules (files_below from m)
+  pub bytes : All (λ (file : File). IsBytes file.bytes) (files_below from m)
+  pub built : files_answer from (target rules) (is_whole rules) m ≡ None
+
+-- what was gathered where the folders tell this
+pub record GatheredFrom (names : Roots) (m : Contents) (gathered : Gathered) : Type 0 where
+  pub run : run_of_asked (asked_roots names) m ≡ Ok (run_of names gathered.ruled.value (files_below names.from m))
+  pub files : AreRead gathered.ruled.value.rules names.from m gathered.notes.files.items gathered.notes.scanned.items
+
+-- what was gathered, whatever the folders tell
+pub record HasGathered (names : Roots) (told : Option Contents) (gathered : Gathered) : Type 0 where
+  pub header : gathered.header ≡ header_of names gathered.ruled.value
+  pub are : AreRules gathered.ruled.value.rules
+  pub read : All (IsRead gathered.ruled.value.rules) gathered.notes.files.items
+  pub few : length gathered.notes.files.items < 2 ^ 32
+  pub few_classes : length gathered.notes.scanned.items < 2 ^ 32
+  pub told_of : IfSome told (λ m. GatheredFrom names m gathered)
 
 -- a run by a rule set, whose files are bytes
 pub record RunsOn (run : Run) (m : Contents) : Type 0 where
@@ -111,6 +136,7 @@ Finishes to works f f' k k' Refusals = AllWritten to works f f' k k'
 Finishes to works f f' k k' OutputFault = AllWritten to works f f' k k'
 Finishes to works f f' k k' Memory = SomeWritten to works f f' k k'
 Finishes to works f f' k k' (FolderFault done) = StopsAt stop.Folders to works done f f' k k'
+Finishes to works f f' k k' (Moved path first second) = SomeWritten to works f f' k k'
 Finishes to works f f' k k' (LedgerFault done) = StopsAt stop.Ledger to works done f f' k k'
 Finishes to works f f' k k' _ = ⊥
 
@@ -135,12 +161,14 @@ ReportedOf asked f k o o' Refusals = WhereTold f k (λ m l. IsOkAnd (run_of_aske
 ReportedOf asked f k o o' OutputFault = WhereTold f k (λ m l. IsOkAnd (run_of_asked asked m) (λ run. WritesFront (report run l.rows (files_below run.from m)) o o'))
 ReportedOf asked f k o o' _ = o' ≡ o
 
--- a status has its cause
-abbrev pub HasCauses : Asked → Status → ℕ → ℕ → ℕ → ℕ → ℕ → ℕ → Type 0
-HasCauses asked (FolderFault done) f f' k k' o o' = Rose f f'
-HasCauses asked (LedgerFault done) f f' k k' o o' = Rose k k'
-HasCauses asked OutputFault f f' k k' o o' = Rose o o'
-HasCauses asked status f f' k k' o o' = AskedCause asked status
+-- a status has its cause: the count of what failed rose; or two digests of a file differ, which folders that tell their contents
+-- never give
+abbrev pub HasCauses : Asked → Option Contents → Status → ℕ → ℕ → ℕ → ℕ → ℕ → ℕ → Type 0
+HasCauses asked told (FolderFault done) f f' k k' o o' = Rose f f'
+HasCauses asked told (LedgerFault done) f f' k k' o o' = Rose k k'
+HasCauses asked told OutputFault f f' k k' o o' = Rose o o'
+HasCauses asked told (Moved path first second) f f' k k' o o' = (first ≢ second) × (told ≡ None)
+HasCauses asked told status f f' k k' o o' = AskedCause asked status
 
 -- a run has begun to write, and stands here
 pub record HasBegun (asked : Asked) (m0 : Contents) (l0 : Ledger) (m : Contents) (l : Ledger) (done : ℕ) : Type 0 where
@@ -162,22 +190,31 @@ pub record IsDone (asked : Asked) (m0 : Contents) (l0 : Ledger) (m : Contents) (
   pub runs : RunsOn run m0
   pub stands : Between run m0 l0 m l (length (files_below run.from m0))
 
+-- what became of each file of a run whose files are all done
+pub record IsWritten (asked : Asked) (m0 : Contents) (l0 : Ledger) (m : Contents) (l : Ledger) (noted : List Noted) (outcomes : List Outcome) : Type 0 where
+  pub done : IsDone asked m0 l0 m l
+  pub report_is : report_by noted outcomes ≡ report done.run l0.rows (files_below done.run.from m0)
+  pub totals : summary_by outcomes ≡ summary_of done.run l0.rows (files_below done.run.from m0)
+  pub ends : ending_by outcomes ≡ first_answer asked m0 l0
+
 -- where a run stands at its end
 abbrev pub StandsAfter : Asked → Contents → Ledger → Contents → Ledger → Status → Type 0
 StandsAfter asked m0 l0 m l Done = IsDone asked m0 l0 m l
 StandsAfter asked m0 l0 m l Refusals = IsDone asked m0 l0 m l
 StandsAfter asked m0 l0 m l OutputFault = IsDone asked m0 l0 m l
 StandsAfter asked m0 l0 m l Memory = StandsSomewhere asked m0 l0 m l
+StandsAfter asked m0 l0 m l (Moved path first second) = StandsSomewhere asked m0 l0 m l
 StandsAfter asked m0 l0 m l (FolderFault done) = StandsAt asked m0 l0 m l done
 StandsAfter asked m0 l0 m l (LedgerFault done) = StandsAt asked m0 l0 m l done
 StandsAfter asked m0 l0 m l _ = Unchanged m0 l0 m l 0
 
--- a status that is no fault of the outside and no want of memory
+-- a status that is no fault of the outside, no file that moved and no want of memory
 abbrev pub is_final : Status → Bool
 is_final Memory = false
 is_final (FolderFault done) = false
 is_final (LedgerFault done) = false
 is_final OutputFault = false
+is_final (Moved path first second) = false
 is_final _ = true
 
 -- a status that the report ends with
@@ -187,11 +224,19 @@ IsTold Refusals = Unit {0}
 IsTold OutputFault = Unit {0}
 IsTold _ = ⊥
 
+-- a status before which nothing of a report was written
+abbrev pub IsSilent : Status → Type 0
+IsSilent Done = ⊥
+IsSilent Refusals = ⊥
+IsSilent OutputFault = ⊥
+IsSilent _ = Unit {0}
+
 -- the name that is attached in the end, of a ledger of this name
 abbrev pub NamedBy : Option Text → Option Text → Text → Status → Type 0
 NamedBy old new name Done = new ≡ Some name
 NamedBy old new name Refusals = new ≡ Some name
 NamedBy old new name OutputFault = new ≡ Some name
+NamedBy old new name (Moved path first second) = new ≡ Some name
 NamedBy old new name (OtherRun kept wanted) = new ≡ Some name
 NamedBy old new name Memory = (new ≡ old) ⊎ (new ≡ Some name)
 NamedBy old new name (FolderFault done) = (new ≡ old) ⊎ (new ≡ Some name)

@@ -4,6 +4,7 @@ use Rattle.desk_base.specs.Names.{Text}
 use Rattle.desk_clashes.specs.Clashes.{first_clash}
 use Rattle.desk_base.specs.Counts.{Rose}
 use Rattle.desk_file.specs.Images.{target}
+use Rattle.desk_file.specs.Treatments.{is_whole}
 use Rattle.desk_folders.specs.Contents.{Contents, File, file_at, files_below}
 use Rattle.desk_ledger.specs.declared.keeper.Header.{Header}
 use Rattle.desk_ledger.specs.Ledger.{Ledger, with_header}
@@ -13,11 +14,11 @@ use Rattle.desk_rules.specs.Rules.{Rules}
 use Rattle.desk_rules.specs.declared.RuleFault.{RuleFault}
 use Rattle.desk_words.specs.declared.roots.Roots.{Roots}
 use Rattle.desk_run.specs.Named.{Asked}
-use Rattle.desk_run.specs.declared.files.Input.{Input}
+use Rattle.desk_batches.specs.declared.measured.Measured.{Measured}
 use Rattle.desk_run.specs.declared.stops.Halt.{Halt}
 use Rattle.desk_run.specs.declared.stops.Halt.TheVariants.{Memory, Folders, Ledger as LedgerHalt, Answer}
 use Rattle.desk_run.specs.declared.rules.Ruled.{Ruled}
-use Rattle.desk_run.specs.Limits.{first_long, long_answer, size_answer, rule_size_answer}
+use Rattle.desk_run.specs.Limits.{first_long, long_answer, rule_size_answer}
 use Rattle.desk_run.specs.Meaning.{ruled}
 use Rattle.desk_run.specs.Answers.{clash_status, files_answer, first_answer, other_run, AskedCause}
 use Rattle.desk_run.specs.Truth.{IsOurs}
@@ -70,8 +71,8 @@ HaltsWith answer told f f' (Answer status) = (is_files_status status ≡ true) �
 HaltsWith answer told f f' _ = ⊥
 
 -- at the files below a root
-abbrev pub HaltsAtFiles : Text → (Text → Text) → Option Contents → ℕ → ℕ → Halt → Type 0
-HaltsAtFiles from target = HaltsWith (files_answer from target)
+abbrev pub HaltsAtFiles : Text → (Text → Text) → (Text → Bool) → Option Contents → ℕ → ℕ → Halt → Type 0
+HaltsAtFiles from target whole = HaltsWith (files_answer from target whole)
 
 -- at the first path that is too long
 abbrev pub HaltsRouting : (Text → Text) → List Text → Halt → Type 0
@@ -79,23 +80,15 @@ HaltsRouting target paths Memory = Unit {0}
 HaltsRouting target paths (Answer status) = (is_files_status status ≡ true) × (long_answer (first_long target paths) ≡ Some status)
 HaltsRouting target paths _ = ⊥
 
--- where one file is read, with so many bytes before it
-abbrev pub HaltsReadingOne : Text → ℕ → Text → Option Contents → ℕ → ℕ → Halt → Type 0
-HaltsReadingOne from sum path told f f' Memory = Unit {0}
-HaltsReadingOne from sum path told f f' Folders = Rose f f'
-HaltsReadingOne from sum path told f f' (Answer status) = (is_files_status status ≡ true)
-    × IfSome told (λ m. (more : List File) → size_answer sum (file_at from m path ∷ more) ≡ Some status)
-HaltsReadingOne from sum path told f f' _ = ⊥
-
 -- what stands against files that were read, by their targets
-abbrev pub clash_of : List Input → Option Status
-clash_of inputs = clash_status (map (λ input. input.path) inputs) (first_clash (map (λ input. input.target) inputs))
+abbrev pub clash_of : List Measured → Option Status
+clash_of files = clash_status (map (λ file. file.route.path) files) (first_clash (map (λ file. file.route.target) files))
 
 -- at two of them that clash
-abbrev pub HaltsClashing : List Input → Halt → Type 0
-HaltsClashing inputs Memory = Unit {0}
-HaltsClashing inputs (Answer status) = (is_files_status status ≡ true) × (clash_of inputs ≡ Some status)
-HaltsClashing inputs _ = ⊥
+abbrev pub HaltsClashing : List Measured → Halt → Type 0
+HaltsClashing files Memory = Unit {0}
+HaltsClashing files (Answer status) = (is_files_status status ≡ true) × (clash_of files ≡ Some status)
+HaltsClashing files _ = ⊥
 
 -- where works are planned
 abbrev pub HaltsPlanning : ℕ → ℕ → Halt → Type 0
@@ -129,7 +122,7 @@ NamedAtPlan old new name _ = (new ≡ old) ⊎ (new ≡ Some name)
 -- what stands against a run by the rules of its folder, or by its files
 abbrev pub reading_answer : Roots → Contents → Result Ruled Status → Option Status
 reading_answer names m (Err status) = Some status
-reading_answer names m (Ok ruled) = files_answer names.from (target ruled.rules) m
+reading_answer names m (Ok ruled) = files_answer names.from (target ruled.rules) (is_whole ruled.rules) m
 
 -- a status of the rule folder or of the files
 abbrev pub is_read_status : Status → Bool

@@ -1,6 +1,6 @@
 pub mod Runs
 pub mod Works
-pub mod Inputs
+pub mod Notes
 pub mod Limits
 pub mod Truth
 pub mod Stands

@@ -1,9 +1,10 @@
 -- What a run takes no more of, and what stands against files that pass it.
-use Rattle.std.specs.Prelude.{ℕ, ◌+◌, ◌&&◌, nat_lt, nat_le, List, [], ◌∷◌, length, Option, Some, None, Bool, cond, if◌then◌else◌}
+use Rattle.std.specs.Prelude.{ℕ, ◌&&◌, nat_lt, nat_le, List, [], ◌∷◌, length, Option, Some, None, Bool, cond, if◌then◌else◌}
 use Rattle.desk_base.specs.Limits.{file_size}
 use Rattle.desk_base.specs.Names.{Text}
+use Rattle.desk_batches.specs.Notes.{large_size}
 use Rattle.desk_folders.specs.Contents.{File}
-use Rattle.desk_report.specs.declared.status.LimitKind.TheVariants.{PathLength, FileSize, Sum, RuleFiles, RuleSize, Files}
+use Rattle.desk_report.specs.declared.status.LimitKind.TheVariants.{PathLength, FileSize, RuleFiles, RuleSize, Files}
 use Rattle.desk_report.specs.declared.status.Status.{Status}
 use Rattle.desk_report.specs.declared.status.Status.TheVariants.{Limit}
 
@@ -14,10 +15,6 @@ most_files = 200000
 -- how many bytes a relative path or its target may have
 abbrev pub path_length : ℕ
 path_length = 1024
-
--- how many bytes all files of the source may have together
-abbrev pub sum_size : ℕ
-sum_size = 1073741824
 
 -- how many files the rule folder may have
 abbrev pub most_rule_files : ℕ
@@ -43,18 +40,14 @@ long_answer (Some path) = Some (Limit PathLength path)
 abbrev pub paths_answer : Text → (Text → Text) → List Text → Option Status
 paths_answer from target paths = if nat_lt most_files (length paths) then Some (Limit Files from) else long_answer (first_long target paths)
 
--- what stands against files by their bytes, with so many bytes before them: the first that has too many,
--- or with which they are too many
-abbrev pub size_answer : ℕ → List File → Option Status
-size_answer sum [] = None
-size_answer sum (file ∷ files) =
-    if nat_lt file_size (length file.bytes) then Some (Limit FileSize file.path)
-    else if nat_lt sum_size (sum + length file.bytes) then Some (Limit Sum file.path)
-    else size_answer (sum + length file.bytes) files
+-- how many bytes a file may have, by whether it is read whole: 67,108,864, and 1,099,511,627,776 of any other
+abbrev pub most_size : Bool → ℕ
+most_size whole = cond whole file_size large_size
 
--- a file's bytes where they are within a limit
-abbrev pub within : ℕ → Text → Option Text
-within limit bytes = cond (nat_lt limit (length bytes)) None (Some bytes)
+-- what stands against files by their bytes: the first that has too many
+abbrev pub size_answer : (Text → Bool) → List File → Option Status
+size_answer whole [] = None
+size_answer whole (file ∷ files) = if nat_lt (most_size (whole file.path)) (length file.bytes) then Some (Limit FileSize file.path) else size_answer whole files
 
 -- the first rule file that has too many bytes
 abbrev pub rule_size_answer : List File → Option Status

@@ -7,6 +7,7 @@ use Rattle.desk_base.specs.Names.{Text}
 use Rattle.desk_class.specs.Held.{ascending}
 use Rattle.desk_file.specs.Images.{target}
 use Rattle.desk_file.specs.Linked.{image_in}
+use Rattle.desk_file.specs.Treatments.{is_whole}
 use Rattle.desk_folders.specs.Contents.{Contents, File, files_below}
 use Rattle.desk_graph.specs.Application.{defined_names}
 use Rattle.desk_graph.specs.declared.scanned.Scanned.{Scanned}
@@ -71,6 +72,7 @@ run_over roots r classes = record {
   name = cls r.rules.renames;
   classes = classes;
   target = target r.rules;
+  whole = is_whole r.rules;
   image = image_in r.rules (defined_in classes);
 }
 

@@ -26,15 +26,15 @@ status_of_words Memory = status.Memory
 
 -- `generate` names no roots, and nothing stands against it
 abbrev pub asked_by : Result Order RootsFault → Asked
-asked_by (Ok (order.Run roots)) = Ok roots
-asked_by (Ok (order.Generate count)) = Err status.Done
+asked_by (Ok (order.Run roots workers)) = Ok roots
+asked_by (Ok (order.Generate count workers)) = Err status.Done
 asked_by (Err fault) = Err (status_of_words fault)
 
 abbrev pub asked_of : List Text → Asked
 asked_of words = asked_by (order_of_words words)
 
 abbrev pub UnlessGenerate : Result Order RootsFault → Type 0 → Type 0
-UnlessGenerate (Ok (order.Generate count)) P = Unit {0}
+UnlessGenerate (Ok (order.Generate count workers)) P = Unit {0}
 UnlessGenerate _ P = P
 
 -- of all words but those that ask for a generated application
@@ -42,7 +42,7 @@ abbrev pub OfRun : List Text → Type 0 → Type 0
 OfRun words P = UnlessGenerate (order_of_words words) P
 
 abbrev pub WhereGenerate : Result Order RootsFault → (ℕ → Type 0) → Type 0
-WhereGenerate (Ok (order.Generate count)) P = P count
+WhereGenerate (Ok (order.Generate count workers)) P = P count
 WhereGenerate _ P = Unit {0}
 
 -- of words that ask for a generated application of so many classes

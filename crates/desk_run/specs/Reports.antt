@@ -1,7 +1,10 @@
 -- The report of a run that completes.
-use Rattle.std.specs.Prelude.{ℕ, ◌++◌, List, Bool, true, false, Result, Ok, Err, length, count_by, if◌then◌else◌}
+use Rattle.std.specs.Prelude.{ℕ, ◌++◌, List, [], ◌∷◌, Bool, true, false, Result, Ok, Err, length, count_by, if◌then◌else◌}
 use Rattle.std.specs.List.{flat_map, list_any, sum_by}
 use Rattle.desk_base.specs.Names.{Text}
+use Rattle.desk_batches.specs.declared.noted.Noted.{Noted}
+use Rattle.desk_batches.specs.declared.noted.Outcome.{Outcome}
+use Rattle.desk_batches.specs.declared.noted.Outcome.TheVariants as outcome
 use Rattle.desk_folders.specs.Contents.{File}
 use Rattle.desk_ledger.specs.Ledger.{Rows}
 use Rattle.desk_report.specs.declared.lines.Detail.{Detail}
@@ -13,11 +16,7 @@ use Rattle.desk_report.specs.declared.status.Status.TheVariants.{Done, Refusals}
 use Rattle.desk_report.specs.Texts.{line_text, summary_text}
 use Rattle.desk_file.specs.declared.images.Image.{Image}
 use Rattle.desk_report.specs.declared.lines.Reason.{Reason}
-use Rattle.desk_run.specs.declared.planning.Plan.{Plan}
-use Rattle.desk_run.specs.declared.planning.Plan.TheVariants.{Keep, Leave, Write}
-use Rattle.desk_run.specs.declared.planning.Work.{Work}
 use Rattle.desk_run.specs.Runs.{Run, is_kept_file, is_fresh, is_refused}
-use Rattle.desk_run.specs.Works.{writes, keeps, leaves}
 
 -- the line of a file: kept, or written with what its image is made of, or why it was refused
 abbrev pub file_line : Text → Text → Bool → Result Image Reason → Text
@@ -71,35 +70,55 @@ report run rows files = flat_map (line_of run rows) files ++ summary_text (summa
 abbrev pub ending : Run → Rows → List File → Status
 ending run rows files = if list_any (is_refused run rows) files then Refusals else Done
 
--- the line of a work
-abbrev pub plan_line : Text → Text → Plan → Text
-plan_line path target Keep = line_text (Kept path target)
-plan_line path target (Leave reason) = line_text (Refused path reason)
-plan_line path target (Write found image) = line_text (Written path target image.detail)
+-- ---- by what became of the files
 
-abbrev pub line_of_work : Work → Text
-line_of_work work = plan_line work.path work.target work.plan
+-- the line of a file
+abbrev pub outcome_line : Text → Text → Outcome → Text
+outcome_line path target outcome.Kept = line_text (Kept path target)
+outcome_line path target (outcome.Written detail) = line_text (Written path target detail)
+outcome_line path target (outcome.Refused reason) = line_text (Refused path reason)
 
--- a number of a plan that writes
-abbrev pub number_in_plan : (Detail → ℕ) → Plan → ℕ
-number_in_plan number Keep = 0
-number_in_plan number (Leave reason) = 0
-number_in_plan number (Write found image) = number image.detail
+-- the lines of files, of which these became so
+abbrev pub lines_of : List Noted → List Outcome → Text
+lines_of [] outcomes = []
+lines_of (noted ∷ more) [] = []
+lines_of (noted ∷ more) (outcome ∷ outcomes) = outcome_line noted.route.path noted.route.target outcome ++ lines_of more outcomes
 
--- the totals of works
-abbrev pub summary_of_works : List Work → Summary
-summary_of_works works = record {
-  files = length works;
-  written = count_by (λ work. writes work.plan) works;
-  kept = count_by (λ work. keeps work.plan) works;
-  refused = count_by (λ work. leaves work.plan) works;
-  renamed = sum_by (λ work. number_in_plan renamed_uses work.plan) works;
-  added = sum_by (λ work. number_in_plan added_texts work.plan) works;
+abbrev pub is_written : Outcome → Bool
+is_written outcome.Kept = false
+is_written (outcome.Written detail) = true
+is_written (outcome.Refused reason) = false
+
+abbrev pub was_kept : Outcome → Bool
+was_kept outcome.Kept = true
+was_kept (outcome.Written detail) = false
+was_kept (outcome.Refused reason) = false
+
+abbrev pub was_refused : Outcome → Bool
+was_refused outcome.Kept = false
+was_refused (outcome.Written detail) = false
+was_refused (outcome.Refused reason) = true
+
+-- a number of a file that was written
+abbrev pub number_in : (Detail → ℕ) → Outcome → ℕ
+number_in number outcome.Kept = 0
+number_in number (outcome.Written detail) = number detail
+number_in number (outcome.Refused reason) = 0
+
+-- the totals
+abbrev pub summary_by : List Outcome → Summary
+summary_by outcomes = record {
+  files = length outcomes;
+  written = count_by is_written outcomes;
+  kept = count_by was_kept outcomes;
+  refused = count_by was_refused outcomes;
+  renamed = sum_by (number_in renamed_uses) outcomes;
+  added = sum_by (number_in added_texts) outcomes;
 }
 
-abbrev pub report_of_works : List Work → Text
-report_of_works works = flat_map line_of_work works ++ summary_text (summary_of_works works)
+abbrev pub report_by : List Noted → List Outcome → Text
+report_by noted outcomes = lines_of noted outcomes ++ summary_text (summary_by outcomes)
 
--- how a run ends once its works are done
-abbrev pub ending_of_works : List Work → Status
-ending_of_works works = if list_any (λ work. leaves work.plan) works then Refusals else Done
+-- how a run ends whose files became so
+abbrev pub ending_by : List Outcome → Status
+ending_by outcomes = if list_any was_refused outcomes then Refusals else Done

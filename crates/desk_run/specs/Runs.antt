@@ -15,7 +15,7 @@ use Rattle.desk_file.specs.declared.images.Image.{Image}
 use Rattle.desk_report.specs.declared.lines.Reason.{Reason}
 
 -- the roots of source, target and ledger as they are written, the header, the image of each class name, the classes of the
--- source, and for each path its target and the image of bytes at it, or why they have none
+-- source, and for each path its target, whether the file there is read whole, and the image of bytes at it, or why they have none
 pub record Run : Type 0 where
   pub from : Text
   pub to : Text
@@ -24,6 +24,7 @@ pub record Run : Type 0 where
   pub name : Text → Text
   pub classes : List Scanned
   pub target : Text → Text
+  pub whole : Text → Bool
   pub image : Text → Text → Result Image Reason
 
 -- the row at a file's target has its path and the digest of its bytes

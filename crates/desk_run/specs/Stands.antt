@@ -7,7 +7,8 @@ use Rattle.desk_folders.specs.Contents.{Contents, File, ChangesOnly, files_below
 use Rattle.desk_ledger.specs.Ledger.{Ledger, with_header}
 use Rattle.desk_file.specs.declared.images.Image.{Image}
 use Rattle.desk_run.specs.Runs.{Run, TargetsApart, held_of, is_fresh, is_kept_file}
-use Rattle.desk_run.specs.Works.{work_of, works_of, files_after, ledger_after, cleared, writes}
+use Rattle.desk_batches.specs.Works.{files_after, ledger_after, cleared, writes}
+use Rattle.desk_run.specs.Works.{work_of, works_of}
 use Rattle.desk_run.specs.Truth.{IsOurs, TrueLedger}
 
 -- nothing is changed

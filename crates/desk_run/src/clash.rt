@@ -5,20 +5,20 @@ ghost use Rattle.desk_clashes.specs.Clashes.{first_clash};
 ghost use Rattle.desk_run.specs.Answers.{clash_status};
 ghost use Rattle.desk_run.specs.Halts.{HaltsClashing, clash_of};
 
-use crate::files::Input;
 use crate::stops::Halt;
 use desk_base::{Memory, Text};
+use desk_batches::Measured;
 use desk_clashes::{Clash, Targets};
 use desk_report::Status;
 use std::alloc::Global;
 
 /// The targets of files.
-fn targets_of(alloc: Global, inputs: &[Input]) -> Result<Targets<'_>, Memory>
-    ensures { IfOk result (λ targets. targets ≡ map (λ input. input.target) inputs.now) }
+fn targets_of(alloc: Global, files: &[Measured]) -> Result<Targets<'_>, Memory>
+    ensures { IfOk result (λ targets. targets ≡ map (λ file. file.route.target) files.now) }
 {
     let mut targets = Targets::new(alloc);
-    for input in inputs {
-        targets.push(input.target.as_bytes())?;
+    for file in files {
+        targets.push(file.route.target.as_bytes())?;
     }
     Ok(targets)
 }
@@ -33,16 +33,16 @@ fn path_clash(first: &Text, second: &Text) -> Result<Status, Memory>
 }
 
 /// Refuses files of which two have targets that clash.
-pub(crate) fn refuse_clash(alloc: Global, inputs: &[Input]) -> Result<(), Halt>
-    ensures ok { OnOk result (clash_of inputs.now ≡ None) }
-    ensures err { IfErr result (HaltsClashing inputs.now) }
+pub(crate) fn refuse_clash(alloc: Global, files: &[Measured]) -> Result<(), Halt>
+    ensures ok { OnOk result (clash_of files.now ≡ None) }
+    ensures err { IfErr result (HaltsClashing files.now) }
 {
-    let targets = targets_of(alloc, inputs)?;
+    let targets = targets_of(alloc, files)?;
     match targets.first_clash(alloc)? {
         None => Ok(()),
         Some(Clash { first, second }) => Err(Halt::Answer(path_clash(
-            &inputs[first].path,
-            &inputs[second].path,
+            &files[first].route.path,
+            &files[second].route.path,
         )?)),
     }
 }

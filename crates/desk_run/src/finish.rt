@@ -1,195 +1,318 @@
-//! The two halves of a run: up to the plan, and from it on.
+//! A run up to its end: what is gathered is planned, written and reported.
 
-ghost use Rattle.std.specs.Prelude.{◌≡◌, ◌≤◌, ◌<◌, ◌^◌, true, None, Some, Err, IfOk, IsOkAnd, OnOk, IfErr, IfSome, option_map, IsSome, length, map};
-ghost use Rattle.std.specs.List.{list_any};
-ghost use Rattle.desk_base.specs.Counts.{Rose};
-ghost use Rattle.desk_report.specs.declared.status.Status.TheVariants.{Done};
-ghost use Rattle.desk_ledger.specs.Ledger.{with_header};
-ghost use Rattle.desk_run.specs.Endings.{Committed, Finishes, HaltsEarly, HasCauses, IsAttached, IsTold, Named, NamedEarly, Planned, Reported, ReportedOf, StandsAfter, Tells, WhereTold, is_final};
-ghost use Rattle.desk_run.specs.Halts.{HaltsPlan, NamedAtPlan};
+ghost use Rattle.std.specs.Prelude.{All, ◌≡◌, ◌≤◌, ◌<◌, ◌^◌, true, None, Some, Err, IfOk, IsOkAnd, OnOk, IfErr, IfSome, IsSome, length, map, option_map};
+ghost use Rattle.desk_batches.specs.Notes.{IsNoteOf, IsSound};
+ghost use Rattle.desk_batches.specs.Stops.{HasCause};
+ghost use Rattle.desk_batches.specs.Turns.{outcome_of, works_in};
+ghost use Rattle.desk_batches.specs.Works.{files_after, ledger_after};
 ghost use Rattle.desk_file.specs.Linked.{image_in};
-ghost use Rattle.desk_rename.specs.Images.{cls};
-ghost use Rattle.desk_run.specs.Inputs.{classes_in, work_of_input};
-ghost use Rattle.desk_run.specs.Reports.{ending_of_works, report_of_works, summary_of};
-ghost use Rattle.desk_run.specs.Named.{asked_roots};
-ghost use Rattle.desk_run.specs.Meaning.{defined_in, run_of_asked};
+ghost use Rattle.desk_file.specs.Routes.{IsRouteBy};
 ghost use Rattle.desk_folders.specs.Contents.{files_below};
-ghost use Rattle.desk_words.specs.Roots.{AreRoots, IsPathRoot};
-ghost use Rattle.desk_run.specs.Runs.{AllRelative};
-ghost use Rattle.desk_run.specs.Works.{leaves};
-ghost use Rattle.desk_run.specs.Truth.{IsOurs};
+ghost use Rattle.desk_graph.specs.Graphs.{graph_of};
+ghost use Rattle.desk_ledger.specs.Ledger.{NoneWaits, with_header};
+ghost use Rattle.desk_rename.specs.Images.{cls};
+ghost use Rattle.desk_report.specs.declared.status.Status.TheVariants.{Done};
 ghost use Rattle.desk_run.specs.Answers.{first_answer, names_answer, other_run};
+ghost use Rattle.desk_run.specs.Endings.{Committed, HasCauses, HasGathered, IsSilent, IsTold, IsWritten, Named, Reported, ReportedOf, StandsAfter, Tells, WhereTold, is_final};
+ghost use Rattle.desk_run.specs.Halts.{HaltsPlan, NamedAtPlan};
+ghost use Rattle.desk_run.specs.Meaning.{run_of_asked};
+ghost use Rattle.desk_run.specs.Named.{asked_roots};
+ghost use Rattle.desk_run.specs.Notes.{IsRelativeRoute, measured_in, noted_by};
+ghost use Rattle.desk_run.specs.Reports.{ending_by, report_by, summary_by, summary_of};
+ghost use Rattle.desk_run.specs.Stops.{CommittedBehind, StopsAt};
+ghost use Rattle.desk_run.specs.Truth.{IsOurs};
+ghost use Rattle.desk_batches.specs.Noting.{IsWithin};
+ghost use Rattle.desk_words.specs.Roots.{AreRoots, AreWorkers};
 
-use crate::classes::graph_of_files;
+use crate::classes::build_graph;
 use crate::gather::{Gathered, gather};
 use crate::opening::open_ledger;
-use crate::planning::{Work, plan_works};
-use crate::report::{summary_of, write_report};
+use crate::planning::plan_files;
+use crate::report::{has_refused, summary_of, write_report};
 use crate::stops::{Halt, status_of_halt, status_of_stop};
-use crate::write::write_and_commit;
 use desk_base::{Memory, Text};
+use desk_batches::{Noted, Notes, Outcome, Stopped, write_all};
 use desk_folders::Folders;
+use desk_graph::ClassGraph;
 use desk_ledger::{Header, Keeper};
 use desk_report::{Sink, Status, Summary};
+use desk_rules::RuleSet;
 use desk_words::Roots;
+use desk_workers::Gate;
 use std::alloc::Global;
+use std::thread::Threads;
 
-/// What a run is about to do: the header of its ledger, the root that it writes to, and its works.
-#[derive(Debug, Drop)]
-pub struct Prepared {
-    pub header: Header,
-    pub to: Text,
-    pub works: Vec<Work>,
+/// What a run is about to do: the graph of its classes, and what is known of its files.
+#[derive(Drop)]
+pub struct Prepared<'r> {
+    pub graph: ClassGraph<'r>,
+    pub noted: Vec<Noted>,
 }
 
-/// Looks at the names of the classes, opens the ledger and plans the works.
-fn plan<K: Keeper>(alloc: Global, keeper: &mut K, gathered: Gathered) -> Result<Prepared, Halt>
-    requires { length gathered.inputs.items < 2 ^ 32 }
-    ensures header { IfOk result (λ p. p.header ≡ gathered.header) }
-    ensures to { IfOk result (λ p. p.to ≡ gathered.names.value.to) }
-    ensures works { IfOk result (λ p. IfSome (K.told keeper.old) (λ l. p.works.items ≡ map (work_of_input (image_in gathered.ruled.value.rules (defined_in (classes_in gathered.ruled.value.rules gathered.inputs.items))) l.rows) gathered.inputs.items)) }
-    ensures targets { IfOk result (λ p. map (λ work. work.target) p.works.items ≡ map (λ input. input.target) gathered.inputs.items) }
-    ensures ledger { OnOk result (K.told keeper.new ≡ option_map (with_header gathered.header) (K.told keeper.old)) }
-    ensures ours { OnOk result (IfSome (K.told keeper.old) (λ l. IsOurs gathered.header l.header)) }
-    ensures other { OnOk result (IfSome (K.told keeper.old) (λ l. other_run gathered.header l.header ≡ None)) }
-    ensures attached { OnOk result (K.attached keeper.new ≡ Some gathered.names.value.ledger) }
-    ensures clear { OnOk result (names_answer (cls gathered.ruled.value.rules.renames) (classes_in gathered.ruled.value.rules gathered.inputs.items) ≡ None) }
-    ensures named { IfErr result (NamedAtPlan (K.attached keeper.old) (K.attached keeper.new) gathered.names.value.ledger) }
-    ensures err { IfErr result (HaltsPlan (names_answer (cls gathered.ruled.value.rules.renames) (classes_in gathered.ruled.value.rules gathered.inputs.items)) gathered.header (K.told keeper.old) (K.told keeper.new) (K.faults keeper.old) (K.faults keeper.new)) }
+/// Looks at the names of the classes, opens the ledger and looks up what is to be done with each file.
+fn plan<'r, K: Keeper>(
+    alloc: Global,
+    keeper: &mut K,
+    ledger: &Text,
+    header: &Header,
+    rules: &'r RuleSet,
+    notes: Notes,
+) -> Result<Prepared<'r>, Halt>
+    requires few { length notes.scanned.items < 2 ^ 32 }
+    requires relative { All (λ file. IsRelativeRoute file.route) notes.files.items }
+    requires within { All IsWithin notes.files.items }
+    ensures graph { IfOk result (λ p. p.graph ≡ graph_of rules.entry.now.renames notes.scanned.items) }
+    ensures noted { IfOk result (λ p. IfSome (K.told keeper.old) (λ l. p.noted.items ≡ map (noted_by l.rows) notes.files.items)) }
+    ensures sound { IfOk result (λ p. All IsSound p.noted.items) }
+    ensures measured { IfOk result (λ p. map measured_in p.noted.items ≡ notes.files.items) }
+    ensures ledger { OnOk result (K.told keeper.new ≡ option_map (with_header header.now) (K.told keeper.old)) }
+    ensures ours { OnOk result (IfSome (K.told keeper.old) (λ l. IsOurs header.now l.header)) }
+    ensures other { OnOk result (IfSome (K.told keeper.old) (λ l. other_run header.now l.header ≡ None)) }
+    ensures attached { OnOk result (K.attached keeper.new ≡ Some ledger.now) }
+    ensures clear { OnOk result (names_answer (cls rules.entry.now.renames) notes.scanned.items ≡ None) }
+    ensures named { IfErr result (NamedAtPlan (K.attached keeper.old) (K.attached keeper.new) ledger.now) }
+    ensures err { IfErr result (HaltsPlan (names_answer (cls rules.entry.now.renames) notes.scanned.items) header.now (K.told keeper.old) (K.told keeper.new) (K.faults keeper.old) (K.faults keeper.new)) }
     ensures counts { K.faults keeper.old ≤ K.faults keeper.new }
 {
-    let Gathered {
-        names,
-        ruled,
-        header,
-        inputs,
-    } = gathered;
-    let graph = graph_of_files(alloc, &ruled.rules, &inputs)?;
-    open_ledger(keeper, &names.ledger, &header)?;
-    let works = plan_works(alloc, keeper, &ruled.rules, &graph, inputs)?;
-    let Roots { to, .. } = Box::into_inner(names);
-    Ok(Prepared { header, to, works })
+    let Notes { files, scanned } = notes;
+    let graph = build_graph(alloc, rules, scanned)?;
+    open_ledger(keeper, ledger, header)?;
+    let noted = plan_files(alloc, keeper, files)?;
+    Ok(Prepared { graph, noted })
 }
 
-/// Reads the rules and files of roots, opens the ledger and plans the works.
-pub(crate) fn prepare<F: Folders, K: Keeper>(
+/// How many files were done, of so many.
+fn done_of(written: &Result<Vec<Outcome>, Stopped>, all: usize) -> usize
+    ensures all { OnOk written.now (result ≡ all) }
+    ensures some { IfErr written.now (λ stopped. result ≡ stopped.done) }
+{
+    match written {
+        Ok(_) => all,
+        Err(stopped) => stopped.done,
+    }
+}
+
+/// Writes the files in their order, and then, also behind a stop, the rows that wait: where these can't be
+/// written, that is why the writing stopped.
+fn write_and_commit<R: Threads + Sync, F: Folders, K: Keeper, G: Gate + Sync>(
+    rt: &R,
     alloc: Global,
-    names: Roots,
     folders: &mut F,
     keeper: &mut K,
-) -> Result<Prepared, Halt>
-    requires { AreRoots names }
-    ensures folders { F.told folders.new ≡ F.told folders.old }
-    ensures ledger { IfOk result (λ p. K.told keeper.new ≡ option_map (with_header p.header) (K.told keeper.old)) }
-    ensures planned { IfOk result (λ p. WhereTold (F.told folders.old) (K.told keeper.old) (λ m l. Planned (asked_roots names) m l p.to p.header p.works.items)) }
-    ensures root { IfOk result (λ p. IsPathRoot p.to) }
-    ensures relative { IfOk result (λ p. AllRelative (map (λ work. work.target) p.works.items)) }
-    ensures few { IfOk result (λ p. length p.works.items < 2 ^ 32) }
-    ensures attached { IfOk result (λ _. IsAttached (asked_roots names) (K.attached keeper.new)) }
-    ensures named { IfErr result (NamedEarly (asked_roots names) (K.attached keeper.old) (K.attached keeper.new)) }
-    ensures err { IfErr result (HaltsEarly (asked_roots names) (F.told folders.old) (K.told keeper.old) (K.told keeper.new)
-        (F.faults folders.old) (F.faults folders.new) (K.faults keeper.old) (K.faults keeper.new)) }
+    gate: &G,
+    rules: &RuleSet,
+    graph: &ClassGraph<'_>,
+    names: &Roots,
+    workers: u32,
+    noted: &[Noted],
+) -> Result<Vec<Outcome>, Stopped>
+    requires graph { graph.now.renames ≡ rules.now.renames }
+    requires roots { AreRoots names.now }
+    requires workers { AreWorkers workers }
+    requires few { length noted.now < 2 ^ 32 }
+    requires attached { IsSome (K.attached keeper.old) }
+    requires sound { All IsSound noted.now }
+    requires routes { All (λ one. IsRouteBy rules.now one.route) noted.now }
+    requires notes { IfSome (F.told folders.old) (λ m. All (IsNoteOf names.now.from m) noted.now) }
+    ensures folders { OnOk result (IfSome (F.told folders.old) (λ m. F.told folders.new ≡ option_map (files_after names.now.to (works_in (image_in rules.now graph.now.defined) names.now.from m noted.now)) (F.told folders.old))) }
+    ensures ledger { OnOk result (IfSome (F.told folders.old) (λ m. K.told keeper.new ≡ option_map (ledger_after (works_in (image_in rules.now graph.now.defined) names.now.from m noted.now)) (K.told keeper.old))) }
+    ensures outcomes { IfOk result (λ outcomes. IfSome (F.told folders.old) (λ m. outcomes.items ≡ map outcome_of (works_in (image_in rules.now graph.now.defined) names.now.from m noted.now))) }
+    ensures length { IfOk result (λ outcomes. length outcomes.items ≡ length noted.now) }
+    ensures within { IfErr result (λ stopped. stopped.done ≤ length noted.now) }
+    ensures err { IfErr result (λ stopped. IfSome (F.told folders.old) (λ m. StopsAt stopped.why names.now.to (works_in (image_in rules.now graph.now.defined) names.now.from m noted.now) stopped.done
+        (F.told folders.old) (F.told folders.new) (K.told keeper.old) (K.told keeper.new))) }
+    ensures written { OnOk result (NoneWaits (K.waiting keeper.new)) }
+    ensures behind { IfErr result (λ stopped. CommittedBehind (K.waiting keeper.new) stopped.why) }
+    ensures attached { K.attached keeper.new ≡ K.attached keeper.old }
+    ensures counts_f { F.faults folders.old ≤ F.faults folders.new }
+    ensures counts_k { K.faults keeper.old ≤ K.faults keeper.new }
+    ensures cause { IfErr result (λ stopped. HasCause (F.told folders.old) stopped.why (F.faults folders.old) (F.faults folders.new) (K.faults keeper.old) (K.faults keeper.new)) }
+{
+    let written = write_all(
+        rt,
+        alloc,
+        folders,
+        keeper,
+        gate,
+        rules,
+        graph,
+        &names.from,
+        &names.to,
+        workers,
+        noted,
+    );
+    match keeper.commit() {
+        Ok(()) => written,
+        Err(fault) => Err(Stopped {
+            why: fault.into(),
+            done: done_of(&written, noted.len()),
+        }),
+    }
+}
+
+/// The files of a run that are done, and what became of each.
+#[derive(Drop)]
+pub struct Written {
+    pub noted: Vec<Noted>,
+    pub outcomes: Vec<Outcome>,
+}
+
+/// Plans and writes what was gathered: what became of each file, or how the run ends before its report.
+fn write_gathered<R: Threads + Sync, F: Folders, K: Keeper, G: Gate + Sync>(
+    rt: &R,
+    alloc: Global,
+    folders: &mut F,
+    keeper: &mut K,
+    gate: &G,
+    names: &Roots,
+    workers: u32,
+    gathered: Gathered,
+) -> Result<Written, Status>
+    requires roots { AreRoots names.now }
+    requires workers { AreWorkers workers }
+    requires gathered { HasGathered names.now (F.told folders.old) gathered }
+    ensures written { IfOk result (λ w. WhereTold (F.told folders.old) (K.told keeper.old) (λ m0 l0. Tells (F.told folders.new) (K.told keeper.new) (λ m l. IsWritten (asked_roots names.now) m0 l0 m l w.noted.items w.outcomes.items))) }
+    ensures few { IfOk result (λ w. length w.outcomes.items < 2 ^ 32) }
+    ensures same { IfOk result (λ w. length w.noted.items ≡ length w.outcomes.items) }
+    ensures committed { OnOk result (NoneWaits (K.waiting keeper.new)) }
+    ensures attached { OnOk result (K.attached keeper.new ≡ Some names.now.ledger) }
+    ensures stopped { IfErr result (λ s. WhereTold (F.told folders.old) (K.told keeper.old) (λ m0 l0. Tells (F.told folders.new) (K.told keeper.new) (λ m l. StandsAfter (asked_roots names.now) m0 l0 m l s))) }
+    ensures first { IfErr result (λ s. WhereTold (F.told folders.old) (K.told keeper.old) (λ m l. is_final s ≡ true → s ≡ first_answer (asked_roots names.now) m l)) }
+    ensures silent { IfErr result IsSilent }
+    ensures named { IfErr result (Named (asked_roots names.now) (K.attached keeper.old) (K.attached keeper.new)) }
+    ensures causes { IfErr result (λ s. HasCauses (asked_roots names.now) (F.told folders.old) s (F.faults folders.old) (F.faults folders.new) (K.faults keeper.old) (K.faults keeper.new) 0 0) }
     ensures counts_f { F.faults folders.old ≤ F.faults folders.new }
     ensures counts_k { K.faults keeper.old ≤ K.faults keeper.new }
 {
-    plan(alloc, keeper, gather(alloc, names, folders)?)
+    let Gathered {
+        ruled,
+        header,
+        notes,
+    } = gathered;
+    let Prepared { graph, noted } = match plan(
+        alloc,
+        keeper,
+        &names.ledger,
+        &header,
+        &ruled.rules,
+        notes,
+    ) {
+        Ok(prepared) => prepared,
+        Err(halt) => return Err(status_of_halt(halt)),
+    };
+    match write_and_commit(
+        rt,
+        alloc,
+        folders,
+        keeper,
+        gate,
+        &ruled.rules,
+        &graph,
+        names,
+        workers,
+        &noted,
+    ) {
+        Ok(outcomes) => Ok(Written { noted, outcomes }),
+        Err(stopped) => Err(status_of_stop(stopped.why, stopped.done as u32)),
+    }
 }
 
-/// Whether a file is left alone.
-fn has_left(works: &[Work]) -> bool
-    ensures { result ≡ list_any (λ work. leaves work.plan) works.now }
+/// Reads the rules and files of roots, opens the ledger, and writes the files: what became of each, or how the run ends before
+/// its report.
+fn write_files<R: Threads + Sync, F: Folders, K: Keeper, G: Gate + Sync>(
+    rt: &R,
+    alloc: Global,
+    folders: &mut F,
+    keeper: &mut K,
+    gate: &G,
+    names: &Roots,
+    workers: u32,
+) -> Result<Written, Status>
+    requires roots { AreRoots names.now }
+    requires workers { AreWorkers workers }
+    ensures written { IfOk result (λ w. WhereTold (F.told folders.old) (K.told keeper.old) (λ m0 l0. Tells (F.told folders.new) (K.told keeper.new) (λ m l. IsWritten (asked_roots names.now) m0 l0 m l w.noted.items w.outcomes.items))) }
+    ensures few { IfOk result (λ w. length w.outcomes.items < 2 ^ 32) }
+    ensures same { IfOk result (λ w. length w.noted.items ≡ length w.outcomes.items) }
+    ensures committed { OnOk result (NoneWaits (K.waiting keeper.new)) }
+    ensures attached { OnOk result (K.attached keeper.new ≡ Some names.now.ledger) }
+    ensures stopped { IfErr result (λ s. WhereTold (F.told folders.old) (K.told keeper.old) (λ m0 l0. Tells (F.told folders.new) (K.told keeper.new) (λ m l. StandsAfter (asked_roots names.now) m0 l0 m l s))) }
+    ensures first { IfErr result (λ s. WhereTold (F.told folders.old) (K.told keeper.old) (λ m l. is_final s ≡ true → s ≡ first_answer (asked_roots names.now) m l)) }
+    ensures silent { IfErr result IsSilent }
+    ensures named { IfErr result (Named (asked_roots names.now) (K.attached keeper.old) (K.attached keeper.new)) }
+    ensures causes { IfErr result (λ s. HasCauses (asked_roots names.now) (F.told folders.old) s (F.faults folders.old) (F.faults folders.new) (K.faults keeper.old) (K.faults keeper.new) 0 0) }
+    ensures counts_f { F.faults folders.old ≤ F.faults folders.new }
+    ensures counts_k { K.faults keeper.old ≤ K.faults keeper.new }
 {
-    works.iter().any(|work| work.plan.leaves())
+    match gather(rt, alloc, folders, gate, names, workers) {
+        Ok(gathered) => write_gathered(rt, alloc, folders, keeper, gate, names, workers, gathered),
+        Err(halt) => Err(status_of_halt(halt)),
+    }
 }
 
-/// Reports what was done.
-fn tell<O: Sink>(out: &mut O, works: Vec<Work>) -> Status
-    requires { length works.items < 2 ^ 32 }
-    ensures output { Reported (report_of_works works.items) (O.told out.old) (O.told out.new) result }
+/// Reports what became of the files.
+fn tell<O: Sink>(out: &mut O, written: Written) -> Status
+    requires few { length written.outcomes.items < 2 ^ 32 }
+    requires same { length written.noted.items ≡ length written.outcomes.items }
+    ensures output { Reported (report_by written.noted.items written.outcomes.items) (O.told out.old) (O.told out.new) result }
     ensures only { IsTold result }
-    ensures ends { is_final result ≡ true → result ≡ ending_of_works works.items }
-    ensures cause { HasCauses (Err Done) result 0 0 0 0 (O.faults out.old) (O.faults out.new) }
+    ensures ends { is_final result ≡ true → result ≡ ending_by written.outcomes.items }
+    ensures cause { HasCauses (Err Done) None result 0 0 0 0 (O.faults out.old) (O.faults out.new) }
     ensures counts { O.faults out.old ≤ O.faults out.new }
 {
-    let left = has_left(&works);
-    match write_report(out, works) {
-        Ok(()) if left => Status::Refusals,
+    let Written { noted, outcomes } = written;
+    let refused = has_refused(&outcomes);
+    match write_report(out, noted, &outcomes) {
+        Ok(()) if refused => Status::Refusals,
         Ok(()) => Status::Done,
         Err(_) => Status::OutputFault,
     }
 }
 
-/// Writes the files and the rows, and only then the report.
-pub(crate) fn finish<F: Folders, K: Keeper, O: Sink>(
-    alloc: Global,
-    folders: &mut F,
-    keeper: &mut K,
-    out: &mut O,
-    prepared: Prepared,
-) -> Status
-    requires attached { IsSome (K.attached keeper.old) }
-    requires root { IsPathRoot prepared.to }
-    requires relative { AllRelative (map (λ work. work.target) prepared.works.items) }
-    requires few { length prepared.works.items < 2 ^ 32 }
-    ensures finishes { Finishes prepared.to prepared.works.items (F.told folders.old) (F.told folders.new) (K.told keeper.old) (K.told keeper.new) result }
-    ensures ends { is_final result ≡ true → result ≡ ending_of_works prepared.works.items }
-    ensures output { Reported (report_of_works prepared.works.items) (O.told out.old) (O.told out.new) result }
-    ensures committed { Committed (K.waiting keeper.new) result }
-    ensures attached { K.attached keeper.new ≡ K.attached keeper.old }
-    ensures causes { HasCauses (Err Done) result (F.faults folders.old) (F.faults folders.new) (K.faults keeper.old) (K.faults keeper.new) (O.faults out.old) (O.faults out.new) }
-    ensures counts_f { F.faults folders.old ≤ F.faults folders.new }
-    ensures counts_k { K.faults keeper.old ≤ K.faults keeper.new }
-    ensures counts_o { O.faults out.old ≤ O.faults out.new }
-{
-    let Prepared { to, works, .. } = prepared;
-    match write_and_commit(alloc, folders, keeper, &to, &works) {
-        Ok(()) => tell(out, works),
-        Err(stopped) => status_of_stop(stopped.why, stopped.done),
-    }
-}
-
 /// A run over roots up to its end, without the line of a fault.
-pub(crate) fn run<F: Folders, K: Keeper, O: Sink>(
+pub(crate) fn run<R: Threads + Sync, F: Folders, K: Keeper, O: Sink, G: Gate + Sync>(
+    rt: &R,
     alloc: Global,
-    names: Roots,
+    names: &Roots,
+    workers: u32,
     folders: &mut F,
     keeper: &mut K,
     out: &mut O,
+    gate: &G,
 ) -> Status
-    requires { AreRoots names }
-    ensures stands { WhereTold (F.told folders.old) (K.told keeper.old) (λ m0 l0. Tells (F.told folders.new) (K.told keeper.new) (λ m l. StandsAfter (asked_roots names) m0 l0 m l result)) }
-    ensures first { WhereTold (F.told folders.old) (K.told keeper.old) (λ m l. is_final result ≡ true → result ≡ first_answer (asked_roots names) m l) }
-    ensures output { ReportedOf (asked_roots names) (F.told folders.old) (K.told keeper.old) (O.told out.old) (O.told out.new) result }
-    ensures named { Named (asked_roots names) (K.attached keeper.old) (K.attached keeper.new) result }
+    requires roots { AreRoots names.now }
+    requires workers { AreWorkers workers }
+    ensures stands { WhereTold (F.told folders.old) (K.told keeper.old) (λ m0 l0. Tells (F.told folders.new) (K.told keeper.new) (λ m l. StandsAfter (asked_roots names.now) m0 l0 m l result)) }
+    ensures first { WhereTold (F.told folders.old) (K.told keeper.old) (λ m l. is_final result ≡ true → result ≡ first_answer (asked_roots names.now) m l) }
+    ensures output { ReportedOf (asked_roots names.now) (F.told folders.old) (K.told keeper.old) (O.told out.old) (O.told out.new) result }
+    ensures named { Named (asked_roots names.now) (K.attached keeper.old) (K.attached keeper.new) result }
     ensures committed { Committed (K.waiting keeper.new) result }
-    ensures causes { HasCauses (asked_roots names) result (F.faults folders.old) (F.faults folders.new) (K.faults keeper.old) (K.faults keeper.new) (O.faults out.old) (O.faults out.new) }
+    ensures causes { HasCauses (asked_roots names.now) (F.told folders.old) result (F.faults folders.old) (F.faults folders.new) (K.faults keeper.old) (K.faults keeper.new) (O.faults out.old) (O.faults out.new) }
     ensures counts_f { F.faults folders.old ≤ F.faults folders.new }
     ensures counts_k { K.faults keeper.old ≤ K.faults keeper.new }
     ensures counts_o { O.faults out.old ≤ O.faults out.new }
 {
-    match prepare(alloc, names, folders, keeper) {
-        Ok(prepared) => finish(alloc, folders, keeper, out, prepared),
-        Err(halt) => status_of_halt(halt),
+    match write_files(rt, alloc, folders, keeper, gate, names, workers) {
+        Ok(written) => tell(out, written),
+        Err(status) => status,
     }
 }
 
 /// The totals of a run over roots that completes; want of memory of any other.
-pub(crate) fn totals_of_run<F: Folders, K: Keeper>(
+pub(crate) fn totals_of_run<R: Threads + Sync, F: Folders, K: Keeper, G: Gate + Sync>(
+    rt: &R,
     alloc: Global,
-    names: Roots,
+    names: &Roots,
+    workers: u32,
     folders: &mut F,
     keeper: &mut K,
+    gate: &G,
 ) -> Result<Summary, Memory>
-    requires { AreRoots names }
-    ensures { IfOk result (λ totals. WhereTold (F.told folders.old) (K.told keeper.old) (λ m l. IsOkAnd (run_of_asked (asked_roots names) m) (λ run. totals ≡ summary_of run l.rows (files_below run.from m)))) }
+    requires roots { AreRoots names.now }
+    requires workers { AreWorkers workers }
+    ensures { IfOk result (λ totals. WhereTold (F.told folders.old) (K.told keeper.old) (λ m l. IsOkAnd (run_of_asked (asked_roots names.now) m) (λ run. totals ≡ summary_of run l.rows (files_below run.from m)))) }
 {
-    match prepare(alloc, names, folders, keeper) {
-        Ok(Prepared { to, works, .. }) => {
-            match write_and_commit(alloc, folders, keeper, &to, &works) {
-                Ok(()) => Ok(summary_of(&works)),
-                Err(_) => Err(Memory),
-            }
-        }
+    match write_files(rt, alloc, folders, keeper, gate, names, workers) {
+        Ok(written) => Ok(summary_of(&written.outcomes)),
         Err(_) => Err(Memory),
     }
 }

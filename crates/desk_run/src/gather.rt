@@ -1,37 +1,36 @@
-//! What a run goes by: its roots, its rules and its files, read before the ledger is opened.
+//! What a run goes by: its rules and what was read of its files, before the ledger is opened.
 
-ghost use Rattle.std.specs.Prelude.{All, ◌≡◌, ◌≤◌, ◌<◌, ◌^◌, Ok, IfOk, IfErr, IfSome, length, map};
-ghost use Rattle.desk_format.specs.Laws.{IsBytes};
-ghost use Rattle.desk_second.specs.Second.{AreRules};
-ghost use Rattle.desk_base.specs.Counts.{Rose};
-ghost use Rattle.desk_folders.specs.Contents.{files_below};
-ghost use Rattle.desk_run.specs.Endings.{AreInputs};
-ghost use Rattle.desk_run.specs.Halts.{HaltsAtFiles, HaltsGathering, HaltsReadingAll};
+ghost use Rattle.std.specs.Prelude.{All, ◌≡◌, ◌≤◌, ◌<◌, ◌^◌, Ok, IfOk, IfErr, IfSome, length};
 ghost use Rattle.desk_file.specs.Images.{target};
-ghost use Rattle.desk_run.specs.Meaning.{header_of, ruled, run_of, run_of_asked};
-ghost use Rattle.desk_words.specs.Roots.{AreRoots};
+ghost use Rattle.desk_file.specs.Treatments.{is_whole};
+ghost use Rattle.desk_folders.specs.Contents.{files_below};
+ghost use Rattle.desk_run.specs.Endings.{AreRead, HasGathered};
+ghost use Rattle.desk_run.specs.Halts.{HaltsAtFiles, HaltsGathering, HaltsReadingAll};
+ghost use Rattle.desk_run.specs.Meaning.{header_of, ruled};
 ghost use Rattle.desk_run.specs.Named.{asked_roots};
-ghost use Rattle.desk_run.specs.Runs.{AllRelative};
+ghost use Rattle.desk_run.specs.Notes.{IsRead};
+ghost use Rattle.desk_second.specs.Second.{AreRules};
+ghost use Rattle.desk_words.specs.Roots.{AreRoots, AreWorkers};
 
 use crate::clash::refuse_clash;
-use crate::files::Input;
 use crate::listing::list_routes;
-use crate::reading::read_all;
 use crate::rules::{Ruled, read_rules};
 use crate::stops::Halt;
-use desk_base::{Memory, Text};
+use desk_base::Memory;
+use desk_batches::{Notes, note_all};
 use desk_folders::Folders;
 use desk_ledger::Header;
 use desk_words::Roots;
+use desk_workers::Gate;
 use std::alloc::Global;
+use std::thread::Threads;
 
-/// What a run goes by: its roots, its rules, its header, and its files.
+/// What a run goes by: its rules, its header, and what was read of its files.
 #[derive(Drop)]
-pub(crate) struct Gathered {
-    pub(crate) names: Box<Roots>,
-    pub(crate) ruled: Box<Ruled>,
-    pub(crate) header: Header,
-    pub(crate) inputs: Vec<Input>,
+pub struct Gathered {
+    pub ruled: Box<Ruled>,
+    pub header: Header,
+    pub notes: Notes,
 }
 
 /// The header of a run.
@@ -47,77 +46,79 @@ fn make_header(names: &Roots, ruled: &Ruled) -> Result<Header, Memory>
     })
 }
 
-/// Reads the files of a run, or finds what stands against them.
-fn read_inputs<F: Folders>(
+/// Reads the files of a run for the first time, or finds what stands against them.
+fn read_files<R: Threads + Sync, F: Folders, G: Gate + Sync>(
+    rt: &R,
     alloc: Global,
     folders: &mut F,
+    gate: &G,
     names: &Roots,
     ruled: &Ruled,
-) -> Result<Vec<Input>, Halt>
-    requires { AreRoots names.now }
+    workers: u32,
+) -> Result<Notes, Halt>
+    requires roots { AreRoots names.now }
+    requires workers { AreWorkers workers }
     ensures told { F.told folders.new ≡ F.told folders.old }
-    ensures inputs { IfOk result (λ inputs. IfSome (F.told folders.old) (λ m. AreInputs names.now.from (target ruled.now.rules) m inputs.items)) }
-    ensures relative { IfOk result (λ inputs. AllRelative (map (λ input. input.target) inputs.items)) }
-    ensures few { IfOk result (λ inputs. length inputs.items < 2 ^ 32) }
-    ensures err { IfErr result (HaltsAtFiles names.now.from (target ruled.now.rules) (F.told folders.old) (F.faults folders.old) (F.faults folders.new)) }
+    ensures notes { IfOk result (λ notes. IfSome (F.told folders.old) (λ m. AreRead ruled.now.rules names.now.from m notes.files.items notes.scanned.items)) }
+    ensures read { IfOk result (λ notes. All (IsRead ruled.now.rules) notes.files.items) }
+    ensures few { IfOk result (λ notes. length notes.files.items < 2 ^ 32) }
+    ensures few_classes { IfOk result (λ notes. length notes.scanned.items < 2 ^ 32) }
+    ensures err { IfErr result (HaltsAtFiles names.now.from (target ruled.now.rules) (is_whole ruled.now.rules) (F.told folders.old) (F.faults folders.old) (F.faults folders.new)) }
     ensures counts { F.faults folders.old ≤ F.faults folders.new }
-    ensures bytes { IfOk result (λ inputs. All (λ input. IsBytes input.bytes) inputs.items) }
 {
     let routes = list_routes(alloc, folders, &ruled.rules, &names.from)?;
-    let inputs = read_all(alloc, folders, &names.from, routes)?;
-    refuse_clash(alloc, &inputs)?;
-    Ok(inputs)
+    let notes = note_all(rt, alloc, folders, gate, &names.from, workers, routes)?;
+    refuse_clash(alloc, &notes.files)?;
+    Ok(notes)
 }
 
-/// Reads rules and files.
-fn gather_by<F: Folders>(
+/// Reads the rules and files of roots, or finds what stands against them.
+fn gather_by<R: Threads + Sync, F: Folders, G: Gate + Sync>(
+    rt: &R,
     alloc: Global,
     folders: &mut F,
-    names: Box<Roots>,
+    gate: &G,
+    names: &Roots,
+    workers: u32,
 ) -> Result<Gathered, Halt>
-    requires { AreRoots names.value }
+    requires roots { AreRoots names.now }
+    requires workers { AreWorkers workers }
     ensures told { F.told folders.new ≡ F.told folders.old }
-    ensures names { IfOk result (λ g. g.names.value ≡ names.value) }
-    ensures header { IfOk result (λ g. g.header ≡ header_of names.value g.ruled.value) }
-    ensures rules { IfOk result (λ g. IfSome (F.told folders.old) (λ m. ruled names.value.rules (files_below names.value.rules m) ≡ Ok g.ruled.value)) }
-    ensures inputs { IfOk result (λ g. IfSome (F.told folders.old) (λ m. AreInputs names.value.from (target g.ruled.value.rules) m g.inputs.items)) }
-    ensures relative { IfOk result (λ g. AllRelative (map (λ input. input.target) g.inputs.items)) }
-    ensures few { IfOk result (λ g. length g.inputs.items < 2 ^ 32) }
-    ensures err { IfErr result (HaltsReadingAll names.value (F.told folders.old) (F.faults folders.old) (F.faults folders.new)) }
-    ensures counts { F.faults folders.old ≤ F.faults folders.new }
-    ensures bytes { IfOk result (λ g. All (λ input. IsBytes input.bytes) g.inputs.items) }
+    ensures header { IfOk result (λ g. g.header ≡ header_of names.now g.ruled.value) }
+    ensures rules { IfOk result (λ g. IfSome (F.told folders.old) (λ m. ruled names.now.rules (files_below names.now.rules m) ≡ Ok g.ruled.value)) }
     ensures are { IfOk result (λ g. AreRules g.ruled.value.rules) }
+    ensures notes { IfOk result (λ g. IfSome (F.told folders.old) (λ m. AreRead g.ruled.value.rules names.now.from m g.notes.files.items g.notes.scanned.items)) }
+    ensures read { IfOk result (λ g. All (IsRead g.ruled.value.rules) g.notes.files.items) }
+    ensures few { IfOk result (λ g. length g.notes.files.items < 2 ^ 32) }
+    ensures few_classes { IfOk result (λ g. length g.notes.scanned.items < 2 ^ 32) }
+    ensures err { IfErr result (HaltsReadingAll names.now (F.told folders.old) (F.faults folders.old) (F.faults folders.new)) }
+    ensures counts { F.faults folders.old ≤ F.faults folders.new }
 {
     let ruled = read_rules(alloc, folders, &names.rules)?;
-    let header = make_header(&names, &ruled)?;
-    let inputs = read_inputs(alloc, folders, &names, &ruled)?;
+    let header = make_header(names, &ruled)?;
+    let notes = read_files(rt, alloc, folders, gate, names, &ruled, workers)?;
     Ok(Gathered {
-        names,
         ruled,
         header,
-        inputs,
+        notes,
     })
 }
 
 /// Reads the rules and files of roots.
-pub(crate) fn gather<F: Folders>(
+pub(crate) fn gather<R: Threads + Sync, F: Folders, G: Gate + Sync>(
+    rt: &R,
     alloc: Global,
-    names: Roots,
     folders: &mut F,
+    gate: &G,
+    names: &Roots,
+    workers: u32,
 ) -> Result<Gathered, Halt>
-    requires { AreRoots names }
+    requires roots { AreRoots names.now }
+    requires workers { AreWorkers workers }
     ensures told { F.told folders.new ≡ F.told folders.old }
-    ensures names { IfOk result (λ g. asked_roots names ≡ Ok g.names.value) }
-    ensures sound { IfOk result (λ g. AreRoots g.names.value) }
-    ensures header { IfOk result (λ g. g.header ≡ header_of g.names.value g.ruled.value) }
-    ensures run { IfOk result (λ g. IfSome (F.told folders.old) (λ m. run_of_asked (asked_roots names) m ≡ Ok (run_of g.names.value g.ruled.value (files_below g.names.value.from m)))) }
-    ensures inputs { IfOk result (λ g. IfSome (F.told folders.old) (λ m. AreInputs g.names.value.from (target g.ruled.value.rules) m g.inputs.items)) }
-    ensures relative { IfOk result (λ g. AllRelative (map (λ input. input.target) g.inputs.items)) }
-    ensures few { IfOk result (λ g. length g.inputs.items < 2 ^ 32) }
-    ensures err { IfErr result (HaltsGathering (asked_roots names) (F.told folders.old) (F.faults folders.old) (F.faults folders.new)) }
+    ensures gathered { IfOk result (HasGathered names.now (F.told folders.old)) }
+    ensures err { IfErr result (HaltsGathering (asked_roots names.now) (F.told folders.old) (F.faults folders.old) (F.faults folders.new)) }
     ensures counts { F.faults folders.old ≤ F.faults folders.new }
-    ensures bytes { IfOk result (λ g. All (λ input. IsBytes input.bytes) g.inputs.items) }
-    ensures are { IfOk result (λ g. AreRules g.ruled.value.rules) }
 {
-    gather_by(alloc, folders, Box::new(alloc, names)?)
+    gather_by(rt, alloc, folders, gate, names, workers)
 }

@@ -1,21 +1,24 @@
 //! A run over a generated application, in folders and with a ledger of its own.
 
-ghost use Rattle.std.specs.Prelude.{◌≡◌, ◌≤◌, true, Err, Ok, IfOk, map};
+ghost use Rattle.std.specs.Prelude.{◌≡◌, ◌≤◌, true, None, Err, Ok, IfOk, map};
 ghost use Rattle.std.specs.List.{list_all};
 ghost use Rattle.desk_base.specs.Paths.{is_full_path};
 ghost use Rattle.desk_report.specs.declared.status.Status.TheVariants.{Done};
 ghost use Rattle.desk_run.specs.Endings.{HasCauses};
+ghost use Rattle.desk_words.specs.Roots.{AreWorkers};
 ghost use Rattle.desk_run.specs.Generated.{TellsTotals, generated_files, generated_roots, generated_totals, placed};
 
 use crate::finish::totals_of_run;
-use crate::sources::full_path;
 use desk_base::{Memory, Text};
+use desk_batches::full_path;
 use desk_folders::{GenFile, MemoryFolders};
 use desk_gen::{generate, rule_file};
 use desk_ledger::MemoryKeeper;
 use desk_report::{Sink, Status, Summary, write_summary};
 use desk_words::Roots;
+use desk_workers::Gate;
 use std::alloc::Global;
+use std::thread::Threads;
 
 /// The roots of the run.
 fn roots_in_memory(alloc: Global) -> Result<Roots, Memory>
@@ -69,27 +72,42 @@ fn files_in_memory(alloc: Global, roots: &Roots, count: u32) -> Result<Vec<GenFi
     }
 }
 
-/// The totals of the run over a generated application of so many classes.
-fn totals(alloc: Global, count: u32) -> Result<Summary, Memory>
+/// The totals of the run over a generated application of so many classes, by so many workers.
+fn totals<R: Threads + Sync, G: Gate + Sync>(
+    rt: &R,
+    alloc: Global,
+    count: u32,
+    workers: u32,
+    gate: &G,
+) -> Result<Summary, Memory>
+    requires { AreWorkers workers }
     ensures { IfOk result (λ totals. generated_totals count ≡ Ok totals) }
 {
     let roots = roots_in_memory(alloc)?;
     let files = files_in_memory(alloc, &roots, count)?;
     let mut folders = MemoryFolders::new(alloc, files, Vec::new(alloc))?;
     let mut keeper = MemoryKeeper::new(alloc, Vec::new(alloc))?;
-    totals_of_run(alloc, roots, &mut folders, &mut keeper)
+    totals_of_run(rt, alloc, &roots, workers, &mut folders, &mut keeper, gate)
 }
 
-/// Runs over a generated application of so many classes, in folders and with a ledger in memory, and
+/// Runs over a generated application of so many classes by so many workers, in folders and with a ledger in memory, and
 /// writes the line of the totals alone.
 ///
 /// The statuses: `Done`; `OutputFault` where the line could not be written; `Memory`.
-pub(crate) fn run_generated<O: Sink>(alloc: Global, count: u32, out: &mut O) -> Status
+pub(crate) fn run_generated<R: Threads + Sync, O: Sink, G: Gate + Sync>(
+    rt: &R,
+    alloc: Global,
+    count: u32,
+    workers: u32,
+    out: &mut O,
+    gate: &G,
+) -> Status
+    requires { AreWorkers workers }
     ensures told { TellsTotals count (O.told out.old) (O.told out.new) result }
-    ensures causes { HasCauses (Err Done) result 0 0 0 0 (O.faults out.old) (O.faults out.new) }
+    ensures causes { HasCauses (Err Done) None result 0 0 0 0 (O.faults out.old) (O.faults out.new) }
     ensures counts { O.faults out.old ≤ O.faults out.new }
 {
-    match totals(alloc, count) {
+    match totals(rt, alloc, count, workers, gate) {
         Ok(totals) => match write_summary(&totals, out) {
             Ok(()) => Status::Done,
             Err(_) => Status::OutputFault,

@@ -4,7 +4,7 @@
 //! let mut folders = DiskFolders::new(&rt);
 //! let mut keeper = SqliteKeeper::new(&rt);
 //! let mut out = StdSink::new(&rt);
-//! let status = desk(rt.alloc(), &words, &mut folders, &mut keeper, &mut out);
+//! let status = desk(&rt, rt.alloc(), &words, &mut folders, &mut keeper, &mut out, &FreeGate);
 //! ExitCode::from(status.code())
 //! ```
 #![tactic(auto)]
@@ -20,19 +20,16 @@ ghost use Rattle.desk_run.specs.Named.{OfGenerate, OfRun, asked_of};
 
 mod clash;
 mod classes;
-mod files;
 mod finish;
 mod gather;
 mod generate;
 mod listing;
 mod opening;
 mod planning;
-mod reading;
 mod report;
 mod rules;
 mod sources;
 mod stops;
-mod write;
 
 use desk_base::Text;
 use desk_folders::Folders;
@@ -40,9 +37,12 @@ use desk_ledger::Keeper;
 use desk_report::{Sink, Status, write_fault};
 use desk_words::{Order, read_order};
 pub use desk_words::{Root, Task, WordsFault, read_words};
+pub use desk_workers::FreeGate;
+use desk_workers::Gate;
 use finish::run;
 use generate::run_generated;
 use std::alloc::Global;
+use std::thread::Threads;
 use stops::status_of_words;
 
 /// How many files of the source a run takes.
@@ -51,9 +51,6 @@ pub const FILES: u32 = 200_000;
 /// How many bytes a relative path or its target may have.
 pub const LENGTH: usize = 1024;
 
-/// How many bytes all files of the source may have together.
-pub const SUM: u64 = 1_073_741_824;
-
 /// How many files the rule folder may have.
 pub const RULE_FILES: u32 = 1000;
 
@@ -61,12 +58,14 @@ pub const RULE_FILES: u32 = 1000;
 pub const RULE_SIZE: usize = 1_048_576;
 
 /// Does what words ask for, without the line of a fault.
-fn follow<F: Folders, K: Keeper, O: Sink>(
+fn follow<R: Threads + Sync, F: Folders, K: Keeper, O: Sink, G: Gate + Sync>(
+    rt: &R,
     alloc: Global,
     words: &[Text],
     folders: &mut F,
     keeper: &mut K,
     out: &mut O,
+    gate: &G,
 ) -> Status
     ensures stands { OfRun words.now (WhereTold (F.told folders.old) (K.told keeper.old) (λ m0 l0. Tells (F.told folders.new) (K.told keeper.new) (λ m l. StandsAfter (asked_of words.now) m0 l0 m l result))) }
     ensures first { WhereTold (F.told folders.old) (K.told keeper.old) (λ m l. is_final result ≡ true → result ≡ first_answer (asked_of words.now) m l) }
@@ -75,21 +74,26 @@ fn follow<F: Folders, K: Keeper, O: Sink>(
     ensures committed { OfRun words.now (Committed (K.waiting keeper.new) result) }
     ensures untouched { OfGenerate words.now (λ _. (folders.new ≡ folders.old) × (keeper.new ≡ keeper.old)) }
     ensures generate { OfGenerate words.now (λ count. TellsTotals count (O.told out.old) (O.told out.new) result) }
-    ensures causes { HasCauses (asked_of words.now) result (F.faults folders.old) (F.faults folders.new) (K.faults keeper.old) (K.faults keeper.new) (O.faults out.old) (O.faults out.new) }
+    ensures causes { HasCauses (asked_of words.now) (F.told folders.old) result (F.faults folders.old) (F.faults folders.new) (K.faults keeper.old) (K.faults keeper.new) (O.faults out.old) (O.faults out.new) }
     ensures counts_f { F.faults folders.old ≤ F.faults folders.new }
     ensures counts_k { K.faults keeper.old ≤ K.faults keeper.new }
     ensures counts_o { O.faults out.old ≤ O.faults out.new }
 {
     match read_order(alloc, words) {
-        Ok(Order::Run(roots)) => run(alloc, roots, folders, keeper, out),
-        Ok(Order::Generate { count }) => run_generated(alloc, count, out),
+        Ok(Order::Run { roots, workers }) => {
+            run(rt, alloc, &roots, workers, folders, keeper, out, gate)
+        }
+        Ok(Order::Generate { count, workers }) => {
+            run_generated(rt, alloc, count, workers, out, gate)
+        }
         Err(fault) => status_of_words(fault),
     }
 }
 
-/// Migrates the application that words name: reads the rules and the source, opens the ledger, writes
-/// each file that has an image and isn't kept from an earlier run, commits the rows, and writes the report;
-/// or the line of what stands against it.
+/// Migrates the application that words name: reads the rules and, for the first time, the files of the source, opens the ledger,
+/// reads each file again that isn't kept from an earlier run and writes its image, if it has one, commits the rows, and writes
+/// the report; or the line of what stands against it. Digests, scans and images are made by as many workers as the words ask
+/// for; `gate` is told of each item that a worker begins and ends.
 ///
 /// Of the words `generate` it makes an application of its own in memory, runs over it, and writes the line of
 /// the totals alone: the folders and the keeper stay as they are, and the status is `Done`, `OutputFault` or
@@ -98,20 +102,23 @@ fn follow<F: Folders, K: Keeper, O: Sink>(
 /// The statuses of `run`, of which the first that stands is the answer:
 /// `Usage` (words without a task), `NestedRoots` (a root lies in another that is written to or holds the
 /// ledger), `Limit` of `RuleFiles` or `RuleSize`, `BadRules`, `Limit` of `Files`, of `PathLength` with the
-/// least such path, of `FileSize` or `Sum` with the first such file, `PathClash` with the first two files
+/// least such path, of `FileSize` with the first such file, `PathClash` with the first two files
 /// of which one's target equals the other's or is a folder of it, `NameClash` with the first two names of classes that
 /// would become one, of which the source defines the first, `Stranded` with the first class that isn't selected and holds
 /// the name of a class of the source that changes, `OtherRun` (the ledger's header isn't
 /// this run's), `Refusals` (a file is neither kept nor has an image), `Done`.
 /// `FolderFault`, `LedgerFault` and `OutputFault` come only where the count of faults of that object rose
-/// in this call; `Memory` may come at any step. Rows that wait are written outside before the report: where
+/// in this call; `Moved` only where the two readings of a file gave different bytes, and never where the folders tell their
+/// contents; `Memory` may come at any step. Rows that wait are written outside before the report: where
 /// that fails, the run ends as `LedgerFault` with all files done, and no report is written.
-pub fn desk<F: Folders, K: Keeper, O: Sink>(
+pub fn desk<R: Threads + Sync, F: Folders, K: Keeper, O: Sink, G: Gate + Sync>(
+    rt: &R,
     alloc: Global,
     words: &[Text],
     folders: &mut F,
     keeper: &mut K,
     out: &mut O,
+    gate: &G,
 ) -> Status
     ensures files { OfRun words.now (WhereTold (F.told folders.old) (K.told keeper.old) (λ m0 l0. Tells (F.told folders.new) (K.told keeper.new) (λ m l. Files (asked_of words.now) m0 l0 m result))) }
     ensures ledger { OfRun words.now (LedgerHolds (asked_of words.now) (F.told folders.old) (F.told folders.new) (K.told keeper.old) (K.told keeper.new) (K.attached keeper.old) (K.attached keeper.new) result) }
@@ -119,14 +126,14 @@ pub fn desk<F: Folders, K: Keeper, O: Sink>(
     ensures output { OfRun words.now (Output (asked_of words.now) (F.told folders.old) (K.told keeper.old) (O.told out.old) (O.told out.new) (O.faults out.old) (O.faults out.new) result) }
     ensures status { WhereTold (F.told folders.old) (K.told keeper.old) (λ m l. Exact (first_answer (asked_of words.now) m l) result
         (F.faults folders.old) (F.faults folders.new) (K.faults keeper.old) (K.faults keeper.new) (O.faults out.old) (O.faults out.new)) }
-    ensures causes { HasCauses (asked_of words.now) result (F.faults folders.old) (F.faults folders.new) (K.faults keeper.old) (K.faults keeper.new) (O.faults out.old) (O.faults out.new) }
+    ensures causes { HasCauses (asked_of words.now) (F.told folders.old) result (F.faults folders.old) (F.faults folders.new) (K.faults keeper.old) (K.faults keeper.new) (O.faults out.old) (O.faults out.new) }
     ensures remains { OfRun words.now (WhereTold (F.told folders.old) (K.told keeper.old) (λ m0 l0. Tells (F.told folders.new) (K.told keeper.new) (λ m l. Left (asked_of words.now) m0 l0 m l result))) }
     ensures classes { OfRun words.now (WhereTold (F.told folders.old) (K.told keeper.old) (λ m0 l0. Tells (F.told folders.new) (K.told keeper.new) (λ m l. Classes (asked_of words.now) m0 l0 m result))) }
     ensures follow { OfRun words.now (WhereTold (F.told folders.old) (K.told keeper.old) (λ m0 _. Follow (asked_of words.now) m0 result)) }
     ensures untouched { OfGenerate words.now (λ _. (folders.new ≡ folders.old) × (keeper.new ≡ keeper.old)) }
     ensures generate { OfGenerate words.now (λ count. Generates count (O.told out.old) (O.told out.new) (O.faults out.old) (O.faults out.new) result) }
 {
-    let status = follow(alloc, words, folders, keeper, out);
+    let status = follow(rt, alloc, words, folders, keeper, out, gate);
     let _ = write_fault(&status, out);
     status
 }

@@ -1,21 +1,19 @@
-//! Lists the files of the source, with their targets.
+//! Lists the files of the source, with their routes.
 
-ghost use Rattle.std.specs.Prelude.{◌≡◌, ◌≤◌, true, None, length, map, IfOk, IfErr, IfSome, IsTrue};
+ghost use Rattle.std.specs.Prelude.{All, ◌≡◌, ◌≤◌, true, None, length, map, IfOk, IfErr, IfSome, IsTrue};
 ghost use Rattle.std.specs.List.{list_all};
 ghost use Rattle.desk_base.specs.Paths.{is_root, is_relative_path};
 ghost use Rattle.desk_file.specs.Images.{target};
 ghost use Rattle.desk_folders.specs.Contents.{paths_below};
 ghost use Rattle.desk_run.specs.Halts.{HaltsRouting, HaltsWith};
-ghost use Rattle.desk_run.specs.Inputs.{route_of};
+ghost use Rattle.desk_file.specs.Routes.{IsRouteBy, route_of};
+ghost use Rattle.desk_run.specs.Notes.{IsRelativeRoute};
 ghost use Rattle.desk_run.specs.Limits.{first_long, is_short, most_files, paths_answer};
-ghost use Rattle.desk_run.specs.Runs.{AllRelative};
 
-use crate::files::Route;
-use crate::sources::limit;
-use crate::stops::Halt;
+use crate::stops::{Halt, limit};
 use crate::{FILES, LENGTH};
-use desk_base::{Memory, Text};
-use desk_file::target_of;
+use desk_base::Text;
+use desk_file::{Route, route_of};
 use desk_folders::Folders;
 use desk_report::LimitKind;
 use desk_rules::RuleSet;
@@ -28,21 +26,12 @@ fn is_short(path: &Text) -> bool
     path.as_bytes().len() <= LENGTH
 }
 
-/// A path with its target.
-fn route_of(alloc: Global, rules: &RuleSet, path: Text) -> Result<Route, Memory>
-    requires { IsTrue (is_relative_path path) }
-    ensures route { IfOk result (λ route. route ≡ route_of (target rules.now) path) }
-    ensures relative { IfOk result (λ route. is_relative_path route.target ≡ true) }
-{
-    let target = target_of(alloc, rules, &path)?;
-    Ok(Route { path, target })
-}
-
-/// Paths with their targets, or the first that is too long.
+/// The routes of paths, or the first path that is too long.
 fn route_all(alloc: Global, rules: &RuleSet, paths: Vec<Text>) -> Result<Vec<Route>, Halt>
     requires { IsTrue (list_all is_relative_path paths.items) }
-    ensures routes { IfOk result (λ routes. routes.items ≡ map (route_of (target rules.now)) paths.items) }
-    ensures relative { IfOk result (λ routes. AllRelative (map (λ route. route.target) routes.items)) }
+    ensures routes { IfOk result (λ routes. routes.items ≡ map (route_of rules.now) paths.items) }
+    ensures relative { IfOk result (λ routes. All (λ route. IsRelativeRoute route) routes.items) }
+    ensures routed { IfOk result (λ routes. All (λ route. IsRouteBy rules.now route) routes.items) }
     ensures short { IfOk result (λ _. first_long (target rules.now) paths.items ≡ None) }
     ensures err { IfErr result (HaltsRouting (target rules.now) paths.items) }
 {
@@ -57,7 +46,7 @@ fn route_all(alloc: Global, rules: &RuleSet, paths: Vec<Text>) -> Result<Vec<Rou
     Ok(routes)
 }
 
-/// The paths below the root of the source with their targets.
+/// The routes of the files below the root of the source.
 pub(crate) fn list_routes<F: Folders>(
     alloc: Global,
     folders: &mut F,
@@ -66,8 +55,9 @@ pub(crate) fn list_routes<F: Folders>(
 ) -> Result<Vec<Route>, Halt>
     requires { IsTrue (is_root from.now) }
     ensures told { F.told folders.new ≡ F.told folders.old }
-    ensures routes { IfOk result (λ routes. IfSome (F.told folders.old) (λ m. routes.items ≡ map (route_of (target rules.now)) (paths_below from.now m))) }
-    ensures relative { IfOk result (λ routes. AllRelative (map (λ route. route.target) routes.items)) }
+    ensures routes { IfOk result (λ routes. IfSome (F.told folders.old) (λ m. routes.items ≡ map (route_of rules.now) (paths_below from.now m))) }
+    ensures relative { IfOk result (λ routes. All (λ route. IsRelativeRoute route) routes.items) }
+    ensures routed { IfOk result (λ routes. All (λ route. IsRouteBy rules.now route) routes.items) }
     ensures few { IfOk result (λ routes. length routes.items ≤ most_files) }
     ensures clear { IfOk result (λ _. IfSome (F.told folders.old) (λ m. paths_answer from.now (target rules.now) (paths_below from.now m) ≡ None)) }
     ensures err { IfErr result (HaltsWith (λ m. paths_answer from.now (target rules.now) (paths_below from.now m)) (F.told folders.old) (F.faults folders.old) (F.faults folders.new)) }

@@ -1,143 +1,162 @@
 //! Writes the report of a run.
 
-ghost use Rattle.std.specs.Prelude.{◌≡◌, ◌≤◌, ◌<◌, ◌^◌, ◌++◌, OnOk, OnErr, length, count_by};
-ghost use Rattle.std.specs.List.{flat_map, sum_by};
+ghost use Rattle.std.specs.Prelude.{◌≡◌, ◌≤◌, ◌<◌, ◌^◌, OnOk, OnErr, length, count_by};
+ghost use Rattle.std.specs.List.{list_any, sum_by};
 ghost use Rattle.desk_base.specs.Counts.{Rose};
-ghost use Rattle.desk_report.specs.Texts.{line_text, summary_text};
+ghost use Rattle.desk_report.specs.Texts.{line_text};
 ghost use Rattle.desk_report.specs.Written.{WritesFront, writing};
-ghost use Rattle.desk_run.specs.Works.{writes, keeps, leaves};
-ghost use Rattle.desk_run.specs.Reports.{added_texts, line_of_work, number_in_plan, renamed_uses, report_of_works, summary_of_works};
+ghost use Rattle.desk_run.specs.Reports.{added_texts, is_written, number_in, outcome_line, renamed_uses, report_by, summary_by, was_kept, was_refused};
 
-use crate::planning::{Plan, Work};
+use desk_batches::{Noted, Outcome};
+use desk_file::Route;
 use desk_report::{Detail, Line, Sink, SinkFault, Summary, write_line, write_summary};
 
-/// How many works write.
-fn count_written(works: &[Work]) -> usize
-    ensures { result ≡ count_by (λ work. writes work.plan) works.now }
+/// How many files were written.
+fn count_written(outcomes: &[Outcome]) -> usize
+    ensures { result ≡ count_by is_written outcomes.now }
 {
-    works.iter().filter(|work| work.plan.writes()).count()
+    outcomes
+        .iter()
+        .filter(|outcome| matches!(outcome, Outcome::Written { .. }))
+        .count()
 }
 
-/// How many works keep.
-fn count_kept(works: &[Work]) -> usize
-    ensures { result ≡ count_by (λ work. keeps work.plan) works.now }
+/// How many files were kept.
+fn count_kept(outcomes: &[Outcome]) -> usize
+    ensures { result ≡ count_by was_kept outcomes.now }
 {
-    works.iter().filter(|work| work.plan.keeps()).count()
+    outcomes
+        .iter()
+        .filter(|outcome| matches!(outcome, Outcome::Kept))
+        .count()
 }
 
-/// How many works leave a file alone.
-fn count_left(works: &[Work]) -> usize
-    ensures { result ≡ count_by (λ work. leaves work.plan) works.now }
+/// How many files were refused.
+fn count_refused(outcomes: &[Outcome]) -> usize
+    ensures { result ≡ count_by was_refused outcomes.now }
 {
-    works.iter().filter(|work| work.plan.leaves()).count()
+    outcomes
+        .iter()
+        .filter(|outcome| matches!(outcome, Outcome::Refused { .. }))
+        .count()
 }
 
-/// How many uses were renamed in a class that is written.
-fn renamed_in(plan: &Plan) -> u32
-    ensures { result ≡ number_in_plan renamed_uses plan.now }
+/// Whether a file was refused.
+pub(crate) fn has_refused(outcomes: &[Outcome]) -> bool
+    ensures { result ≡ list_any was_refused outcomes.now }
 {
-    match plan {
-        Plan::Write { image, .. } => match image.detail {
-            Detail::Class { renamed, .. } => renamed,
-            _ => 0,
-        },
+    outcomes
+        .iter()
+        .any(|outcome| matches!(outcome, Outcome::Refused { .. }))
+}
+
+/// How many uses were renamed in a class that was written.
+fn renamed_in(outcome: &Outcome) -> u32
+    ensures { result ≡ number_in renamed_uses outcome.now }
+{
+    match outcome {
+        Outcome::Written {
+            detail: Detail::Class { renamed, .. },
+        } => *renamed,
         _ => 0,
     }
 }
 
-/// How many texts were added to a class that is written.
-fn added_in(plan: &Plan) -> u32
-    ensures { result ≡ number_in_plan added_texts plan.now }
+/// How many texts were added to a class that was written.
+fn added_in(outcome: &Outcome) -> u32
+    ensures { result ≡ number_in added_texts outcome.now }
 {
-    match plan {
-        Plan::Write { image, .. } => match image.detail {
-            Detail::Class { added, .. } => added,
-            _ => 0,
-        },
+    match outcome {
+        Outcome::Written {
+            detail: Detail::Class { added, .. },
+        } => *added,
         _ => 0,
     }
 }
 
-/// The sums over the classes that are written.
+/// The sums over the classes that were written.
 #[derive(Clone, Copy)]
 struct ClassTotals {
     renamed: u64,
     added: u64,
 }
 
-/// How many uses were renamed, and how many texts added, in all classes that are written.
-fn class_totals(works: &[Work]) -> ClassTotals
-    requires { length works.now < 2 ^ 32 }
-    ensures renamed { result.renamed ≡ sum_by (λ work. number_in_plan renamed_uses work.plan) works.now }
-    ensures added { result.added ≡ sum_by (λ work. number_in_plan added_texts work.plan) works.now }
+/// How many uses were renamed, and how many texts added, in all classes that were written.
+fn class_totals(outcomes: &[Outcome]) -> ClassTotals
+    requires { length outcomes.now < 2 ^ 32 }
+    ensures renamed { result.renamed ≡ sum_by (number_in renamed_uses) outcomes.now }
+    ensures added { result.added ≡ sum_by (number_in added_texts) outcomes.now }
 {
     let mut renamed = 0;
     let mut added = 0;
-    for work in works {
-        renamed += u64::from(renamed_in(&work.plan));
-        added += u64::from(added_in(&work.plan));
+    for outcome in outcomes {
+        renamed += u64::from(renamed_in(outcome));
+        added += u64::from(added_in(outcome));
     }
     ClassTotals { renamed, added }
 }
 
-/// The totals of works.
-pub(crate) fn summary_of(works: &[Work]) -> Summary
-    requires { length works.now < 2 ^ 32 }
-    ensures { result ≡ summary_of_works works.now }
+/// The totals of a run.
+pub(crate) fn summary_of(outcomes: &[Outcome]) -> Summary
+    requires { length outcomes.now < 2 ^ 32 }
+    ensures { result ≡ summary_by outcomes.now }
 {
-    let ClassTotals { renamed, added } = class_totals(works);
+    let ClassTotals { renamed, added } = class_totals(outcomes);
     Summary {
-        files: works.len() as u32,
-        written: count_written(works) as u32,
-        kept: count_kept(works) as u32,
-        refused: count_left(works) as u32,
+        files: outcomes.len() as u32,
+        written: count_written(outcomes) as u32,
+        kept: count_kept(outcomes) as u32,
+        refused: count_refused(outcomes) as u32,
         renamed,
         added,
     }
 }
 
-/// The line of a work.
-fn line_of(work: Work) -> Line
-    ensures { line_text result ≡ line_of_work work }
+/// The line of a file.
+fn line_of(route: Route, outcome: Outcome) -> Line
+    ensures { line_text result ≡ outcome_line route.path route.target outcome }
 {
-    let Work {
-        path,
-        target,
-        plan,
-        ..
-    } = work;
-    match plan {
-        Plan::Keep => Line::Kept { path, target },
-        Plan::Leave { reason } => Line::Refused { path, reason },
-        Plan::Write { image, .. } => Line::Written {
+    let Route { path, target, .. } = route;
+    match outcome {
+        Outcome::Kept => Line::Kept { path, target },
+        Outcome::Written { detail } => Line::Written {
             path,
             target,
-            detail: image.detail,
+            detail,
         },
+        Outcome::Refused { reason } => Line::Refused { path, reason },
     }
 }
 
-/// Writes the line of a work.
-fn write_work<O: Sink>(out: &mut O, work: Work) -> Result<(), SinkFault>
-    ensures ok { OnOk result (O.told out.new ≡ writing (line_of_work work) (O.told out.old)) }
-    ensures err { OnErr result (WritesFront (line_of_work work) (O.told out.old) (O.told out.new)) }
+/// Writes the line of a file.
+fn write_outcome<O: Sink>(out: &mut O, noted: Noted, outcome: Outcome) -> Result<(), SinkFault>
+    ensures ok { OnOk result (O.told out.new ≡ writing (outcome_line noted.route.path noted.route.target outcome) (O.told out.old)) }
+    ensures err { OnErr result (WritesFront (outcome_line noted.route.path noted.route.target outcome) (O.told out.old) (O.told out.new)) }
     ensures counts { O.faults out.old ≤ O.faults out.new }
     ensures failed { OnErr result (Rose (O.faults out.old) (O.faults out.new)) }
 {
-    write_line(&line_of(work), out)
+    write_line(&line_of(noted.route, outcome), out)
 }
 
-/// Writes the report of works: one line a file, and the totals.
-pub(crate) fn write_report<O: Sink>(out: &mut O, works: Vec<Work>) -> Result<(), SinkFault>
-    requires { length works.items < 2 ^ 32 }
-    ensures ok { OnOk result (O.told out.new ≡ writing (report_of_works works.items) (O.told out.old)) }
-    ensures err { OnErr result (WritesFront (report_of_works works.items) (O.told out.old) (O.told out.new)) }
+/// Writes the report: one line a file, and the totals.
+pub(crate) fn write_report<O: Sink>(
+    out: &mut O,
+    noted: Vec<Noted>,
+    outcomes: &[Outcome],
+) -> Result<(), SinkFault>
+    requires few { length outcomes.now < 2 ^ 32 }
+    requires same { length noted.items ≡ length outcomes.now }
+    ensures ok { OnOk result (O.told out.new ≡ writing (report_by noted.items outcomes.now) (O.told out.old)) }
+    ensures err { OnErr result (WritesFront (report_by noted.items outcomes.now) (O.told out.old) (O.told out.new)) }
     ensures counts { O.faults out.old ≤ O.faults out.new }
     ensures failed { OnErr result (Rose (O.faults out.old) (O.faults out.new)) }
 {
-    let summary = summary_of(&works);
-    for work in works {
-        write_work(out, work)?;
+    let summary = summary_of(outcomes);
+    let mut place = 0;
+    for file in noted {
+        let outcome = outcomes[place];
+        write_outcome(out, file, outcome)?;
+        place += 1;
     }
     write_summary(&summary, out)
 }

@@ -14,8 +14,8 @@ ghost use Rattle.desk_run.specs.Meaning.{digest_entry, ruled, with_digest};
 ghost use Rattle.desk_run.specs.RuleFolders.{HasTakenAll, Takes};
 ghost use Rattle.desk_second.specs.Second.{AreRules};
 
-use crate::sources::{limit, read_below};
-use crate::stops::Halt;
+use crate::sources::read_below;
+use crate::stops::{Halt, limit};
 use crate::{RULE_FILES, RULE_SIZE};
 use desk_base::Text;
 use desk_folders::Folders;

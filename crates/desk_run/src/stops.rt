@@ -2,58 +2,15 @@
 
 ghost use Rattle.std.specs.Prelude.{◌≡◌};
 ghost use Rattle.desk_run.specs.Named.{status_of_words};
-ghost use Rattle.desk_run.specs.Stops.{stop_of_folders, stop_of_keeper, halt_of_folders, halt_of_keeper, status_of_stop, status_of_halt};
+ghost use Rattle.desk_run.specs.Stops.{halt_of_folders, halt_of_keeper, halt_of_note, status_of_stop, status_of_halt};
 
-use desk_base::Memory;
+use desk_base::{Memory, Text};
+use desk_batches::{Moved, NoteFault, Stop};
 use desk_folders::FolderFault;
 use desk_ledger::KeeperFault;
-use desk_report::Status;
+use desk_report::{LimitKind, Status};
 use desk_words::RootsFault;
 use std::alloc::{AllocError, AllocFailed};
-
-/// Why the writing stopped.
-#[derive(Clone, Copy, Debug, PartialEq, Eq)]
-pub enum Stop {
-    /// Memory ran out.
-    Memory,
-    /// The folders failed.
-    Folders,
-    /// The ledger failed.
-    Ledger,
-}
-
-impl From<Memory> for Stop {
-    ghost use Rattle.std.specs.Prelude.{◌≡◌};
-    ghost use Rattle.desk_run.specs.declared.stops.Stop.TheVariants as stop;
-
-    ghost from_gives = { λ _ it. it ≡ stop.Memory };
-
-    fn from(_: Memory) -> Stop {
-        Stop::Memory
-    }
-}
-
-impl From<FolderFault> for Stop {
-    ghost from_gives = { λ fault stop. stop ≡ stop_of_folders fault };
-
-    fn from(fault: FolderFault) -> Stop {
-        match fault {
-            FolderFault::Failed => Stop::Folders,
-            FolderFault::Memory => Stop::Memory,
-        }
-    }
-}
-
-impl From<KeeperFault> for Stop {
-    ghost from_gives = { λ fault stop. stop ≡ stop_of_keeper fault };
-
-    fn from(fault: KeeperFault) -> Stop {
-        match fault {
-            KeeperFault::Failed => Stop::Ledger,
-            KeeperFault::Memory => Stop::Memory,
-        }
-    }
-}
 
 /// How a stop of the writing is told, where so many files were done before.
 pub(crate) fn status_of_stop(why: Stop, done: u32) -> Status
@@ -63,6 +20,17 @@ pub(crate) fn status_of_stop(why: Stop, done: u32) -> Status
         Stop::Memory => Status::Memory,
         Stop::Folders => Status::FolderFault { done },
         Stop::Ledger => Status::LedgerFault { done },
+        Stop::Moved(
+            Moved {
+                path,
+                first,
+                second,
+            },
+        ) => Status::Moved {
+            path,
+            first,
+            second,
+        },
     }
 }
 
@@ -123,6 +91,18 @@ impl From<FolderFault> for Halt {
     }
 }
 
+impl From<NoteFault> for Halt {
+    ghost from_gives = { λ fault halt. halt ≡ halt_of_note fault };
+
+    fn from(fault: NoteFault) -> Halt {
+        match fault {
+            NoteFault::Memory => Halt::Memory,
+            NoteFault::Folders => Halt::Folders,
+            NoteFault::TooLarge { path } => limit(LimitKind::FileSize, path),
+        }
+    }
+}
+
 impl From<KeeperFault> for Halt {
     ghost from_gives = { λ fault halt. halt ≡ halt_of_keeper fault };
 
@@ -132,6 +112,13 @@ impl From<KeeperFault> for Halt {
             KeeperFault::Memory => Halt::Memory,
         }
     }
+}
+
+/// The answer that a path passes a limit.
+pub(crate) fn limit(kind: LimitKind, path: Text) -> Halt
+    ensures { result ≡ Halt.Answer (Status.Limit kind path) }
+{
+    Halt::Answer(Status::Limit { kind, path })
 }
 
 /// How a fault of words is told.

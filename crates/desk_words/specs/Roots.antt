@@ -1,5 +1,5 @@
 -- What words ask for, with the roots of a run as they are written, or the fault that stands against them; and what is known of such roots.
-use Rattle.std.specs.Prelude.{◌≡◌, ◌≢◌, true, List, Option, Some, None, Result, Ok, Err}
+use Rattle.std.specs.Prelude.{◌≡◌, ◌≢◌, ◌<◌, ◌≤◌, ℕ, true, List, Option, Some, None, Result, Ok, Err}
 use Rattle.desk_base.specs.Names.{Text}
 use Rattle.desk_base.specs.Paths.{is_root, is_relative_path, is_full_path, full}
 use Rattle.desk_words.specs.declared.roots.Root.{Root}
@@ -17,14 +17,14 @@ abbrev pub nested_fault : Root × Root → RootsFault
 nested_fault pair = Nested (written pair.0) (written pair.1)
 
 -- a run over the written roots, where none lies in another that it may not lie in
-abbrev pub order_apart : Root → Root → Root → Root → Option (Root × Root) → Result Order RootsFault
-order_apart rules from to ledger None = Ok (order.Run (record { rules = written rules; from = written from; to = written to; ledger = written ledger }))
-order_apart rules from to ledger (Some pair) = Err (nested_fault pair)
+abbrev pub order_apart : Root → Root → Root → Root → ℕ → Option (Root × Root) → Result Order RootsFault
+order_apart rules from to ledger workers None = Ok (order.Run (record { rules = written rules; from = written from; to = written to; ledger = written ledger }) workers)
+order_apart rules from to ledger workers (Some pair) = Err (nested_fault pair)
 
 abbrev pub order_of_task : Option Task → Result Order RootsFault
 order_of_task None = Err Usage
-order_of_task (Some (Run rules from to ledger workers)) = order_apart rules from to ledger (first_nested rules from to ledger)
-order_of_task (Some (Generate count workers)) = Ok (order.Generate count)
+order_of_task (Some (Run rules from to ledger workers)) = order_apart rules from to ledger workers (first_nested rules from to ledger)
+order_of_task (Some (Generate count workers)) = Ok (order.Generate count workers)
 
 -- what words ask for
 abbrev pub order_of_words : List Text → Result Order RootsFault
@@ -51,7 +51,12 @@ pub record AreRoots (roots : Roots) : Type 0 where
   pub below_to : IsPathRoot roots.to
   pub apart : RootsApart roots.from roots.to
 
--- the roots of a run are such
+-- as many workers as words may ask for
+pub record AreWorkers (workers : ℕ) : Type 0 where
+  pub some : 0 < workers
+  pub most : workers ≤ 64
+
+-- the roots of a run are such, and so are the workers
 abbrev pub IsSound : Order → Type 0
-IsSound (order.Run roots) = AreRoots roots
-IsSound (order.Generate count) = Unit {0}
+IsSound (order.Run roots workers) = AreRoots roots × AreWorkers workers
+IsSound (order.Generate count workers) = AreWorkers workers

@@ -142,10 +142,10 @@ pub struct Roots {
 /// What words ask for.
 #[derive(Debug, Drop)]
 pub enum Order {
-    /// A run over these roots.
-    Run(Roots),
-    /// A run over a generated application of so many classes.
-    Generate { count: u32 },
+    /// A run over these roots, by so many workers.
+    Run { roots: Roots, workers: u32 },
+    /// A run over a generated application of so many classes, by so many workers.
+    Generate { count: u32, workers: u32 },
 }
 
 /// Why words ask for nothing that can be done.
@@ -234,13 +234,17 @@ fn order_apart(
     from: &Root,
     to: &Root,
     ledger: &Root,
+    workers: u32,
 ) -> Result<Order, RootsFault>
-    ensures ok { IfOk result (λ order. order_apart rules.now from.now to.now ledger.now (first_nested rules.now from.now to.now ledger.now) ≡ Ok order) }
-    ensures err { IfErr result (RefusedBy (order_apart rules.now from.now to.now ledger.now (first_nested rules.now from.now to.now ledger.now))) }
+    ensures ok { IfOk result (λ order. order_apart rules.now from.now to.now ledger.now workers (first_nested rules.now from.now to.now ledger.now) ≡ Ok order) }
+    ensures err { IfErr result (RefusedBy (order_apart rules.now from.now to.now ledger.now workers (first_nested rules.now from.now to.now ledger.now))) }
 {
     match first_nested(alloc, rules, from, to, ledger)? {
         Some(fault) => Err(fault),
-        None => Ok(Order::Run(written_roots(alloc, rules, from, to, ledger)?)),
+        None => {
+            let roots = written_roots(alloc, rules, from, to, ledger)?;
+            Ok(Order::Run { roots, workers })
+        }
     }
 }
 
@@ -256,17 +260,17 @@ fn order_of(alloc: Global, words: &[Text]) -> Result<Order, RootsFault>
                 from,
                 to,
                 ledger,
-                ..
+                workers,
             },
-        ) => order_apart(alloc, &rules, &from, &to, &ledger),
-        Ok(Task::Generate { count, .. }) => Ok(Order::Generate { count }),
+        ) => order_apart(alloc, &rules, &from, &to, &ledger, workers),
+        Ok(Task::Generate { count, workers }) => Ok(Order::Generate { count, workers }),
         Err(WordsFault::Usage) => Err(RootsFault::Usage),
         Err(WordsFault::Memory) => Err(RootsFault::Memory),
     }
 }
 
 /// What words ask for: a run over roots, as they are written, or a run over a generated application. The
-/// roots are such that paths stand below them, and source and target have no path in common.
+/// roots are such that paths stand below them, and source and target have no path in common; the workers are 1 to 64.
 /// The errors: `Usage` of words without a task; `Nested` with the first two roots of which one lies
 /// in the other; `Memory`, which may come at any words.
 pub fn read_order(alloc: Global, words: &[Text]) -> Result<Order, RootsFault>

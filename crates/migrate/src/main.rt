@@ -16,12 +16,13 @@ use desk_base::{Memory, Text};
 use desk_folders::DiskFolders;
 use desk_notes::Overheard;
 use desk_report::{Status, StdSink, write_fault};
-use desk_run::desk;
+use desk_run::{FreeGate, desk};
 use desk_sqlite::SqliteKeeper;
 use desk_words::{Order, Roots, read_order};
 use std::alloc::Global;
 use std::io::ErrorKind;
 use std::process::ExitCode;
+use std::thread::Threads;
 use std::{env, io};
 use telling::tell_unread;
 
@@ -71,13 +72,18 @@ fn unread(kind: ErrorKind) -> Status
 /// The roots of words that ask for a run.
 fn roots_of(alloc: Global, words: &[Text]) -> Option<Roots> {
     match read_order(alloc, words) {
-        Ok(Order::Run(roots)) => Some(roots),
+        Ok(Order::Run { roots, .. }) => Some(roots),
         _ => None,
     }
 }
 
 /// Follows the words, and tells what stands behind the status.
-fn follow(rt: &HostRuntime, words: &[Text], roots: &Option<Roots>) -> Status {
+fn follow<R: Threads + Sync>(
+    rt: &HostRuntime,
+    threads: &R,
+    words: &[Text],
+    roots: &Option<Roots>,
+) -> Status {
     let mut out = Overheard::new(rt, StdSink::new(rt));
     let mut folders = DiskFolders::new(rt);
     let mut keeper = SqliteKeeper::new(rt);
@@ -92,7 +98,15 @@ fn follow(rt: &HostRuntime, words: &[Text], roots: &Option<Roots>) -> Status {
         }
         folders.show_progress();
     }
-    let status = desk(rt.alloc(), words, &mut folders, &mut keeper, &mut out);
+    let status = desk(
+        threads,
+        rt.alloc(),
+        words,
+        &mut folders,
+        &mut keeper,
+        &mut out,
+        &FreeGate,
+    );
     folders.end_progress();
     keeper.remove_new_log();
     tell_end(
@@ -107,11 +121,11 @@ fn follow(rt: &HostRuntime, words: &[Text], roots: &Option<Roots>) -> Status {
     status
 }
 
-fn run(rt: &HostRuntime) -> Status {
+fn run<R: Threads + Sync>(rt: &HostRuntime, threads: &R) -> Status {
     match read_words(rt) {
         Ok(words) => {
             let roots = roots_of(rt.alloc(), &words);
-            follow(rt, &words, &roots)
+            follow(rt, threads, &words, &roots)
         }
         Err(error) => {
             let status = unread(error.kind());
@@ -130,5 +144,5 @@ fn exit_of(status: &Status) -> ExitCode
 }
 
 fn main(rt: HostRuntime) -> ExitCode {
-    exit_of(&run(&rt))
+    exit_of(&run(&rt, &rt))
 }

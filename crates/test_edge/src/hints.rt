@@ -117,6 +117,17 @@ fn what_stands_against_the_names_has_its_hint(rt: HostRuntime) -> Result<(), Fai
 }
 
 #[test]
+fn a_file_that_moved_has_its_hint(rt: HostRuntime) -> Result<(), Fail> {
+    let status = Status::Moved {
+        path: Text::from_bytes(rt.alloc(), b"a")?,
+        first: Digest([0; 32]),
+        second: Digest([1; 32]),
+    };
+    assert_eq!(rt; hint_of(&status), Some(Hint::Moved));
+    Ok(())
+}
+
+#[test]
 fn a_major_version_names_its_release(rt: HostRuntime) -> Result<(), Fail> {
     assert_eq!(rt; release_of(48), None);
     assert_eq!(rt; release_of(49), Some(5));

@@ -4,7 +4,10 @@ ghost use Rattle.std.specs.Prelude.{◌≡◌, ◌≤◌, IfOk, length};
 ghost use Rattle.desk_base.specs.Limits.{file_size};
 
 use desk_base::{FILE_SIZE, FaultKind, Malformed, Text};
-use desk_file::{FileFault, Image, Outcome, image_of, migrate_file, scan_file, target_of};
+use desk_file::{
+    FileFault, Image, Route, Treatment, is_whole, migrate_file, route_of, scan_class, target_of,
+    treatment_of,
+};
 use desk_fixtures::rule_set;
 use desk_graph::{ClassGraph, Scanned};
 use desk_report::{Detail, Reason};
@@ -33,6 +36,18 @@ fn graph_of(alloc: Global, classes: Vec<Scanned>, rules: &RuleSet) -> Result<Cla
     }
 }
 
+/// The route of a file.
+fn routed(alloc: Global, rules: &RuleSet, path: &[u8]) -> Result<Route, Fail> {
+    let path = Text::from_bytes(alloc, path)?;
+    let target = target_of(alloc, rules, &path)?;
+    let treatment = treatment_of(rules, &path, &target);
+    Ok(Route {
+        path,
+        target,
+        treatment,
+    })
+}
+
 /// Adds what is kept of a file for a graph.
 fn add_class(
     alloc: Global,
@@ -44,8 +59,12 @@ fn add_class(
     if bytes.len() > FILE_SIZE {
         return Err(Fail::from("a long file"));
     }
-    let path = Text::from_bytes(alloc, path)?;
-    if let Some(class) = scan_file(alloc, rules, &path, bytes)? {
+    let route = routed(alloc, rules, path)?;
+    if !route.treatment.is_class() {
+        return Ok(());
+    }
+    let selected = route.treatment == Treatment::Class;
+    if let Some(class) = scan_class(alloc, &route.path, selected, bytes)? {
         classes.push(class)?;
     }
     Ok(())
@@ -66,13 +85,36 @@ fn graph_of_files<'r>(
     graph_of(alloc, classes, rules)
 }
 
+/// What becomes of a file: its target, and its image or why it has none.
+#[derive(Drop)]
+struct Outcome {
+    target: Text,
+    image: Result<Image, FileFault>,
+}
+
+/// What becomes of a file in the application of a graph.
+fn outcome_in(
+    alloc: Global,
+    rules: &RuleSet,
+    graph: &ClassGraph<'_>,
+    path: &[u8],
+    bytes: &[u8],
+) -> Result<Outcome, Fail>
+    requires size { length bytes.now ≤ file_size }
+    requires graph { graph.now.renames ≡ rules.now.renames }
+{
+    let route = routed(alloc, rules, path)?;
+    let image = migrate_file(alloc, rules, graph, &route, bytes);
+    let Route { target, .. } = route;
+    Ok(Outcome { target, image })
+}
+
 /// What becomes of a file by these rules, in an application of that file alone.
 fn migrated_by(alloc: Global, rules: &RuleSet, path: &[u8], bytes: &[u8]) -> Result<Outcome, Fail>
     requires { length bytes.now ≤ file_size }
 {
     let graph = graph_of_files(alloc, rules, &[(path, bytes)])?;
-    let path = Text::from_bytes(alloc, path)?;
-    Ok(migrate_file(alloc, rules, &graph, &path, bytes)?)
+    outcome_in(alloc, rules, &graph, path, bytes)
 }
 
 /// What becomes of these bytes at a path.
@@ -85,21 +127,19 @@ fn migrated(alloc: Global, path: &[u8], bytes: &[u8]) -> Result<Outcome, Fail>
 
 /// Whether a file is written at this target, with this image and detail.
 fn is_written(outcome: &Outcome, to: &[u8], image: &[u8], made: Detail) -> bool {
-    match outcome {
-        Outcome::Written {
-            target,
-            bytes,
-            detail,
-        } => target.as_bytes() == to && bytes.as_bytes() == image && *detail == made,
-        Outcome::Refused { .. } => false,
+    match &outcome.image {
+        Ok(Image { bytes, detail }) => {
+            outcome.target.as_bytes() == to && bytes.as_bytes() == image && *detail == made
+        }
+        Err(_) => false,
     }
 }
 
 /// Whether a file is refused for this reason.
 fn is_refused(outcome: &Outcome, why: Reason) -> bool {
-    match outcome {
-        Outcome::Written { .. } => false,
-        Outcome::Refused { reason } => *reason == why,
+    match &outcome.image {
+        Ok(_) => false,
+        Err(fault) => *fault == FileFault::Refused(why),
     }
 }
 
@@ -211,7 +251,7 @@ const TEXTS: &[(&[u8], &[u8], &[u8], &[u8], u32)] = &[
 fn texts_have_the_sources_of_their_rules_exchanged(rt: HostRuntime) -> Result<(), Fail> {
     for (patterns, texts, path, image, changed) in TEXTS {
         let outcome = with_texts(rt.alloc(), patterns, texts, path)?;
-        let Outcome::Written { bytes, detail, .. } = &outcome else {
+        let Ok(Image { bytes, detail }) = &outcome.image else {
             return Err(Fail::from("refused"));
         };
         assert!(rt; bytes.as_bytes() == *image, "{path:?}");
@@ -278,8 +318,7 @@ fn links_count_the_classes_of_the_application_that_a_class_holds(
         &rules,
         &[(b"A.class", SUB), (b"javax/servlet/F.class", F)],
     )?;
-    let path = Text::from_bytes(alloc, b"A.class")?;
-    let outcome = migrate_file(alloc, &rules, &graph, &path, SUB)?;
+    let outcome = outcome_in(alloc, &rules, &graph, b"A.class", SUB)?;
     let detail = Detail::Class {
         renamed: 1,
         added: 0,
@@ -290,27 +329,61 @@ fn links_count_the_classes_of_the_application_that_a_class_holds(
     Ok(())
 }
 
-/// The image of these bytes at a path.
-fn made(alloc: Global, path: &[u8], bytes: &[u8]) -> Result<Result<Image, FileFault>, Fail>
-    requires { length bytes.now ≤ file_size }
-{
-    let rules = build(alloc)?;
-    let graph = graph_of(alloc, Vec::new(alloc), &rules)?;
-    let path = Text::from_bytes(alloc, path)?;
-    let bytes = Text::from_bytes(alloc, bytes)?;
-    Ok(image_of(alloc, &rules, &graph, &path, bytes))
+/// Rules by which the classes below `legacy` aren't selected, nor is what lies below `old.jar`, and of whose text rules one fits
+/// texts by their path, and one by their target.
+fn selecting_rules(alloc: Global) -> Result<Box<RuleSet>, BuildFault> {
+    rule_set(
+        alloc,
+        &[
+            (b"renames.properties", b"javax.servlet=jakarta.servlet"),
+            (b"selection.properties", b"legacy/*=!\nold.jar/*=!"),
+            (b"text.properties", b"*.xml=t\njakarta/*=t"),
+            (b"t", b"a=x"),
+        ],
+    )
+}
+
+/// Paths, how the files there are treated, and whether they are read whole.
+const TREATED: &[(&[u8], Treatment, bool)] = &[
+    (b"a/B.class", Treatment::Class, true),
+    (b"legacy/B.class", Treatment::UnselectedClass, true),
+    (b"META-INF/services/x", Treatment::Service, true),
+    (b"old.jar/META-INF/services/x", Treatment::Copy, false),
+    (b"META-INF/MANIFEST.MF", Treatment::Manifest, true),
+    (b"old.jar/META-INF/MANIFEST.MF", Treatment::Copy, false),
+    (b"a/web.xml", Treatment::Texts, true),
+    (b"old.jar/web.xml", Treatment::Copy, false),
+    (b"javax/servlet/a.txt", Treatment::Texts, true),
+    (b"javax/sql/a.txt", Treatment::Copy, false),
+    (b"a.jar", Treatment::Copy, false),
+];
+
+#[test]
+fn files_are_treated_by_kind_selection_and_text_rules(rt: HostRuntime) -> Result<(), Fail> {
+    let alloc = rt.alloc();
+    let rules = selecting_rules(alloc)?;
+    for (path, treatment, whole) in TREATED {
+        let text = Text::from_bytes(alloc, path)?;
+        let target = target_of(alloc, &rules, &text)?;
+        assert_eq!(rt;
+            treatment_of(&rules, &text, &target),
+            *treatment,
+            "{path:?}"
+        );
+        assert_eq!(rt; is_whole(&rules, &text, &target), *whole, "{path:?}");
+        assert_eq!(rt; treatment.is_whole(), *whole, "{path:?}");
+    }
+    Ok(())
 }
 
 #[test]
-fn images_are_those_of_the_files(rt: HostRuntime) -> Result<(), Fail> {
+fn a_route_has_target_and_treatment(rt: HostRuntime) -> Result<(), Fail> {
     let alloc = rt.alloc();
-    let Ok(copy) = made(alloc, b"a", b"x")? else {
-        return Err(Fail::from("no image"));
-    };
-    assert!(rt; copy.bytes.as_bytes() == b"x".as_slice());
-    assert!(rt; copy.detail == Detail::Copy);
-    let fault = made(alloc, b"META-INF/MANIFEST.MF", b"x")?.err();
-    assert!(rt; fault == Some(FileFault::Refused(Reason::BadLine { at: 0 })));
+    let rules = selecting_rules(alloc)?;
+    let path = Text::from_bytes(alloc, b"javax/servlet/F.class")?;
+    let route = route_of(alloc, &rules, path)?;
+    assert!(rt; route.target.as_bytes() == b"jakarta/servlet/F.class".as_slice());
+    assert_eq!(rt; route.treatment, Treatment::Class);
     Ok(())
 }
 
@@ -333,9 +406,8 @@ fn selecting(alloc: Global, path: &[u8]) -> Result<Outcome, Fail> {
             (b"selection.properties", b"legacy/*=!"),
         ],
     )?;
-    let path = Text::from_bytes(alloc, path)?;
     let graph = graph_of(alloc, Vec::new(alloc), &rules)?;
-    Ok(migrate_file(alloc, &rules, &graph, &path, F)?)
+    outcome_in(alloc, &rules, &graph, path, F)
 }
 
 #[test]

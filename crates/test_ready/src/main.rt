@@ -8,10 +8,11 @@ use desk_base::{Memory, Text};
 use desk_folders::DiskFolders;
 use desk_ledger::MemoryKeeper;
 use desk_report::StdSink;
-use desk_run::desk;
+use desk_run::{FreeGate, desk};
 use std::alloc::Global;
 use std::fs;
 use std::io::{self, ErrorKind};
+use std::thread::Threads;
 
 /// Every target of the application.
 const TARGETS: &[&str] = &[
@@ -81,14 +82,23 @@ fn words_of(alloc: Global, words: &[&str]) -> io::Result<Vec<Text>> {
 }
 
 /// Migrates the application by these words, with a ledger in memory, and answers the exit status.
-fn migrate(rt: &HostRuntime, words: &[&str]) -> io::Result<u8> {
+fn migrate<R: Threads + Sync>(rt: &HostRuntime, threads: &R, words: &[&str]) -> io::Result<u8> {
     let alloc = rt.alloc();
     let words = words_of(alloc, words)?;
     match MemoryKeeper::new(alloc, Vec::new(alloc)) {
         Ok(mut keeper) => {
             let mut folders = DiskFolders::new(rt);
             let mut out = StdSink::new(rt);
-            Ok(desk(alloc, &words, &mut folders, &mut keeper, &mut out).code())
+            let status = desk(
+                threads,
+                alloc,
+                &words,
+                &mut folders,
+                &mut keeper,
+                &mut out,
+                &FreeGate,
+            );
+            Ok(status.code())
         }
         Err(Memory) => Err(io::Error::from(ErrorKind::OutOfMemory)),
     }
@@ -111,10 +121,10 @@ fn compare(rt: &HostRuntime, to: &str, wanted: &str) -> io::Result<()> {
 }
 
 fn main(rt: HostRuntime) -> io::Result<()> {
-    let code = migrate(&rt, PLAIN)?;
+    let code = migrate(&rt, &rt, PLAIN)?;
     println!(rt; "status {code}")?;
     compare(&rt, "out", "wanted")?;
-    let code = migrate(&rt, ANNOTATIONS)?;
+    let code = migrate(&rt, &rt, ANNOTATIONS)?;
     println!(rt; "status {code}")?;
     compare(&rt, "out-annotations", "wanted-annotations")
 }

@@ -12,7 +12,6 @@ const LIMITS: &[(LimitKind, &[u8])] = &[
     (LimitKind::Files, b"migrate: 23 limit files x\n"),
     (LimitKind::PathLength, b"migrate: 23 limit path-length x\n"),
     (LimitKind::FileSize, b"migrate: 23 limit file-size x\n"),
-    (LimitKind::Sum, b"migrate: 23 limit sum x\n"),
     (LimitKind::RuleFiles, b"migrate: 23 limit rule-files x\n"),
     (LimitKind::RuleSize, b"migrate: 23 limit rule-size x\n"),
 ];
@@ -254,5 +253,23 @@ fn another_run_is_told_by_roots_and_digests(rt: HostRuntime) -> Result<(), Fail>
     let line =
         b"migrate: 27 other run kept in out 0a0a0a0a0a0a0a0a0a0a0a0a0a0a0a0a0a0a0a0a0a0a0a0a0a0a0a0a0a0a0a0a wanted in out abababababababababababababababababababababababababababababababab\n";
     assert!(rt; is_told(alloc, &status, 27, line)?);
+    Ok(())
+}
+
+fn moved(alloc: Global) -> Result<Box<Status>, Fail> {
+    let status = Status::Moved {
+        path: Text::from_bytes(alloc, b"a b")?,
+        first: Digest([0x0a; 32]),
+        second: Digest([0xab; 32]),
+    };
+    Ok(Box::new(alloc, status)?)
+}
+
+#[test]
+fn a_file_that_moved_is_told_by_its_path_and_both_digests(rt: HostRuntime) -> Result<(), Fail> {
+    let alloc = rt.alloc();
+    let line =
+        b"migrate: 28 moved a\\20b 0a0a0a0a0a0a0a0a0a0a0a0a0a0a0a0a0a0a0a0a0a0a0a0a0a0a0a0a0a0a0a0a abababababababababababababababababababababababababababababababab\n";
+    assert!(rt; is_told(alloc, &*moved(alloc)?, 28, line)?);
     Ok(())
 }

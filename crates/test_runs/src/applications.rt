@@ -1,6 +1,7 @@
 //! Runs over applications of classes: how many classes of the application a class holds, names that would become one, and
 //! classes that would be left behind.
 
+use crate::classes::A;
 use crate::fixture::{
     BELOW, ROOM, WORDS, expect, expect_files, first_run, folders_of, keeper_of, run,
 };
@@ -9,10 +10,6 @@ use desk_folders::MemoryFolders;
 use std::alloc::Global;
 use std::test::Fail;
 use worked_classes::servlet::{NEW_SERVLET, SERVLET};
-
-/// `class A`.
-const A: &[u8] =
-    b"\xCA\xFE\xBA\xBE\x00\x00\x00\x34\x00\x05\x01\x00\x01A\x07\x00\x01\x01\x00\x10java/lang/Object\x07\x00\x03\x00\x21\x00\x02\x00\x04\x00\x00\x00\x00\x00\x00\x00\x00";
 
 /// `class javax.servlet.F`.
 const F: &[u8] =
@@ -28,7 +25,7 @@ fn a_class_holds_its_own_name(rt: HostRuntime) -> Result<(), Fail> {
     let rows: &[(&[u8], &[u8])] = &[(b"r/renames.properties", BELOW), (b"in/A.class", A)];
     let mut folders = folders_of(alloc, rows, &[])?;
     let mut keeper = keeper_of(alloc, &[])?;
-    let ended = run(alloc, WORDS, &mut *folders, &mut *keeper, ROOM)?;
+    let ended = run(&rt, alloc, WORDS, &mut *folders, &mut *keeper, ROOM)?;
     expect(
         &rt,
         &ended,
@@ -48,7 +45,7 @@ fn a_class_that_is_renamed_holds_its_own_name(rt: HostRuntime) -> Result<(), Fai
     ];
     let mut folders = folders_of(alloc, rows, &[])?;
     let mut keeper = keeper_of(alloc, &[])?;
-    let ended = run(alloc, WORDS, &mut *folders, &mut *keeper, ROOM)?;
+    let ended = run(&rt, alloc, WORDS, &mut *folders, &mut *keeper, ROOM)?;
     expect(
         &rt,
         &ended,
@@ -72,7 +69,7 @@ fn a_servlet_holds_no_class_of_the_application_but_itself(rt: HostRuntime) -> Re
     ];
     let mut folders = folders_of(alloc, rows, &[])?;
     let mut keeper = keeper_of(alloc, &[])?;
-    let ended = run(alloc, WORDS, &mut *folders, &mut *keeper, ROOM)?;
+    let ended = run(&rt, alloc, WORDS, &mut *folders, &mut *keeper, ROOM)?;
     expect(
         &rt,
         &ended,
@@ -94,6 +91,7 @@ const SUB: &[u8] =
 #[test]
 fn each_class_of_the_application_that_a_class_holds_counts(rt: HostRuntime) -> Result<(), Fail> {
     let ended = first_run(
+        &rt,
         rt.alloc(),
         &[
             (b"r/renames.properties", BELOW),
@@ -131,7 +129,7 @@ fn two_names_that_would_become_one_clash(rt: HostRuntime) -> Result<(), Fail> {
     ];
     let mut folders = folders_of(alloc, rows, &[])?;
     let mut keeper = keeper_of(alloc, &[])?;
-    let ended = run(alloc, WORDS, &mut *folders, &mut *keeper, ROOM)?;
+    let ended = run(&rt, alloc, WORDS, &mut *folders, &mut *keeper, ROOM)?;
     expect(
         &rt,
         &ended,
@@ -156,6 +154,7 @@ const BOTH: &[u8] =
 #[test]
 fn two_names_that_no_class_defines_may_become_one(rt: HostRuntime) -> Result<(), Fail> {
     let ended = first_run(
+        &rt,
         rt.alloc(),
         &[(b"r/renames.properties", X), (b"in/A.class", BOTH)],
     )?;
@@ -178,7 +177,7 @@ fn a_class_that_would_be_left_behind_is_stranded(rt: HostRuntime) -> Result<(), 
     ];
     let mut folders = folders_of(alloc, rows, &[])?;
     let mut keeper = keeper_of(alloc, &[])?;
-    let ended = run(alloc, WORDS, &mut *folders, &mut *keeper, ROOM)?;
+    let ended = run(&rt, alloc, WORDS, &mut *folders, &mut *keeper, ROOM)?;
     expect(
         &rt,
         &ended,
@@ -198,7 +197,7 @@ fn a_class_that_would_be_left_behind_is_stranded(rt: HostRuntime) -> Result<(), 
 
 /// An application with a file of each kind: a manifest, a service file, a class, an archive, a descriptor, and a class that
 /// isn't selected.
-const SHOP: &[(&[u8], &[u8])] = &[
+pub const SHOP: &[(&[u8], &[u8])] = &[
     (b"r/renames.properties", BELOW),
     (b"r/versions.properties", b"jakarta.servlet=[5,6)"),
     (b"r/selection.properties", b"legacy/*=!"),
@@ -231,7 +230,7 @@ const OLD: &[u8] =
     b"\xCA\xFE\xBA\xBE\x00\x00\x00\x34\x00\x05\x01\x00\x0Alegacy/Old\x07\x00\x01\x01\x00\x1Ejavax/servlet/http/HttpServlet\x07\x00\x03\x00\x21\x00\x02\x00\x04\x00\x00\x00\x00\x00\x00\x00\x00";
 
 /// What each file of that application becomes, below its target.
-const NEW_SHOP: &[(&[u8], &[u8])] = &[
+pub const NEW_SHOP: &[(&[u8], &[u8])] = &[
     (b"META-INF/MANIFEST.MF", NEW_MANIFEST),
     (
         b"META-INF/services/jakarta.servlet.ServletContainerInitializer",
@@ -245,6 +244,10 @@ const NEW_SHOP: &[(&[u8], &[u8])] = &[
     ),
     (b"legacy/Old.class", OLD),
 ];
+
+/// What the first run over that application writes.
+pub const SHOP_REPORT: &str =
+    "written META-INF/MANIFEST.MF META-INF/MANIFEST.MF manifest changed=2\nwritten META-INF/services/javax.servlet.ServletContainerInitializer META-INF/services/jakarta.servlet.ServletContainerInitializer service changed=1\nwritten WEB-INF/classes/web/Hello.class WEB-INF/classes/web/Hello.class class renamed=4 added=0 odd=0 links=1\nwritten WEB-INF/lib/a.jar WEB-INF/lib/a.jar copy\nwritten WEB-INF/web.xml WEB-INF/web.xml text changed=1\nwritten legacy/Old.class legacy/Old.class copy\ntotal files=6 written=6 kept=0 refused=0 renamed=4 added=0\n";
 
 /// The words of a second migration, of what the first one made.
 const AGAIN: &[&[u8]] = &[
@@ -267,7 +270,7 @@ fn below(alloc: Global, folder: &[u8], path: &[u8]) -> Result<Text, Fail> {
 }
 
 /// Whether a folder holds each file of the migrated application.
-fn holds_shop(alloc: Global, folders: &MemoryFolders, folder: &[u8]) -> Result<bool, Fail> {
+pub fn holds_shop(alloc: Global, folders: &MemoryFolders, folder: &[u8]) -> Result<bool, Fail> {
     for (path, content) in NEW_SHOP {
         let whole = below(alloc, folder, path)?;
         if folders.content(whole.as_bytes()) != Some(*content) {
@@ -284,16 +287,11 @@ fn an_application_is_migrated_and_a_second_migration_changes_nothing(
     let alloc = rt.alloc();
     let mut folders = folders_of(alloc, SHOP, &[])?;
     let mut keeper = keeper_of(alloc, &[])?;
-    let first = run(alloc, WORDS, &mut *folders, &mut *keeper, ROOM)?;
-    expect(
-        &rt,
-        &first,
-        0,
-        "written META-INF/MANIFEST.MF META-INF/MANIFEST.MF manifest changed=2\nwritten META-INF/services/javax.servlet.ServletContainerInitializer META-INF/services/jakarta.servlet.ServletContainerInitializer service changed=1\nwritten WEB-INF/classes/web/Hello.class WEB-INF/classes/web/Hello.class class renamed=4 added=0 odd=0 links=1\nwritten WEB-INF/lib/a.jar WEB-INF/lib/a.jar copy\nwritten WEB-INF/web.xml WEB-INF/web.xml text changed=1\nwritten legacy/Old.class legacy/Old.class copy\ntotal files=6 written=6 kept=0 refused=0 renamed=4 added=0\n",
-    );
+    let first = run(&rt, alloc, WORDS, &mut *folders, &mut *keeper, ROOM)?;
+    expect(&rt, &first, 0, SHOP_REPORT);
     assert!(rt; holds_shop(alloc, &folders, b"out/")?);
     let mut empty = keeper_of(alloc, &[])?;
-    let second = run(alloc, AGAIN, &mut *folders, &mut *empty, ROOM)?;
+    let second = run(&rt, alloc, AGAIN, &mut *folders, &mut *empty, ROOM)?;
     expect(
         &rt,
         &second,

@@ -1,12 +1,14 @@
 //! Runs whose folders, ledger or output fail.
 
-use crate::fixture::{ROOM, WORDS, expect, expect_files, folders_of, keeper_of, run};
+use crate::fixture::{
+    BELOW, ROOM, WORDS, expect, expect_files, folders_of, has_row, keeper_of, run,
+};
 use crate::unwritten::Unwritten;
 use std::test::Fail;
 
 /// Three files of one byte each.
 const THREE_FILES: &[(&[u8], &[u8])] = &[
-    (b"r/renames.properties", b"javax.servlet=jakarta.servlet"),
+    (b"r/renames.properties", BELOW),
     (b"in/a", b"1"),
     (b"in/b", b"2"),
     (b"in/c", b"3"),
@@ -15,11 +17,11 @@ const THREE_FILES: &[(&[u8], &[u8])] = &[
 #[test]
 fn a_stopped_run_goes_on_where_it_stood(rt: HostRuntime) -> Result<(), Fail> {
     let alloc = rt.alloc();
-    // The third append is call 15 of the folders; calls 28 of the folders and 14 of the keeper would
+    // The third append is call 18 of the folders; calls 32 of the folders and 14 of the keeper would
     // fail too, and are never made.
-    let mut folders = folders_of(alloc, THREE_FILES, &[15, 28])?;
+    let mut folders = folders_of(alloc, THREE_FILES, &[18, 32])?;
     let mut keeper = keeper_of(alloc, &[14])?;
-    let stopped = run(alloc, WORDS, &mut *folders, &mut *keeper, ROOM)?;
+    let stopped = run(&rt, alloc, WORDS, &mut *folders, &mut *keeper, ROOM)?;
     expect(&rt, &stopped, 11, "migrate: 11 folder fault done=2\n");
     expect_files(
         &rt,
@@ -30,7 +32,7 @@ fn a_stopped_run_goes_on_where_it_stood(rt: HostRuntime) -> Result<(), Fail> {
             (b"out/c", Some(b"")),
         ],
     );
-    let resumed = run(alloc, WORDS, &mut *folders, &mut *keeper, ROOM)?;
+    let resumed = run(&rt, alloc, WORDS, &mut *folders, &mut *keeper, ROOM)?;
     expect(
         &rt,
         &resumed,
@@ -42,11 +44,25 @@ fn a_stopped_run_goes_on_where_it_stood(rt: HostRuntime) -> Result<(), Fail> {
 }
 
 #[test]
+fn a_stopped_run_has_the_rows_of_the_files_that_are_done(rt: HostRuntime) -> Result<(), Fail> {
+    let alloc = rt.alloc();
+    // The third append is call 18 of the folders.
+    let mut folders = folders_of(alloc, THREE_FILES, &[18])?;
+    let mut keeper = keeper_of(alloc, &[])?;
+    let stopped = run(&rt, alloc, WORDS, &mut *folders, &mut *keeper, ROOM)?;
+    expect(&rt, &stopped, 11, "migrate: 11 folder fault done=2\n");
+    for (target, there) in [(b"a", true), (b"b", true), (b"c", false)] {
+        assert_eq!(rt; has_row(alloc, &mut keeper, target)?, there);
+    }
+    Ok(())
+}
+
+#[test]
 fn a_ledger_that_fails_ends_the_run_before_its_files(rt: HostRuntime) -> Result<(), Fail> {
     let alloc = rt.alloc();
     let mut folders = folders_of(alloc, THREE_FILES, &[])?;
     let mut keeper = keeper_of(alloc, &[0])?;
-    let ended = run(alloc, WORDS, &mut *folders, &mut *keeper, ROOM)?;
+    let ended = run(&rt, alloc, WORDS, &mut *folders, &mut *keeper, ROOM)?;
     expect(&rt, &ended, 12, "migrate: 12 ledger fault done=0\n");
     expect_files(&rt, &folders, &[(b"out/a", None)]);
     Ok(())
@@ -57,7 +73,7 @@ fn an_output_that_fails_comes_behind_the_files(rt: HostRuntime) -> Result<(), Fa
     let alloc = rt.alloc();
     let mut folders = folders_of(alloc, THREE_FILES, &[])?;
     let mut keeper = keeper_of(alloc, &[])?;
-    let ended = run(alloc, WORDS, &mut *folders, &mut *keeper, 0)?;
+    let ended = run(&rt, alloc, WORDS, &mut *folders, &mut *keeper, 0)?;
     expect(&rt, &ended, 13, "");
     expect_files(
         &rt,
@@ -72,7 +88,7 @@ fn a_failed_commit_has_all_files_and_no_report(rt: HostRuntime) -> Result<(), Fa
     let alloc = rt.alloc();
     let mut folders = folders_of(alloc, THREE_FILES, &[])?;
     let mut keeper = Box::new(alloc, Unwritten::new())?;
-    let ended = run(alloc, WORDS, &mut *folders, &mut *keeper, ROOM)?;
+    let ended = run(&rt, alloc, WORDS, &mut *folders, &mut *keeper, ROOM)?;
     expect(&rt, &ended, 12, "migrate: 12 ledger fault done=3\n");
     expect_files(
         &rt,
@@ -89,10 +105,10 @@ fn a_failed_commit_has_all_files_and_no_report(rt: HostRuntime) -> Result<(), Fa
 #[test]
 fn a_commit_that_fails_behind_a_stop_is_the_ledger_fault(rt: HostRuntime) -> Result<(), Fail> {
     let alloc = rt.alloc();
-    // The second append is call 12 of the folders.
-    let mut folders = folders_of(alloc, THREE_FILES, &[13])?;
+    // The second append is call 15 of the folders.
+    let mut folders = folders_of(alloc, THREE_FILES, &[15])?;
     let mut keeper = Box::new(alloc, Unwritten::new())?;
-    let ended = run(alloc, WORDS, &mut *folders, &mut *keeper, ROOM)?;
+    let ended = run(&rt, alloc, WORDS, &mut *folders, &mut *keeper, ROOM)?;
     expect(&rt, &ended, 12, "migrate: 12 ledger fault done=1\n");
     Ok(())
 }

@@ -6,13 +6,15 @@ ghost use Rattle.desk_base.specs.Paths.{is_full_path};
 
 use desk_base::{Memory, Text};
 use desk_folders::{Folders, GenFile, MemoryFolders, is_full};
-use desk_ledger::{Keeper, MemoryKeeper};
+use desk_ledger::{Header, Keeper, MemoryKeeper, Row};
 use desk_report::MemorySink;
-use desk_run::desk;
+use desk_run::{FreeGate, desk};
+use desk_workers::Gate;
 use std::alloc::Global;
 use std::process::Abort;
 use std::str;
 use std::test::Fail;
+use std::thread::Threads;
 
 /// The words of a run from `in` to `out`, by the rules in `r` and the ledger `l`.
 pub const WORDS: &[&[u8]] = &[
@@ -109,26 +111,47 @@ fn words_of(alloc: Global, words: &[&[u8]]) -> Result<Vec<Text>, Fail> {
     Ok(list)
 }
 
+/// Runs the desk with these words over folders and a ledger that go on, an output with room for so many bytes, and a gate.
+pub fn run_through<R: Threads + Sync, F: Folders, K: Keeper, G: Gate + Sync>(
+    rt: &R,
+    alloc: Global,
+    words: &[&[u8]],
+    folders: &mut F,
+    keeper: &mut K,
+    room: u32,
+    gate: &G,
+) -> Result<Ended, Fail> {
+    let words = words_of(alloc, words)?;
+    let mut out = Box::new(alloc, MemorySink::with_room(alloc, room)?)?;
+    let status = desk(rt, alloc, &words, folders, keeper, &mut *out, gate);
+    let text = Text::from_bytes(alloc, out.written())?;
+    Ok(Ended {
+        code: status.code(),
+        text,
+    })
+}
+
 /// Runs the desk with these words over folders and a ledger that go on, and an output with room for so many bytes.
-pub fn run<F: Folders, K: Keeper>(
+pub fn run<R: Threads + Sync, F: Folders, K: Keeper>(
+    rt: &R,
     alloc: Global,
     words: &[&[u8]],
     folders: &mut F,
     keeper: &mut K,
     room: u32,
 ) -> Result<Ended, Fail> {
-    let words = words_of(alloc, words)?;
-    let mut out = Box::new(alloc, MemorySink::with_room(alloc, room)?)?;
-    let code = desk(alloc, &words, folders, keeper, &mut *out).code();
-    let text = Text::from_bytes(alloc, out.written())?;
-    Ok(Ended { code, text })
+    run_through(rt, alloc, words, folders, keeper, room, &FreeGate)
 }
 
 /// How the first run of the usual words ends over files of these paths and contents.
-pub fn first_run(alloc: Global, rows: &[(&[u8], &[u8])]) -> Result<Ended, Fail> {
+pub fn first_run<R: Threads + Sync>(
+    rt: &R,
+    alloc: Global,
+    rows: &[(&[u8], &[u8])],
+) -> Result<Ended, Fail> {
     let mut folders = folders_of(alloc, rows, &[])?;
     let mut keeper = keeper_of(alloc, &[])?;
-    run(alloc, WORDS, &mut *folders, &mut *keeper, ROOM)
+    run(rt, alloc, WORDS, &mut *folders, &mut *keeper, ROOM)
 }
 
 /// A run ended with this status, and wrote this.
@@ -142,4 +165,31 @@ pub fn expect_files(rt: &impl Abort, folders: &MemoryFolders, rows: &[(&[u8], Op
     for (path, content) in rows {
         assert_eq!(rt; folders.content(path), *content);
     }
+}
+
+/// The row that the ledger holds under a target.
+pub fn row_of(
+    alloc: Global,
+    keeper: &mut MemoryKeeper,
+    target: &[u8],
+) -> Result<Option<Row>, Fail> {
+    let name = Text::from_bytes(alloc, b"l")?;
+    let target = Text::from_bytes(alloc, target)?;
+    keeper.attach(&name)?;
+    Ok(keeper.find(&target)?)
+}
+
+/// The header of the ledger.
+pub fn header_of(alloc: Global, keeper: &mut MemoryKeeper) -> Result<Header, Fail> {
+    let name = Text::from_bytes(alloc, b"l")?;
+    keeper.attach(&name)?;
+    match keeper.header()? {
+        Some(header) => Ok(header),
+        None => Err(Fail::from("no header")),
+    }
+}
+
+/// Whether the ledger holds a row of a target.
+pub fn has_row(alloc: Global, keeper: &mut MemoryKeeper, target: &[u8]) -> Result<bool, Fail> {
+    Ok(row_of(alloc, keeper, target)?.is_some())
 }

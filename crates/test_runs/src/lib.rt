@@ -3,7 +3,7 @@
 //! ```text
 //! let mut folders = folders_of(alloc, &[(b"r/renames.properties", RULE), (b"in/a", b"1")], &[])?;
 //! let mut keeper = keeper_of(alloc, &[])?;
-//! let ended = run(alloc, &WORDS, &mut folders, &mut keeper, ROOM)?;
+//! let ended = run(&rt, alloc, WORDS, &mut *folders, &mut *keeper, ROOM)?;
 //! expect(&rt, &ended, 0, "written a a copy\n..");
 //! ```
 #![tactic(auto)]
@@ -11,14 +11,22 @@
 #[cfg(test)]
 mod applications;
 #[cfg(test)]
+mod changing;
+#[cfg(test)]
+mod classes;
+#[cfg(test)]
 mod faults;
 #[cfg(test)]
 mod fixture;
 #[cfg(test)]
 mod limits;
 #[cfg(test)]
+mod readings;
+#[cfg(test)]
 mod reports;
 #[cfg(test)]
 mod statuses;
 #[cfg(test)]
 mod unwritten;
+#[cfg(test)]
+mod workers;

@@ -21,7 +21,7 @@ fn a_service_file_and_a_copy_are_migrated(rt: HostRuntime) -> Result<(), Fail> {
         &[],
     )?;
     let mut keeper = keeper_of(alloc, &[])?;
-    let ended = run(alloc, WORDS, &mut *folders, &mut *keeper, ROOM)?;
+    let ended = run(&rt, alloc, WORDS, &mut *folders, &mut *keeper, ROOM)?;
     expect(
         &rt,
         &ended,
@@ -45,6 +45,7 @@ fn a_service_file_and_a_copy_are_migrated(rt: HostRuntime) -> Result<(), Fail> {
 #[test]
 fn a_class_that_is_cut_is_refused(rt: HostRuntime) -> Result<(), Fail> {
     let ended = first_run(
+        &rt,
         rt.alloc(),
         &[(b"r/renames.properties", BELOW), (b"in/A.class", b"")],
     )?;
@@ -60,6 +61,7 @@ fn a_class_that_is_cut_is_refused(rt: HostRuntime) -> Result<(), Fail> {
 #[test]
 fn a_blank_in_a_provider_refuses_the_file(rt: HostRuntime) -> Result<(), Fail> {
     let ended = first_run(
+        &rt,
         rt.alloc(),
         &[
             (b"r/renames.properties", BELOW),
@@ -88,7 +90,7 @@ fn refused_files_leave_the_others_to_be_written(rt: HostRuntime) -> Result<(), F
         &[],
     )?;
     let mut keeper = keeper_of(alloc, &[])?;
-    let ended = run(alloc, WORDS, &mut *folders, &mut *keeper, ROOM)?;
+    let ended = run(&rt, alloc, WORDS, &mut *folders, &mut *keeper, ROOM)?;
     expect(
         &rt,
         &ended,
@@ -100,7 +102,7 @@ fn refused_files_leave_the_others_to_be_written(rt: HostRuntime) -> Result<(), F
         &folders,
         &[(b"out/A.class", None), (b"out/a/b.txt", Some(b"x"))],
     );
-    let again = run(alloc, WORDS, &mut *folders, &mut *keeper, ROOM)?;
+    let again = run(&rt, alloc, WORDS, &mut *folders, &mut *keeper, ROOM)?;
     expect(
         &rt,
         &again,
@@ -113,6 +115,7 @@ fn refused_files_leave_the_others_to_be_written(rt: HostRuntime) -> Result<(), F
 #[test]
 fn an_unselected_file_is_copied_to_its_path(rt: HostRuntime) -> Result<(), Fail> {
     let ended = first_run(
+        &rt,
         rt.alloc(),
         &[
             (b"r/renames.properties", BELOW),
@@ -133,6 +136,7 @@ fn an_unselected_file_is_copied_to_its_path(rt: HostRuntime) -> Result<(), Fail>
 #[test]
 fn a_source_without_files_has_its_totals(rt: HostRuntime) -> Result<(), Fail> {
     let ended = first_run(
+        &rt,
         rt.alloc(),
         &[(b"r/renames.properties", BELOW), (b"elsewhere", b"")],
     )?;

@@ -3,6 +3,7 @@
 use crate::fixture::{ROOM, WORDS, expect, first_run, folders_of, keeper_of, run};
 use std::alloc::Global;
 use std::test::Fail;
+use std::thread::Threads;
 
 /// Rules, and the line that tells what is bad in them.
 const BAD_RULES: &[(&[u8], &str)] = &[
@@ -18,15 +19,24 @@ const BAD_RULES: &[(&[u8], &str)] = &[
 ];
 
 /// Whether a run by these rules ends with this line of bad rules.
-fn is_bad(alloc: Global, rules: &[u8], line: &str) -> Result<bool, Fail> {
-    let ended = first_run(alloc, &[(b"r/renames.properties", rules), (b"in/a", b"")])?;
+fn is_bad<R: Threads + Sync>(
+    rt: &R,
+    alloc: Global,
+    rules: &[u8],
+    line: &str,
+) -> Result<bool, Fail> {
+    let ended = first_run(
+        rt,
+        alloc,
+        &[(b"r/renames.properties", rules), (b"in/a", b"")],
+    )?;
     Ok(ended.code() == 22 && ended.text() == line)
 }
 
 #[test]
 fn faults_of_rule_files_are_told(rt: HostRuntime) -> Result<(), Fail> {
     for (rules, line) in BAD_RULES {
-        assert!(rt; is_bad(rt.alloc(), rules, line)?, "{line}");
+        assert!(rt; is_bad(&rt, rt.alloc(), rules, line)?, "{line}");
     }
     Ok(())
 }
@@ -76,17 +86,23 @@ const BAD_WORDS: &[(&[&[u8]], u8, &str)] = &[
 ];
 
 /// Whether a run of these words over empty folders ends with this status and line.
-fn ends_with(alloc: Global, words: &[&[u8]], code: u8, line: &str) -> Result<bool, Fail> {
+fn ends_with<R: Threads + Sync>(
+    rt: &R,
+    alloc: Global,
+    words: &[&[u8]],
+    code: u8,
+    line: &str,
+) -> Result<bool, Fail> {
     let mut folders = folders_of(alloc, &[], &[])?;
     let mut keeper = keeper_of(alloc, &[])?;
-    let ended = run(alloc, words, &mut *folders, &mut *keeper, ROOM)?;
+    let ended = run(rt, alloc, words, &mut *folders, &mut *keeper, ROOM)?;
     Ok(ended.code() == code && ended.text() == line)
 }
 
 #[test]
 fn other_words_mean_no_task(rt: HostRuntime) -> Result<(), Fail> {
     for (words, code, line) in BAD_WORDS {
-        assert!(rt; ends_with(rt.alloc(), words, *code, line)?, "{line}");
+        assert!(rt; ends_with(&rt, rt.alloc(), words, *code, line)?, "{line}");
     }
     Ok(())
 }
@@ -94,6 +110,7 @@ fn other_words_mean_no_task(rt: HostRuntime) -> Result<(), Fail> {
 #[test]
 fn two_files_of_one_target_clash(rt: HostRuntime) -> Result<(), Fail> {
     let ended = first_run(
+        &rt,
         rt.alloc(),
         &[
             (b"r/renames.properties", b"javax.x=jakarta.x"),
@@ -139,10 +156,10 @@ fn a_ledger_of_another_run_is_left_alone(rt: HostRuntime) -> Result<(), Fail> {
     let mut keeper = keeper_of(alloc, &[])?;
     let mut codes = [0; 2];
     for (code, words) in codes.iter_mut().zip([WORDS, OTHERS]) {
-        *code = run(alloc, words, &mut *folders, &mut *keeper, ROOM)?.code();
+        *code = run(&rt, alloc, words, &mut *folders, &mut *keeper, ROOM)?.code();
     }
     assert_eq!(rt; codes, [0, 27]);
-    let again = run(alloc, WORDS, &mut *folders, &mut *keeper, ROOM)?;
+    let again = run(&rt, alloc, WORDS, &mut *folders, &mut *keeper, ROOM)?;
     expect(
         &rt,
         &again,

@@ -5,9 +5,10 @@ use desk_base::{Memory, Text};
 use desk_folders::MemoryFolders;
 use desk_ledger::MemoryKeeper;
 use desk_report::MemorySink;
-use desk_run::desk;
+use desk_run::{FreeGate, desk};
 use std::alloc::Global;
 use std::test::Fail;
+use std::thread::Threads;
 
 /// The line of words without a task.
 const USAGE: &[u8] =
@@ -15,7 +16,12 @@ const USAGE: &[u8] =
 
 /// The exit status and the bytes that the desk gives for a line of words, over empty folders and an empty ledger of which each first call fails, with
 /// room for so many bytes.
-fn ended(alloc: Global, line: &[u8], room: u32) -> Result<(u8, Text), Memory> {
+fn ended<R: Threads + Sync>(
+    rt: &R,
+    alloc: Global,
+    line: &[u8],
+    room: u32,
+) -> Result<(u8, Text), Memory> {
     let words = words_of(alloc, line)?;
     let mut folders = Box::new(
         alloc,
@@ -23,21 +29,36 @@ fn ended(alloc: Global, line: &[u8], room: u32) -> Result<(u8, Text), Memory> {
     )?;
     let mut keeper = Box::new(alloc, MemoryKeeper::new(alloc, [0].to_vec(alloc)?)?)?;
     let mut out = Box::new(alloc, MemorySink::with_room(alloc, room)?)?;
-    let code = desk(alloc, &words, &mut *folders, &mut *keeper, &mut *out).code();
+    let status = desk(
+        rt,
+        alloc,
+        &words,
+        &mut *folders,
+        &mut *keeper,
+        &mut *out,
+        &FreeGate,
+    );
     let text = Text::from_bytes(alloc, out.written())?;
-    Ok((code, text))
+    Ok((status.code(), text))
 }
 
 /// Whether the desk ends a line of words so.
-fn ends(alloc: Global, line: &[u8], room: u32, code: u8, text: &[u8]) -> Result<bool, Memory> {
-    let (ended_code, ended_text) = ended(alloc, line, room)?;
+fn ends<R: Threads + Sync>(
+    rt: &R,
+    alloc: Global,
+    line: &[u8],
+    room: u32,
+    code: u8,
+    text: &[u8],
+) -> Result<bool, Memory> {
+    let (ended_code, ended_text) = ended(rt, alloc, line, room)?;
     Ok(ended_code == code && ended_text.as_bytes() == text)
 }
 
 #[test]
 fn one_class(rt: HostRuntime) -> Result<(), Fail> {
     let line = b"total files=2 written=2 kept=0 refused=0 renamed=5 added=0\n";
-    assert!(rt; ends(rt.alloc(), b"generate --count 1", 1000, 0, line)?);
+    assert!(rt; ends(&rt, rt.alloc(), b"generate --count 1", 1000, 0, line)?);
     Ok(())
 }
 
@@ -46,6 +67,7 @@ fn fifty_classes(rt: HostRuntime) -> Result<(), Fail> {
     let line = b"total files=51 written=51 kept=0 refused=0 renamed=250 added=50\n";
     assert!(rt;
         ends(
+            &rt,
             rt.alloc(),
             b"generate --count=50 --workers 4",
             1000,
@@ -58,7 +80,7 @@ fn fifty_classes(rt: HostRuntime) -> Result<(), Fail> {
 
 #[test]
 fn an_output_without_room_is_a_fault(rt: HostRuntime) -> Result<(), Fail> {
-    assert!(rt; ends(rt.alloc(), b"generate --count 1", 6, 13, b"total ")?);
+    assert!(rt; ends(&rt, rt.alloc(), b"generate --count 1", 6, 13, b"total ")?);
     Ok(())
 }
 
@@ -92,7 +114,7 @@ const WITHOUT_RUN: &[(&[u8], u8, &[u8])] = &[
 #[test]
 fn words_without_a_run(rt: HostRuntime) -> Result<(), Fail> {
     for (line, code, text) in WITHOUT_RUN {
-        assert!(rt; ends(rt.alloc(), line, 1000, *code, text)?);
+        assert!(rt; ends(&rt, rt.alloc(), line, 1000, *code, text)?);
     }
     Ok(())
 }

@@ -23,12 +23,12 @@ returns-clause-generate g c =
     (last_write _ _ _ _ _ c.write_fault.result c.write_fault.ensures.ok c.write_fault.ensures.err c.write_fault.ensures.failed)) c.follow-status.ensures.generate
 
 pub returns-clause-causes : goal.returns-clause-causes
-returns-clause-causes g c = causes_after (asked_of c.args.words.now) c.follow-status.result _ _ _ _ _ _ _ c.write_fault.ensures.counts c.follow-status.ensures.causes
+returns-clause-causes g c = causes_after (asked_of c.args.words.now) _ c.follow-status.result _ _ _ _ _ _ _ c.write_fault.ensures.counts c.follow-status.ensures.causes
 
 pub returns-clause-status : goal.returns-clause-status
 returns-clause-status g c = λ m l ef ek.
-    status_clause (asked_of c.args.words.now) _ c.follow-status.result _ _ _ _ _ _ (c.follow-status.ensures.first m l ef ek)
-    (causes_after (asked_of c.args.words.now) c.follow-status.result _ _ _ _ _ _ _ c.write_fault.ensures.counts c.follow-status.ensures.causes)
+    status_clause (asked_of c.args.words.now) _ m _ c.follow-status.result _ _ _ _ _ _ ef (c.follow-status.ensures.first m l ef ek)
+    (causes_after (asked_of c.args.words.now) _ c.follow-status.result _ _ _ _ _ _ _ c.write_fault.ensures.counts c.follow-status.ensures.causes)
 
 pub returns-clause-remains : goal.returns-clause-remains
 returns-clause-remains g c =

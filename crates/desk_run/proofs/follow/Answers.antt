@@ -7,79 +7,79 @@ use Rattle.desk_run.proofs.follow.Goals as goal
 
 pub returns-in-Ok-Run-clause-stands : goal.returns-in-Ok-Run-clause-stands
 returns-in-Ok-Run-clause-stands g c =
-    let e : order_of_words c.args.words.now ≡ Ok (order.Run c.in-Ok-Run.roots) = search rules in
-    run_stands c.args.words.now c.in-Ok-Run.roots _ _ _ _ _ e c.run.ensures.stands
+    let e : order_of_words c.args.words.now ≡ Ok (order.Run c.in-Ok-Run.roots c.in-Ok-Run.workers) = search rules in
+    run_stands c.args.words.now c.in-Ok-Run.roots c.in-Ok-Run.workers _ _ _ _ _ e c.run.ensures.stands
 
 pub returns-in-Ok-Run-clause-first : goal.returns-in-Ok-Run-clause-first
 returns-in-Ok-Run-clause-first g c = λ m l ef ek.
-    let e : order_of_words c.args.words.now ≡ Ok (order.Run c.in-Ok-Run.roots) = search rules in
-    run_first c.args.words.now c.in-Ok-Run.roots m l _ e (c.run.ensures.first m l ef ek)
+    let e : order_of_words c.args.words.now ≡ Ok (order.Run c.in-Ok-Run.roots c.in-Ok-Run.workers) = search rules in
+    run_first c.args.words.now c.in-Ok-Run.roots c.in-Ok-Run.workers m l _ e (c.run.ensures.first m l ef ek)
 
 pub returns-in-Ok-Run-clause-output : goal.returns-in-Ok-Run-clause-output
 returns-in-Ok-Run-clause-output g c =
-    let e : order_of_words c.args.words.now ≡ Ok (order.Run c.in-Ok-Run.roots) = search rules in
-    run_reported c.args.words.now c.in-Ok-Run.roots _ _ _ _ _ e c.run.ensures.output
+    let e : order_of_words c.args.words.now ≡ Ok (order.Run c.in-Ok-Run.roots c.in-Ok-Run.workers) = search rules in
+    run_reported c.args.words.now c.in-Ok-Run.roots c.in-Ok-Run.workers _ _ _ _ _ e c.run.ensures.output
 
 pub returns-in-Ok-Run-clause-named : goal.returns-in-Ok-Run-clause-named
 returns-in-Ok-Run-clause-named g c =
-    let e : order_of_words c.args.words.now ≡ Ok (order.Run c.in-Ok-Run.roots) = search rules in
-    run_named c.args.words.now c.in-Ok-Run.roots _ _ _ e c.run.ensures.named
+    let e : order_of_words c.args.words.now ≡ Ok (order.Run c.in-Ok-Run.roots c.in-Ok-Run.workers) = search rules in
+    run_named c.args.words.now c.in-Ok-Run.roots c.in-Ok-Run.workers _ _ _ e c.run.ensures.named
 
 pub returns-in-Ok-Run-clause-committed : goal.returns-in-Ok-Run-clause-committed
 returns-in-Ok-Run-clause-committed g c = of_run_any c.args.words.now _ c.run.ensures.committed
 
 pub returns-in-Ok-Run-clause-untouched : goal.returns-in-Ok-Run-clause-untouched
 returns-in-Ok-Run-clause-untouched g c =
-    let e : order_of_words c.args.words.now ≡ Ok (order.Run c.in-Ok-Run.roots) = search rules in
-    no_generate c.args.words.now c.in-Ok-Run.roots _ e
+    let e : order_of_words c.args.words.now ≡ Ok (order.Run c.in-Ok-Run.roots c.in-Ok-Run.workers) = search rules in
+    no_generate c.args.words.now c.in-Ok-Run.roots c.in-Ok-Run.workers _ e
 
 pub returns-in-Ok-Run-clause-generate : goal.returns-in-Ok-Run-clause-generate
 returns-in-Ok-Run-clause-generate g c =
-    let e : order_of_words c.args.words.now ≡ Ok (order.Run c.in-Ok-Run.roots) = search rules in
-    no_generate c.args.words.now c.in-Ok-Run.roots _ e
+    let e : order_of_words c.args.words.now ≡ Ok (order.Run c.in-Ok-Run.roots c.in-Ok-Run.workers) = search rules in
+    no_generate c.args.words.now c.in-Ok-Run.roots c.in-Ok-Run.workers _ e
 
 pub returns-in-Ok-Run-clause-causes : goal.returns-in-Ok-Run-clause-causes
 returns-in-Ok-Run-clause-causes g c =
-    let e : order_of_words c.args.words.now ≡ Ok (order.Run c.in-Ok-Run.roots) = search rules in
-    run_causes c.args.words.now c.in-Ok-Run.roots _ _ _ _ _ _ _ e c.run.ensures.causes
+    let e : order_of_words c.args.words.now ≡ Ok (order.Run c.in-Ok-Run.roots c.in-Ok-Run.workers) = search rules in
+    run_causes c.args.words.now c.in-Ok-Run.roots c.in-Ok-Run.workers _ _ _ _ _ _ _ _ e c.run.ensures.causes
 
 pub returns-in-Ok-Generate-clause-stands : goal.returns-in-Ok-Generate-clause-stands
 returns-in-Ok-Generate-clause-stands g c =
-    let e : order_of_words c.args.words.now ≡ Ok (order.Generate c.in-Ok-Generate.count) = search rules in
-    no_run c.args.words.now c.in-Ok-Generate.count _ e
+    let e : order_of_words c.args.words.now ≡ Ok (order.Generate c.in-Ok-Generate.count c.in-Ok-Generate.workers) = search rules in
+    no_run c.args.words.now c.in-Ok-Generate.count c.in-Ok-Generate.workers _ e
 
 pub returns-in-Ok-Generate-clause-first : goal.returns-in-Ok-Generate-clause-first
 returns-in-Ok-Generate-clause-first g c = λ m l ef ek.
-    let e : order_of_words c.args.words.now ≡ Ok (order.Generate c.in-Ok-Generate.count) = search rules in
-    generate_first c.args.words.now c.in-Ok-Generate.count m l _ _ _ e c.run_generated.ensures.told
+    let e : order_of_words c.args.words.now ≡ Ok (order.Generate c.in-Ok-Generate.count c.in-Ok-Generate.workers) = search rules in
+    generate_first c.args.words.now c.in-Ok-Generate.count c.in-Ok-Generate.workers m l _ _ _ e c.run_generated.ensures.told
 
 pub returns-in-Ok-Generate-clause-output : goal.returns-in-Ok-Generate-clause-output
 returns-in-Ok-Generate-clause-output g c =
-    let e : order_of_words c.args.words.now ≡ Ok (order.Generate c.in-Ok-Generate.count) = search rules in
-    no_run c.args.words.now c.in-Ok-Generate.count _ e
+    let e : order_of_words c.args.words.now ≡ Ok (order.Generate c.in-Ok-Generate.count c.in-Ok-Generate.workers) = search rules in
+    no_run c.args.words.now c.in-Ok-Generate.count c.in-Ok-Generate.workers _ e
 
 pub returns-in-Ok-Generate-clause-named : goal.returns-in-Ok-Generate-clause-named
 returns-in-Ok-Generate-clause-named g c =
-    let e : order_of_words c.args.words.now ≡ Ok (order.Generate c.in-Ok-Generate.count) = search rules in
-    no_run c.args.words.now c.in-Ok-Generate.count _ e
+    let e : order_of_words c.args.words.now ≡ Ok (order.Generate c.in-Ok-Generate.count c.in-Ok-Generate.workers) = search rules in
+    no_run c.args.words.now c.in-Ok-Generate.count c.in-Ok-Generate.workers _ e
 
 pub returns-in-Ok-Generate-clause-committed : goal.returns-in-Ok-Generate-clause-committed
 returns-in-Ok-Generate-clause-committed g c =
-    let e : order_of_words c.args.words.now ≡ Ok (order.Generate c.in-Ok-Generate.count) = search rules in
-    no_run c.args.words.now c.in-Ok-Generate.count _ e
+    let e : order_of_words c.args.words.now ≡ Ok (order.Generate c.in-Ok-Generate.count c.in-Ok-Generate.workers) = search rules in
+    no_run c.args.words.now c.in-Ok-Generate.count c.in-Ok-Generate.workers _ e
 
 pub returns-in-Ok-Generate-clause-untouched : goal.returns-in-Ok-Generate-clause-untouched
 returns-in-Ok-Generate-clause-untouched g c = of_generate_any c.args.words.now _ (λ _. (refl, refl))
 
 pub returns-in-Ok-Generate-clause-generate : goal.returns-in-Ok-Generate-clause-generate
 returns-in-Ok-Generate-clause-generate g c =
-    let e : order_of_words c.args.words.now ≡ Ok (order.Generate c.in-Ok-Generate.count) = search rules in
-    at_generate c.args.words.now c.in-Ok-Generate.count (λ n. TellsTotals n _ _ _) e c.run_generated.ensures.told
+    let e : order_of_words c.args.words.now ≡ Ok (order.Generate c.in-Ok-Generate.count c.in-Ok-Generate.workers) = search rules in
+    at_generate c.args.words.now c.in-Ok-Generate.count c.in-Ok-Generate.workers (λ n. TellsTotals n _ _ _) e c.run_generated.ensures.told
 
 pub returns-in-Ok-Generate-clause-causes : goal.returns-in-Ok-Generate-clause-causes
 returns-in-Ok-Generate-clause-causes g c =
-    let e : order_of_words c.args.words.now ≡ Ok (order.Generate c.in-Ok-Generate.count) = search rules in
-    generate_causes c.args.words.now c.in-Ok-Generate.count _ _ _ _ _ _ _ e c.run_generated.ensures.told c.run_generated.ensures.causes
+    let e : order_of_words c.args.words.now ≡ Ok (order.Generate c.in-Ok-Generate.count c.in-Ok-Generate.workers) = search rules in
+    generate_causes c.args.words.now c.in-Ok-Generate.count c.in-Ok-Generate.workers _ _ _ _ _ _ _ _ e c.run_generated.ensures.told c.run_generated.ensures.causes
 
 pub returns-in-Err-clause-stands : goal.returns-in-Err-clause-stands
 returns-in-Err-clause-stands g c = err_stands c.args.words.now c.in-Err.fault _ _ _ c.status_of_words.ensures
@@ -103,4 +103,4 @@ pub returns-in-Err-clause-generate : goal.returns-in-Err-clause-generate
 returns-in-Err-clause-generate g c = err_tells c.args.words.now c.in-Err.fault _ _ c.in-Err.ensures.err c.status_of_words.ensures
 
 pub returns-in-Err-clause-causes : goal.returns-in-Err-clause-causes
-returns-in-Err-clause-causes g c = err_causes c.args.words.now c.in-Err.fault _ _ _ _ c.in-Err.ensures.err c.status_of_words.ensures
+returns-in-Err-clause-causes g c = err_causes c.args.words.now c.in-Err.fault _ _ _ _ _ c.in-Err.ensures.err c.status_of_words.ensures

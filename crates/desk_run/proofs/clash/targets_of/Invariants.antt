@@ -1,6 +1,6 @@
 use Rattle.std.proofs.Common.{◌≡◌, take, map}
-use Rattle.desk_run.specs.declared.files.Input.{Input}
+use Rattle.desk_batches.specs.declared.measured.Measured.{Measured}
 use Rattle.desk_run.proofs.clash.targets_of.Given as goal
 
-abbrev pub invariant-loop-input : goal.invariant-loop-input
-invariant-loop-input l = l.targets ≡ map (λ (input : Input). input.target) (take l.input-index l.inputs)
+abbrev pub invariant-loop-file : goal.invariant-loop-file
+invariant-loop-file l = l.targets ≡ map (λ (file : Measured). file.route.target) (take l.file-index l.files)

@@ -7,7 +7,7 @@ use Rattle.desk_run.proofs.InMemory.{totals_found}
 use Rattle.desk_run.proofs.generate.totals.Goals as goal
 
 pub returns : goal.returns
-returns c =
+returns g c =
     let files : c.in_ok-files.files.items ≡ generated_files c.args.count = search rules in
     let roots : c.in_ok-roots.roots ≡ generated_roots = search rules in
     let folders : c.in_ok-folders.folders.contents ≡ filled c.in_ok-files.files.items fin.empty = search rules in

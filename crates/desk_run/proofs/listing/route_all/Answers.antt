@@ -1,14 +1,17 @@
 use Rattle.std.proofs.Common.{◌≡◌, ◌⊎◌, inl, inr, false, ◌∙◌, ap, sym, map, map-id, rules}
 use Rattle.std.proofs.lemmas.Iterator.Adapters.{YieldsList-from_vec}
 use Rattle.std.proofs.lemmas.Iterator.Consumers.{YieldsList-end, YieldsList-so_far, YieldsList-turn}
+use Rattle.desk_batches.proofs.Fronts.{all_pushed}
 use Rattle.desk_file.specs.Images.{target}
-use Rattle.desk_run.specs.Inputs.{route_of}
+use Rattle.desk_file.specs.Routes.{IsRouteBy, route_of}
+use Rattle.desk_file.specs.declared.routes.Route.{Route}
+use Rattle.desk_base.specs.Paths.{is_relative_path}
 use Rattle.desk_run.specs.Limits.{is_short}
 use Rattle.desk_report.specs.declared.status.LimitKind.TheVariants.{PathLength}
 use Rattle.desk_report.specs.declared.status.Status.TheVariants.{Limit}
-use Rattle.desk_run.specs.declared.files.Route.{Route}
+use Rattle.desk_run.specs.Notes.{IsRelativeRoute}
 use Rattle.desk_run.specs.declared.stops.Halt.TheVariants as halt
-use Rattle.desk_run.proofs.Parts.{mapped_more, relative_more}
+use Rattle.desk_run.proofs.Parts.{mapped_more}
 use Rattle.desk_run.proofs.Routed.{halts_long, none_long, relative_path, short_more}
 use Rattle.desk_run.proofs.listing.route_all.Goals as goal
 use Rattle.desk_run.proofs.listing.route_all.Goals.{then-not-is_short-via-then-not-is_short, then-not-is_short-via-else-not-is_short+then-not-is_short-2}
@@ -21,12 +24,17 @@ route_of-requires c =
 
 pub loop-path-preserved : goal.loop-path-preserved
 loop-path-preserved c =
+    let road = YieldsList-from_vec {s = c.into_iter-path-iterator.result} c.args.paths.items (cc) (cc) in
+    let turn = YieldsList-turn road c.loop-path.yielded c.loop-path.path-iterator c.loop-path.yielded_by c.next.result c.next.new.self c.in-Some.path c.in-Some.is c.next.ensures.steps in
     let route = c.in_ok-route.route in
     let is = c.in_ok-route.ensures.route in
     record {
-      routes = sym (map-id c.push.new.self.items) ∙ mapped_more (λ (route : Route). route) (route_of (target c.args.rules.now)) c.loop-path.routes.items c.push.new.self.items route c.loop-path.yielded c.in-Some.path
+      routes = sym (map-id c.push.new.self.items) ∙ mapped_more (λ (route : Route). route) (route_of c.args.rules.now) c.loop-path.routes.items c.push.new.self.items route c.loop-path.yielded c.in-Some.path
           (map-id c.loop-path.routes.items ∙ c.loop-path.invariant.routes) is (search rules);
-      relative = relative_more (λ (route : Route). route.target) c.loop-path.routes.items c.push.new.self.items route c.loop-path.invariant.relative c.in_ok-route.ensures.relative (search rules);
+      relative = all_pushed (λ (route : Route). IsRelativeRoute route) c.loop-path.routes.items c.push.new.self.items route c.loop-path.invariant.relative
+          (record { path = ap (λ (r : Route). is_relative_path r.path) is ∙ relative_path c.args.paths.items _ c.in-Some.path c.requires turn.0 turn.1; target = c.in_ok-route.ensures.relative }) (search rules);
+      routed = all_pushed (λ (route : Route). IsRouteBy c.args.rules.now route) c.loop-path.routes.items c.push.new.self.items route c.loop-path.invariant.routed
+          (is ∙ ap (route_of c.args.rules.now) (sym (ap (λ (r : Route). r.path) is))) (search rules);
       short = short_more (target c.args.rules.now) c.loop-path.yielded c.in-Some.path
           (ap (λ (r : Route). is_short r.path) (sym is) ∙ sym c.is_short.ensures ∙ c.if-not-is_short.false)
           (ap (λ (r : Route). is_short r.target) (sym is) ∙ sym c.is_short-else-not-is_short.ensures ∙ c.if-not-is_short-2.false)
@@ -37,7 +45,7 @@ pub returns-clause-routes : goal.returns-clause-routes
 returns-clause-routes c =
     let road = YieldsList-from_vec {s = c.into_iter-path-iterator.result} c.args.paths.items (cc) (cc) in
     let end = YieldsList-end road c.loop-path.yielded c.loop-path.path-iterator c.loop-path.yielded_by c.next.result c.next.new.self c.in-None.is c.next.ensures.steps in
-    c.loop-path.invariant.routes ∙ ap (map (route_of (target c.args.rules.now))) (sym (map-id c.loop-path.yielded) ∙ end.0)
+    c.loop-path.invariant.routes ∙ ap (map (route_of c.args.rules.now)) (sym (map-id c.loop-path.yielded) ∙ end.0)
 
 pub returns-clause-short : goal.returns-clause-short
 returns-clause-short c =

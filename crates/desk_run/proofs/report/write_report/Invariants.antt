@@ -1,11 +1,11 @@
-use Rattle.std.proofs.Common.{◌≡◌, ◌≤◌}
-use Rattle.std.specs.List.{flat_map}
+use Rattle.std.proofs.Common.{◌≡◌, ◌≤◌, length}
 use Rattle.desk_report.specs.Written.{writing}
-use Rattle.desk_run.specs.Reports.{line_of_work}
+use Rattle.desk_run.specs.Reports.{lines_of}
 use Rattle.desk_run.proofs.report.write_report.Given as goal
 
-abbrev pub invariant-loop-work : goal.invariant-loop-work
-invariant-loop-work g l = record {
-  told : g.O.Sink.told l.out ≡ writing (flat_map line_of_work l.yielded) (g.O.Sink.told l.fn.out);
+abbrev pub invariant-loop-file : goal.invariant-loop-file
+invariant-loop-file g l = record {
+  place : l.place ≡ length l.yielded;
+  told : g.O.Sink.told l.out ≡ writing (lines_of l.yielded l.outcomes) (g.O.Sink.told l.fn.out);
   counts : g.O.Sink.faults l.fn.out ≤ g.O.Sink.faults l.out;
 }

@@ -1,0 +1,10 @@
+pub mod Steps
+pub mod Fronts
+pub mod Parts
+pub mod Changing
+pub mod Staying
+pub mod Taking
+pub mod Scans
+pub mod Measurings
+pub mod FirstReading
+pub mod SecondDigests

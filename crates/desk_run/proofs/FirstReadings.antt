@@ -1,0 +1,167 @@
+-- What the first reading of the routes of a source says of its files.
+use Rattle.std.proofs.Common.{All, ◌≡◌, ◌≤◌, ◌<◌, ◌^◌, ℕ, Bool, true, false, not, List, [], ◌∷◌, ◌++◌, length, map, refl, sym, ap, ◌∙◌, subst, arith, cond, nat_lt, Option, Some, None, Result, Ok, Err, IfSome, IsSome}
+use Rattle.std.specs.Prelude.{if◌then◌else◌}
+use Rattle.std.specs.FinMap as fin
+use Rattle.std.proofs.lemmas.List.{length-map}
+use Rattle.std.proofs.lemmas.List.Elements.{All-cons, All-head, All-nil, All-tail}
+use Rattle.desk_base.specs.Counts.{Rose-earlier}
+use Rattle.desk_base.specs.Limits.{file_size}
+use Rattle.desk_base.specs.Names.{Text}
+use Rattle.desk_base.specs.Paths.{full}
+use Rattle.desk_base.specs.declared.faults.Malformed.{Malformed}
+use Rattle.desk_batches.proofs.Fronts.{at_some, if_some}
+use Rattle.desk_batches.specs.Notes.{large_size}
+use Rattle.desk_batches.specs.Noting.{IsWithin, NoteFails, NotedTo}
+use Rattle.desk_batches.specs.Readings.{bytes_here, first_large, is_large, measured_at, most_by, scanned_route, scans_at}
+use Rattle.desk_batches.specs.declared.measured.Measured.{Measured}
+use Rattle.desk_batches.specs.declared.stops.NoteFault.{NoteFault}
+use Rattle.desk_batches.specs.declared.stops.NoteFault.TheVariants as note
+use Rattle.desk_file.proofs.Treating.{whole_treated}
+use Rattle.desk_file.specs.ClassScans.{is_class_kind, scanned_as, scanned_at}
+use Rattle.desk_file.specs.Images.{target}
+use Rattle.desk_file.specs.Routes.{IsRouteBy, route_of}
+use Rattle.desk_file.specs.Treatments.{is_class, is_copy, is_selected_class, is_whole, texts_treatment, treatment_by, treatment_of}
+use Rattle.desk_file.specs.declared.routes.Route.{Route}
+use Rattle.desk_folders.specs.Contents.{Contents, File, bytes_at, file_at, files_below, paths_below}
+use Rattle.desk_format.specs.Classes.{Class, read_class}
+use Rattle.desk_format.specs.Laws.{IsBytes}
+use Rattle.desk_graph.specs.declared.scanned.Scanned.{Scanned}
+use Rattle.desk_paths.specs.declared.Kind.{Kind}
+use Rattle.desk_paths.specs.declared.Kind.TheVariants as kinds
+use Rattle.desk_paths.specs.Kinds.{kind_of}
+use Rattle.desk_patterns.specs.PatternTexts.{FileTexts, texts_for}
+use Rattle.desk_patterns.specs.Selections.{selects}
+use Rattle.desk_report.specs.declared.status.LimitKind.TheVariants.{FileSize}
+use Rattle.desk_report.specs.declared.status.Status.{Status}
+use Rattle.desk_report.specs.declared.status.Status.TheVariants.{Limit}
+use Rattle.desk_rules.specs.Rules.{Rules}
+use Rattle.desk_second.specs.Applications.{classes_of}
+use Rattle.desk_run.proofs.Truths.{AllThere, files_there}
+use Rattle.desk_run.specs.Halts.{HaltsWith}
+use Rattle.desk_run.specs.Limits.{most_size, size_answer}
+use Rattle.desk_run.specs.Notes.{IsRead, IsRelativeRoute, measured_of}
+use Rattle.desk_run.specs.Stops.{halt_of_note}
+
+-- ---- sizes and digests
+
+measured_routed : (rules : Rules) (from : Text) (m : Contents) (paths : List Text) → map (measured_at from m) (map (route_of rules) paths) ≡ map (measured_of rules) (map (file_at from m) paths)
+measured_routed rules from m [] = refl
+measured_routed rules from m (path ∷ paths) = ap (λ (fs : List Measured). measured_of rules (file_at from m path) ∷ fs) (measured_routed rules from m paths)
+
+-- ---- classes
+
+class_treated : (selected : Bool) (kind : Kind) (texts : Option FileTexts) (path : Text) (read : Result Class Malformed)
+    → (if is_class (treatment_by selected kind texts) then scanned_as path (is_selected_class (treatment_by selected kind texts)) read else []) ≡ (if is_class_kind kind then scanned_as path selected read else [])
+class_treated true kinds.Class texts path read = refl
+class_treated false kinds.Class texts path read = refl
+class_treated true kinds.Service texts path read = refl
+class_treated false kinds.Service texts path read = refl
+class_treated true kinds.Manifest texts path read = refl
+class_treated false kinds.Manifest texts path read = refl
+class_treated true kinds.Other None path read = refl
+class_treated true kinds.Other (Some texts) path read = refl
+class_treated false kinds.Other texts path read = refl
+
+scanned_routed : (rules : Rules) (path bytes : Text) → scanned_route (route_of rules path) bytes ≡ scanned_at rules path bytes
+scanned_routed rules path bytes = class_treated (selects rules.selection path) (kind_of path) (texts_for rules.texts path (target rules path)) path (read_class bytes)
+
+scans_routed : (rules : Rules) (from : Text) (m : Contents) (paths : List Text) → scans_at from m (map (route_of rules) paths) ≡ classes_of rules (map (file_at from m) paths)
+scans_routed rules from m [] = refl
+scans_routed rules from m (path ∷ paths) =
+    ap (λ (ss : List Scanned). ss ++ scans_at from m (map (route_of rules) paths)) (scanned_routed rules path (bytes_at m (full from path)))
+    ∙ ap (λ (ss : List Scanned). scanned_at rules path (bytes_at m (full from path)) ++ ss) (scans_routed rules from m paths)
+
+-- ---- bytes
+
+bytes_routed : (rules : Rules) (from : Text) (m : Contents) (paths : List Text) → All (λ (route : Route). IsBytes (bytes_here from m route)) (map (route_of rules) paths) → All (λ (file : File). IsBytes file.bytes) (map (file_at from m) paths)
+bytes_routed rules from m [] h = All-nil (λ (file : File). IsBytes file.bytes)
+bytes_routed rules from m (path ∷ paths) h =
+    let P : Route → Type 0 = λ route. IsBytes (bytes_here from m route) in
+    All-cons (λ (file : File). IsBytes file.bytes) (file_at from m path) (map (file_at from m) paths) (All-head P (route_of rules path) (map (route_of rules) paths) h) (bytes_routed rules from m paths (All-tail P (route_of rules path) (map (route_of rules) paths) h))
+
+-- ---- limits
+
+most_same : (copy : Bool) → cond copy large_size file_size ≡ cond (not copy) file_size large_size
+most_same true = refl
+most_same false = refl
+
+-- how many bytes a file may have
+most_treated : (rules : Rules) (path : Text) → most_by (treatment_of rules path) ≡ most_size (is_whole rules path)
+most_treated rules path = most_same (is_copy (treatment_of rules path)) ∙ ap most_size (whole_treated rules path)
+
+abbrev pub large_status : Option Text → Option Status
+large_status None = None
+large_status (Some path) = Some (Limit FileSize path)
+
+large_by : (over : Bool) (path : Text) (large : Option Text) (answer : Option Status) → large_status large ≡ answer → large_status (if over then Some path else large) ≡ (if over then Some (Limit FileSize path) else answer)
+large_by true path large answer e = refl
+large_by false path large answer e = e
+
+large_routed : (rules : Rules) (from : Text) (m : Contents) (paths : List Text) → large_status (first_large from m (map (route_of rules) paths)) ≡ size_answer (is_whole rules) (map (file_at from m) paths)
+large_routed rules from m [] = refl
+large_routed rules from m (path ∷ paths) =
+    large_by (is_large from m (route_of rules path)) path (first_large from m (map (route_of rules) paths)) (size_answer (is_whole rules) (map (file_at from m) paths)) (large_routed rules from m paths)
+    ∙ ap (λ n. if nat_lt n (length (bytes_at m (full from path))) then Some (Limit FileSize path) else size_answer (is_whole rules) (map (file_at from m) paths)) (most_treated rules path)
+
+-- ---- of all files below a root
+
+-- what is known of the files of these routes
+pub record SaysOf (rules : Rules) (from : Text) (m : Contents) (files : List Measured) (classes : List Scanned) : Type 0 where
+  pub are : files ≡ map (measured_of rules) (files_below from m)
+  pub scanned : classes ≡ classes_of rules (files_below from m)
+  pub bytes : All (λ (file : File). IsBytes file.bytes) (files_below from m)
+  pub fit : size_answer (is_whole rules) (files_below from m) ≡ None
+
+pub says_of : (rules : Rules) (from : Text) (m : Contents) (routes : List Route) (files : List Measured) (classes : List Scanned) → routes ≡ map (route_of rules) (paths_below from m) → NotedTo from m routes files classes
+    → SaysOf rules from m files classes
+says_of rules from m routes files classes e n = record {
+  are = n.files ∙ ap (map (measured_at from m)) e ∙ measured_routed rules from m (paths_below from m);
+  scanned = n.scanned ∙ ap (scans_at from m) e ∙ scans_routed rules from m (paths_below from m);
+  bytes = bytes_routed rules from m (paths_below from m) (subst (All (λ (route : Route). IsBytes (bytes_here from m route))) e n.bytes);
+  fit = sym (ap large_status (sym n.fit ∙ ap (first_large from m) e) ∙ large_routed rules from m (paths_below from m));
+}
+
+-- where one of them has too many bytes
+pub halts_large : (rules : Rules) (from : Text) (told : Option Contents) (routes : List Route) (f f' : ℕ) (fault : NoteFault) → IfSome told (λ m. routes ≡ map (route_of rules) (paths_below from m))
+    → NoteFails (λ m. first_large from m routes) told f f' fault → HaltsWith (λ m. size_answer (is_whole rules) (files_below from m)) told f f' (halt_of_note fault)
+halts_large rules from told routes f f' note.Memory e g = tt
+halts_large rules from told routes f f' note.Folders e g = g
+halts_large rules from told routes f f' (note.TooLarge path) e g = (
+  refl,
+  if_some _ told (λ m t.
+      sym (large_routed rules from m (paths_below from m))
+      ∙ ap large_status (ap (first_large from m) (sym (at_some (λ m. routes ≡ map (route_of rules) (paths_below from m)) told m t e)) ∙ at_some (λ m. first_large from m routes ≡ Some path) told m t g)),
+)
+
+-- the files of these routes are there
+routes_there : (rules : Rules) (from : Text) (m : Contents) (paths : List Text) → AllThere from m (map (file_at from m) paths) → All (λ (route : Route). IsSome (fin.get m (full from route.path))) (map (route_of rules) paths)
+routes_there rules from m [] h = All-nil (λ (route : Route). IsSome (fin.get m (full from route.path)))
+routes_there rules from m (path ∷ paths) h =
+    All-cons (λ (route : Route). IsSome (fin.get m (full from route.path))) (route_of rules path) (map (route_of rules) paths) (subst IsSome (sym h.0.held) refl) (routes_there rules from m paths h.1)
+
+pub all_there : (rules : Rules) (from : Text) (told now : Option Contents) (routes : List Route) → now ≡ told → IfSome told (λ m. routes ≡ map (route_of rules) (paths_below from m))
+    → IfSome now (λ m. All (λ (route : Route). IsSome (fin.get m (full from route.path))) routes)
+all_there rules from told now routes same e = if_some _ now (λ m t.
+    subst (All (λ (route : Route). IsSome (fin.get m (full from route.path)))) (sym (at_some (λ m. routes ≡ map (route_of rules) (paths_below from m)) told m (sym same ∙ t) e))
+    (routes_there rules from m (paths_below from m) (files_there from m)))
+
+-- ---- whatever is told
+
+pub all_read : (rules : Rules) (routes : List Route) (files : List Measured) → map (λ (file : Measured). file.route) files ≡ routes → All (λ (route : Route). IsRelativeRoute route) routes → All (λ (route : Route). IsRouteBy rules route) routes
+    → All IsWithin files → All (IsRead rules) files
+all_read rules routes files e relative routed within =
+    by files (subst (All (λ (route : Route). IsRelativeRoute route)) (sym e) relative) (subst (All (λ (route : Route). IsRouteBy rules route)) (sym e) routed) within where
+      by : (files : List Measured) → All (λ (route : Route). IsRelativeRoute route) (map (λ (file : Measured). file.route) files) → All (λ (route : Route). IsRouteBy rules route) (map (λ (file : Measured). file.route) files)
+          → All IsWithin files → All (IsRead rules) files
+      by [] r s w = All-nil (IsRead rules)
+      by (file ∷ files) r s w =
+          let rest = map (λ (file : Measured). file.route) files in
+          All-cons (IsRead rules) file files (record {
+            route = All-head (λ (route : Route). IsRouteBy rules route) file.route rest s;
+            relative = All-head (λ (route : Route). IsRelativeRoute route) file.route rest r;
+            within = All-head IsWithin file files w;
+          })
+          (by files (All-tail (λ (route : Route). IsRelativeRoute route) file.route rest r) (All-tail (λ (route : Route). IsRouteBy rules route) file.route rest s) (All-tail IsWithin file files w))
+
+pub few_files : (routes : List Route) (files : List Measured) → map (λ (file : Measured). file.route) files ≡ routes → length files ≡ length routes
+few_files routes files e = sym (length-map files (λ (file : Measured). file.route)) ∙ ap length e

@@ -1,0 +1,42 @@
+use Rattle.std.proofs.Common.{◌≡◌, ◌∙◌, ap, refl, sym, subst, rules}
+use Rattle.desk_rename.specs.Images.{cls}
+use Rattle.desk_run.proofs.Finishing.{few_noted, gathered_notes, gathered_stopped, gathered_written, is_planned}
+use Rattle.desk_run.proofs.Measures.{all_relative, all_routed, all_within}
+use Rattle.desk_run.proofs.Preparing.{plan_early}
+use Rattle.desk_run.proofs.Promised.{early_told}
+use Rattle.desk_run.specs.Endings.{HaltsEarly, StandsAfter, Tells}
+use Rattle.desk_run.specs.Named.{asked_roots}
+use Rattle.desk_run.proofs.finish.write_gathered.Goals as goal
+
+pub write_and_commit-requires-clause-routes : goal.write_and_commit-requires-clause-routes
+write_and_commit-requires-clause-routes g c κs within =
+    rw (c.deref-3.ensures.value, c.deref-2.ensures)
+    (all_routed c.args.gathered.ruled.value.rules c.args.gathered.notes.files.items c.in-Ok.prepared.noted.items c.in-Ok.ensures.measured c.requires.gathered.read)
+
+pub write_and_commit-requires-clause-notes : goal.write_and_commit-requires-clause-notes
+write_and_commit-requires-clause-notes g c κs within =
+    rw c.deref-3.ensures.value (gathered_notes c.args.names.now c.args.gathered c.in-Ok.prepared.noted.items (g.F.Folders.told c.args.folders.now) c.requires.gathered c.in-Ok.ensures.measured)
+
+pub returns-in-Err-clause-stopped : goal.returns-in-Err-clause-stopped
+returns-in-Err-clause-stopped g c = λ m l ef ek.
+    let halts : HaltsEarly (asked_roots c.args.names.now) (g.F.Folders.told c.args.folders.now) (g.K.Keeper.told c.args.keeper.now) (g.K.Keeper.told c.plan.new.keeper) 0 0 _ _ c.in-Err.halt
+    = plan_early c.args.names.now c.args.gathered _ _ _ 0 0 _ _ c.in-Err.halt c.requires.roots c.requires.gathered (rw c.deref.ensures at c.in-Err.ensures.err) in
+    let t = early_told (asked_roots c.args.names.now) (g.F.Folders.told c.args.folders.now) (g.F.Folders.told c.args.folders.now) _ _ m l _ _ _ _ c.in-Err.halt ef ek refl halts in
+    subst (λ s. Tells (g.F.Folders.told c.args.folders.now) (g.K.Keeper.told c.plan.new.keeper) (λ m' l'. StandsAfter (asked_roots c.args.names.now) m l m' l' s)) (sym c.status_of_halt.ensures) t
+
+pub returns-in-Ok-write_and_commit-clause-written : goal.returns-in-Ok-write_and_commit-clause-written
+returns-in-Ok-write_and_commit-clause-written g c =
+    let p = c.in-Ok.ensures in
+    let w = c.in-Ok-write_and_commit.ensures in
+    let plan = is_planned c.args.names.now c.args.gathered c.in-Ok.prepared.graph c.in-Ok.prepared.noted.items _ _ _ c.requires.roots c.requires.gathered (rw c.deref.ensures at p.graph) (rw c.deref.ensures at p.clear) p.noted p.ours p.other p.ledger in
+    gathered_written c.args.names.now c.args.gathered c.in-Ok.prepared.graph.defined c.in-Ok.prepared.noted.items c.in-Ok-write_and_commit.outcomes.items _ _ _ _ _ plan
+    (rw (c.deref-3.ensures.value, c.deref-2.ensures) at w.folders) (rw (c.deref-3.ensures.value, c.deref-2.ensures) at w.ledger) (rw (c.deref-3.ensures.value, c.deref-2.ensures) at w.outcomes)
+
+pub returns-clause-stopped : goal.returns-clause-stopped
+returns-clause-stopped g c = λ m l ef ek.
+    let p = c.in-Ok.ensures in
+    let w = c.in-Err-write_and_commit.ensures in
+    let stopped = c.in-Err-write_and_commit.stopped in
+    let plan = is_planned c.args.names.now c.args.gathered c.in-Ok.prepared.graph c.in-Ok.prepared.noted.items _ _ _ c.requires.roots c.requires.gathered (rw c.deref.ensures at p.graph) (rw c.deref.ensures at p.clear) p.noted p.ours p.other p.ledger in
+    let t = gathered_stopped c.args.names.now c.args.gathered c.in-Ok.prepared.graph.defined c.in-Ok.prepared.noted.items stopped.why stopped.done _ _ _ _ _ plan (rw (c.deref-3.ensures.value, c.deref-2.ensures) at w.err) m l ef ek in
+    subst (λ s. Tells (g.F.Folders.told c.write_and_commit.new.folders) (g.K.Keeper.told c.write_and_commit.new.keeper) (λ m' l'. StandsAfter (asked_roots c.args.names.now) m l m' l' s)) (sym c.status_of_stop.ensures) t

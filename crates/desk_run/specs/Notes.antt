@@ -1,0 +1,49 @@
+-- Files as the first reading finds them, and what is done with each by the rows of the ledger.
+use Rattle.std.specs.Prelude.{◌≡◌, ◌≤◌, true, ℕ, Bool, length, not, Option, cond, is_some}
+use Rattle.std.specs.FinMap as fin
+use Rattle.desk_base.specs.Names.{Text}
+use Rattle.desk_base.specs.Paths.{is_relative_path}
+use Rattle.desk_batches.specs.Noting.{IsWithin}
+use Rattle.desk_batches.specs.declared.measured.Measured.{Measured}
+use Rattle.desk_batches.specs.declared.noted.Noted.{Noted}
+use Rattle.desk_batches.specs.declared.noted.Way.{Way}
+use Rattle.desk_batches.specs.declared.noted.Way.TheVariants.{Keep, Migrate, Copy}
+use Rattle.desk_file.specs.Routes.{IsRouteBy, route_of}
+use Rattle.desk_file.specs.Treatments.{is_copy}
+use Rattle.desk_file.specs.declared.routes.Route.{Route}
+use Rattle.desk_folders.specs.Contents.{File}
+use Rattle.desk_ledger.specs.Digests.{digest}
+use Rattle.desk_ledger.specs.Ledger.{Rows}
+use Rattle.desk_rules.specs.Rules.{Rules}
+use Rattle.desk_run.specs.Runs.{is_kept}
+
+-- what is done with a file that is kept or not, is read whole or not, and of whose target the ledger has a row or not
+abbrev pub way_by : Bool → Bool → Bool → Way
+way_by kept whole found = cond kept Keep (cond whole (Migrate found) (Copy found))
+
+-- by the rows of the ledger
+abbrev pub way_of : Rows → Measured → Way
+way_of rows file = way_by (is_kept (fin.get rows file.route.target) file.route.path file.digest.0) (not (is_copy file.route.treatment)) (is_some (fin.get rows file.route.target))
+
+abbrev pub noted_by : Rows → Measured → Noted
+noted_by rows file = record { route = file.route; size = file.size; digest = file.digest; way = way_of rows file }
+
+-- what the first reading found of a file that was noted
+abbrev pub measured_in : Noted → Measured
+measured_in noted = record { route = noted.route; size = noted.size; digest = noted.digest }
+
+-- a file of the source as the first reading finds it
+abbrev pub measured_of : Rules → File → Measured
+measured_of rules file = record { route = route_of rules file.path; size = length file.bytes; digest = digest file.bytes }
+
+-- from a relative path to a relative path
+pub record IsRelativeRoute (route : Route) : Type 0 where
+  pub path : is_relative_path route.path ≡ true
+  pub target : is_relative_path route.target ≡ true
+
+-- what is known of a file that was read, whatever the folders tell: its route is that of its path, and it has no more bytes than
+-- it may have
+pub record IsRead (rules : Rules) (file : Measured) : Type 0 where
+  pub route : IsRouteBy rules file.route
+  pub relative : IsRelativeRoute file.route
+  pub within : IsWithin file
