@@ -10,3 +10,37 @@ passed=0 failed=0
 same() {
   if diff -u "$2" "$3"; then passed=$((passed + 1)); else failed=$((failed + 1)); echo "differs: $1" >&2; fi
 }
+
+# check NAME WANTED GOT: the two texts are equal
+check() {
+  if [ "$2" = "$3" ]; then passed=$((passed + 1)); else failed=$((failed + 1)); printf 'differs: %s\nwanted: %s\ngot: %s\n' "$1" "$2" "$3" >&2; fi
+}
+
+# has NAME TEXT: the last run wrote a line with this text to standard error
+has() {
+  if grep -qF -- "$2" err; then passed=$((passed + 1)); else failed=$((failed + 1)); printf 'differs: %s\nwanted in standard error: %s\ngot: %s\n' "$1" "$2" "$(cat err)" >&2; fi
+}
+
+# hasnt NAME TEXT: the last run wrote no such line
+hasnt() {
+  if grep -qF -- "$2" err; then failed=$((failed + 1)); printf 'differs: %s\nin standard error: %s\n' "$1" "$(cat err)" >&2; else passed=$((passed + 1)); fi
+}
+
+# migrate WORD..: runs the program, by the command "$as" where it isn't empty; out, err and status hold what it answered. It may not
+# take longer than two minutes.
+as=
+migrate() {
+  timeout 120 $as "$program" "$@" >out 2>err
+  status=$?
+}
+
+# ends NAME STATUS LINE: the last run's status, and all of its standard output
+ends() {
+  check "$1: status" "$2" "$status"
+  check "$1: output" "$3" "$(cat out)"
+}
+
+# tree FOLDER: each path below it, with its kind and the digest of its content
+tree() {
+  (cd "$1" && find . -printf '%y %p\n' | sort && find . -type f -exec sha256sum {} + | sort)
+}

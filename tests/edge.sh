@@ -8,34 +8,6 @@ trap 'chmod -R u+rwX "$place"; rm -rf "$place"' EXIT
 chmod 755 "$place"
 cd "$place" || exit 1
 
-# check NAME WANTED GOT: the two texts are equal
-check() {
-  if [ "$2" = "$3" ]; then passed=$((passed + 1)); else failed=$((failed + 1)); printf 'differs: %s\nwanted: %s\ngot: %s\n' "$1" "$2" "$3" >&2; fi
-}
-
-# has NAME TEXT: the last run wrote a line with this text to standard error
-has() {
-  if grep -qF -- "$2" err; then passed=$((passed + 1)); else failed=$((failed + 1)); printf 'differs: %s\nwanted in standard error: %s\ngot: %s\n' "$1" "$2" "$(cat err)" >&2; fi
-}
-
-# hasnt NAME TEXT: the last run wrote no such line
-hasnt() {
-  if grep -qF -- "$2" err; then failed=$((failed + 1)); printf 'differs: %s\nin standard error: %s\n' "$1" "$(cat err)" >&2; else passed=$((passed + 1)); fi
-}
-
-as=
-# migrate WORD..: runs the program; out, err and status hold what it answered. It may not take longer than two minutes.
-migrate() {
-  timeout 120 $as "$program" "$@" >out 2>err
-  status=$?
-}
-
-# ends NAME STATUS LINE: the last run's status, and all of its standard output
-ends() {
-  check "$1: status" "$2" "$status"
-  check "$1: output" "$3" "$(cat out)"
-}
-
 usage='migrate: 20 usage: migrate run --rules R --from A --to B --ledger L [--workers N] or migrate generate --count N [--workers N]'
 
 # ---- words

@@ -5,29 +5,41 @@ Usage: tests/kills.py [KILLS], by default 100. The program has to be built (exam
 
 After each kill every row of the ledger whose source stands there with the row's digest must have at its target what a fresh
 run writes there, and then a run to the end must make a target folder equal to that of a run that was never stopped. The runs
-start by turns from nothing, from a whole run over older files, and from a run that was killed before. Where strace is
-installed, runs over a few files are killed too at each call that opens, writes or syncs a file, and looked at in the same way.
-It prints the counts of untrue ledgers and of differences, and ends with 1 unless all are 0.
+start by turns from nothing, from a whole run over older files, and from a run that was killed before, by 1 and by 4 workers.
+Where strace is installed, runs over a small application (classes, service files, a manifest, a text and copies) are killed too
+at each call of the system that they make, whichever it is, and looked at in the same way. It prints the counts of untrue ledgers
+and of differences, and ends with 1 unless all are 0.
 """
 
-import hashlib
 import os
 import random
+import re
 import shutil
-import sqlite3
 import subprocess
 import sys
 import tempfile
 import time
 
-FILES, FEW = 5000, 4
-CALLS = ("openat", "pwrite64", "write", "fsync", "fdatasync")
-PROGRAM = os.path.join(os.path.dirname(os.path.abspath(__file__)), "..", "crates", "migrate", "out", "migrate")
+from ledgers import copy_ledger, rows, tree, untrue
+
+FILES, FEW = 2000, 4
+WORKERS = (1, 4)
+TOP = os.path.join(os.path.dirname(os.path.abspath(__file__)), "..")
+PROGRAM = os.path.join(TOP, "crates", "migrate", "out", "migrate")
+EXAMPLE = os.path.join(TOP, "examples", "first")
 
 
-def make(version, files):
+def settle(place):
+    """Goes to a folder, and puts the rules there."""
+    os.chdir(place)
+    shutil.copytree(os.path.join(EXAMPLE, "rules"), "rules")
+
+
+def make(version, files, example):
     """Writes the source; a third of its files differs from version to version."""
     shutil.rmtree("app", ignore_errors=True)
+    if example:
+        shutil.copytree(os.path.join(EXAMPLE, "app"), "app")
     for i in range(files):
         at = f"app/d{i % 50}/META-INF/services/javax.servlet.S{i}" if i % 5 == 0 else f"app/d{i % 50}/file{i}.txt"
         text = f"javax.servlet.Filter # {i} {version if i % 3 == 0 else 0}\n" * (1 + i % 7)
@@ -36,47 +48,44 @@ def make(version, files):
             file.write(text)
 
 
-def words(to, ledger):
-    return [PROGRAM, "run", "--rules", "rules", "--from", "app", "--to", to, "--ledger", ledger]
+def words(to, ledger, workers):
+    return [PROGRAM, "run", "--rules", "rules", "--from", "app", "--to", to, "--ledger", ledger, "--workers", str(workers)]
 
 
 def finish(to, ledger):
     """Runs to the end, and answers how long it took."""
     start = time.perf_counter()
-    run = subprocess.run(words(to, ledger), stdout=subprocess.PIPE)
+    run = subprocess.run(words(to, ledger, 1), stdout=subprocess.PIPE)
     if run.returncode:
         sys.exit(f"a run to the end ended with {run.returncode}: {run.stdout[-200:]}")
     return time.perf_counter() - start
 
 
-def kill_after(seconds):
+def kill_after(seconds, workers):
     """Starts a run and kills it after this time; whether it was still running."""
-    process = subprocess.Popen(words("out", "ledger"), stdout=subprocess.DEVNULL)
+    process = subprocess.Popen(words("out", "ledger", workers), stdout=subprocess.DEVNULL)
     time.sleep(seconds)
     process.kill()
     return process.wait() < 0
 
 
-def kill_at(call, number):
-    """Runs until so many calls of this name, and kills it there; whether there were so many."""
-    trace = ["strace", "-qq", "-o", "/dev/null", "-e", f"trace={call}", "-e", f"inject={call}:signal=KILL:when={number}"]
-    return subprocess.run(trace + words("out", "ledger"), stdout=subprocess.DEVNULL).returncode < 0
+def traced(options, workers):
+    """A run under strace, of each of its threads; whether it was killed."""
+    trace = ["strace", "-f", "-qq", *options, *words("out", "ledger", workers)]
+    return subprocess.run(trace, stdout=subprocess.DEVNULL).returncode < 0
 
 
-def tree(root):
-    found = {}
-    for folder, _, names in os.walk(root):
-        for name in names:
-            path = os.path.join(folder, name)
-            with open(path, "rb") as file:
-                found[os.path.relpath(path, root)] = file.read()
-    return found
+def calls_of(workers):
+    """The names of the system's calls that a run makes, each once."""
+    traced(["-o", "trace"], workers)
+    with open("trace", encoding="ascii", errors="replace") as file:
+        names = re.findall(r"^[0-9]+ +([a-z_0-9]+)\(", file.read(), re.MULTILINE)
+    return list(dict.fromkeys(names))
 
 
-def copy_ledger(source, target):
-    for end in ("", "-wal"):
-        if os.path.exists(source + end):
-            shutil.copy(source + end, target + end)
+def kill_at(call, number, workers):
+    """Runs until a thread makes so many calls of this name, and kills the run there; whether one did."""
+    return traced(["-o", "/dev/null", "-e", f"trace={call}", "-e", f"inject={call}:signal=KILL:when={number}"], workers)
 
 
 def clear(*names):
@@ -87,35 +96,6 @@ def clear(*names):
                 os.remove(name + end)
 
 
-def rows(ledger):
-    """The rows of a copy of the ledger, so that reading it changes nothing. One that is half made has none."""
-    copy_ledger(ledger, "seen")
-    if not os.path.exists("seen") or open("seen", "rb").read(1) in (b"", b"\0"):
-        clear("seen")
-        return []
-    connection = sqlite3.connect("seen")
-    tables = [name for (name,) in connection.execute("SELECT name FROM sqlite_schema WHERE type = 'table' ORDER BY name")]
-    if tables not in ([], ["folder", "header", "written"]):
-        sys.exit(f"the ledger has the tables {tables}")
-    found = connection.execute("SELECT target, source, digest FROM written").fetchall() if tables else []
-    connection.close()
-    clear("seen")
-    return found
-
-
-def is_untrue(row, images):
-    """Whether a row claims a target that isn't the image of its source."""
-    target, source, digest = row
-    with open(os.path.join("app", source.decode()), "rb") as file:
-        if hashlib.sha256(file.read()).digest() != digest:
-            return False
-    try:
-        with open(os.path.join("out", target.decode()), "rb") as file:
-            return file.read() != images[target.decode()]
-    except FileNotFoundError:
-        return True
-
-
 class Counts:
     """What was seen after kills."""
 
@@ -124,10 +104,9 @@ class Counts:
 
     def look(self, images):
         """Looks at the ledger and the target after a kill, and has the run brought to its end."""
-        found = rows("ledger")
         self.kills += 1
-        self.untrue += any(is_untrue(row, images) for row in found)
-        self.some += 0 < len(found) < len(images)
+        self.untrue += bool(untrue("app", "out", "ledger", images))
+        self.some += 0 < len(rows("ledger")) < len(images)
         finish("out", "ledger")
         self.differences += tree("out") != images
 
@@ -138,14 +117,14 @@ class Counts:
         return f"kills={self.kills} untrue={self.untrue} differences={self.differences} ({self.some} ledgers had some of the rows)"
 
 
-def prepare(files):
+def prepare(files, example):
     """A whole run over older files, and one over the files that stand then; the images, and how long the second took."""
     clear("out", "ledger", "old", "old.ledger", "fresh", "fresh.ledger")
-    make(1, files)
+    make(1, files, example)
     finish("out", "ledger")
     copy_ledger("ledger", "old.ledger")
     os.rename("out", "old")
-    make(2, files)
+    make(2, files, example)
     length = finish("fresh", "fresh.ledger")
     return tree("fresh"), length
 
@@ -159,31 +138,40 @@ def begin(is_old):
 
 
 def at_random(kills):
-    images, length = prepare(FILES)
+    images, length = prepare(FILES, False)
     counts = Counts()
     turn = 0
     while counts.kills < kills:
         begin(turn % 3 == 1)
+        workers = WORKERS[turn // 3 % 2]
         if turn % 3 == 2:
-            kill_after(random.uniform(0, length))
+            kill_after(random.uniform(0, length), workers)
         turn += 1
-        if kill_after(random.uniform(0, length)):
+        if kill_after(random.uniform(0, length), workers):
             counts.look(images)
-    print(f"at random moments of runs over {FILES} files ({length:.2f} s): {counts}")
+    print(f"at random moments of runs over {FILES} files ({length:.2f} s): {counts}", flush=True)
     return counts
 
 
+def at_each_call_of(call, is_old, workers, images, counts):
+    """Kills runs at each call of a name, until a run has no more of them."""
+    number = 1
+    begin(is_old)
+    while kill_at(call, number, workers):
+        counts.look(images)
+        number += 1
+        begin(is_old)
+
+
 def at_each_call():
-    images, _ = prepare(FEW)
+    images, _ = prepare(FEW, True)
     counts = Counts()
-    for is_old in (False, True):
-        for call in CALLS:
-            for number in range(1, 1000):
-                begin(is_old)
-                if not kill_at(call, number):
-                    break
-                counts.look(images)
-    print(f"at each call of runs over {FEW} files: {counts}")
+    for workers in WORKERS:
+        for is_old in (False, True):
+            begin(is_old)
+            for call in calls_of(workers):
+                at_each_call_of(call, is_old, workers, images, counts)
+    print(f"at each call of runs over {len(images)} files: {counts}", flush=True)
     return counts
 
 
@@ -192,14 +180,12 @@ def main():
     if not os.access(PROGRAM, os.X_OK):
         sys.exit("build the program first: examples/first/run.sh")
     with tempfile.TemporaryDirectory() as place:
-        os.chdir(place)
-        os.makedirs("rules")
-        with open("rules/renames.properties", "w") as file:
-            file.write("javax.servlet=jakarta.servlet\n")
+        settle(place)
         seen = [at_each_call()] if shutil.which("strace") else []
         seen.append(at_random(kills))
         os.chdir("/")
     sys.exit(1 if any(counts.is_bad() for counts in seen) else 0)
 
 
-main()
+if __name__ == "__main__":
+    main()

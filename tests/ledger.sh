@@ -9,20 +9,10 @@ command -v sqlite3 >/dev/null || { echo "skipped: sqlite3 isn't installed"; exit
 trap 'chmod -R u+w "$place"; rm -rf "$place"' EXIT
 cd "$place" || exit 1
 
-# check NAME WANTED GOT: the two texts are equal
-check() {
-  if [ "$2" = "$3" ]; then passed=$((passed + 1)); else failed=$((failed + 1)); printf 'differs: %s\nwanted: %s\ngot: %s\n' "$1" "$2" "$3" >&2; fi
-}
-
 # run RULES TO LEDGER: what a run prints, and its exit status
 run() {
   "$program" run --rules "$1" --from app --to "$2" --ledger "$3"
   echo "status $?"
-}
-
-# tree FOLDER: each path below it, with its kind and the digest of its content
-tree() {
-  (cd "$1" && find . -printf '%y %p\n' | sort && find . -type f -exec sha256sum {} + | sort)
 }
 
 mkdir -p rules others app/META-INF/services app/sub

@@ -45,12 +45,20 @@ printf 'java.util.*=renamed.util\njava.util=java.util\njavax.*=jakarta\njavax=ja
 printf '*.xml=packages.properties\n' >rules/text.properties
 printf 'javax.crypto.=jakarta.crypto.\n' >rules/packages.properties
 
-# migrated NUMBER ORDER: a run by so many workers, from `app` to out-ORDER; its report is the file `report`. Some classes are refused
+# same_run NAME WANTED GOT: the two files are equal; where they aren't, what the last run wrote on standard error is shown too
+same_run() {
+  local before=$failed
+  same "$@"
+  [ "$failed" = "$before" ] || cat errors >&2
+}
+
+# migrated NUMBER ORDER: a run by so many workers, from `app` to out-ORDER; its report is the file `report`, and what it writes on
+# standard error the file `errors`. Some classes are refused
 migrated() {
-  "$program" run --rules rules --from app --to "out-$2" --ledger "ledger-$2" --workers "$1" >report
+  "$program" run --rules rules --from app --to "out-$2" --ledger "ledger-$2" --workers "$1" >report 2>errors
   printf '%s\n' "$?" >got
   printf '2\n' >wanted
-  same "the status by $1 workers" wanted got
+  same_run "the status by $1 workers" wanted got
 }
 
 # states ORDER: each file and folder below out-ORDER with its number on the disk, its size and the time at which it was written
@@ -73,23 +81,23 @@ for numbers in '1 64' '2 1' '3 8' '8 2' '64 3'; do
   if [ "$first" = 1 ]; then
     printf 'app/odd/%s.class\n' 0 1 10 100 1000 >wanted
     grep '^refused ' report | sed 's,^refused \([^ ]*\) .*,app/\1,' >got
-    same "what is refused" wanted got
+    same_run "what is refused" wanted got
     # A package of the rules that the JDK's classes have: so the rules change something.
     grep -c '^written java.base.jar/javax/crypto/.* java.base.jar/jakarta/crypto/.* class renamed=[1-9]' report >got
     find app/java.base.jar/javax/crypto -name '*.class' | wc -l >wanted
-    same "classes of a package that is renamed" wanted got
+    same_run "classes of a package that is renamed" wanted got
   else
-    same "the report by $first workers" report-1 report
+    same_run "the report by $first workers" report-1 report
     diff -r out-1 "out-$first" >got 2>&1
     : >wanted
-    same "the target by $first workers" wanted got
+    same_run "the target by $first workers" wanted got
   fi
   states "$first" >before
   migrated "$second" "$first"
   kept <"report-$first" >wanted
-  same "the report of a second run by $second workers" wanted report
+  same_run "the report of a second run by $second workers" wanted report
   states "$first" >after
-  same "the target of a second run by $second workers" before after
+  same_run "the target of a second run by $second workers" before after
   [ "$first" = 1 ] || rm -rf "out-$first"
 done
 echo "$classes classes: $(tail -1 report-1)"

@@ -43,11 +43,11 @@ pub setting-same : (m : Contents) (p x : Text) → get m p ≡ Some x → settin
 setting-same m p x e = same_texts _ _ (λ q. grind (gets, rules, e, get_tied nat_list_cmp_total m q p))
 
 -- what folders hold where one text of their entries changed
-pub leaves : (es fs : List (Text × Text)) (faults calls : ℕ) (failing : List ℕ) (k : Text) (left : Option Text) (m : InMemory) → from_entries {R = slice_cmp nat_cmp} fs ≡ setting k left (from_entries es)
-    → record { contents = from_entries es; faults = faults; calls = calls; failing = failing } ≡ m
-    → record { contents = from_entries fs; faults = faults; calls = calls; failing = failing } ≡ leaving k left m
-leaves es fs faults calls failing k left m e is =
-    ap (λ (contents : Contents). record { contents = contents; faults = faults; calls = calls; failing = failing }) e ∙ ap (leaving k left) is
+pub leaves : (es fs : List (Text × Text)) (faults calls : ℕ) (failing : List ℕ) (stop : Option ℕ) (k : Text) (left : Option Text) (m : InMemory) → from_entries {R = slice_cmp nat_cmp} fs ≡ setting k left (from_entries es)
+    → record { contents = from_entries es; faults = faults; calls = calls; failing = failing; stop = stop } ≡ m
+    → record { contents = from_entries fs; faults = faults; calls = calls; failing = failing; stop = stop } ≡ leaving k left m
+leaves es fs faults calls failing stop k left m e is =
+    ap (λ (contents : Contents). record { contents = contents; faults = faults; calls = calls; failing = failing; stop = stop }) e ∙ ap (leaving k left) is
 
 pub on_err : {T E P : Type 0} (r : Result T E) → P → OnErr r P
 on_err (Ok x) p = tt

@@ -1,6 +1,6 @@
 //! Folders in memory.
 
-ghost use Rattle.std.specs.Prelude.{◌≡◌, ◌≢◌, ◌≤◌, ◌+◌, ◌++◌, ◌↔◌, [], length, take, drop, Some, None, Err, IsTrue, IsSome, IsErr, IfSome, IfOk, OnOk, OnErr};
+ghost use Rattle.std.specs.Prelude.{◌≡◌, ◌≢◌, ◌≤◌, ◌+◌, ◌++◌, ◌↔◌, [], length, take, drop, Some, None, Err, IsTrue, IsFalse, IsSome, IsErr, IfSome, IfOk, OnOk, OnErr};
 ghost use Rattle.std.specs.Option.{option_copied};
 ghost use Rattle.std.specs.List.{list_all};
 ghost use Rattle.std.specs.List.Sorted.{IsStrictlySortedBy};
@@ -11,7 +11,7 @@ ghost use Rattle.std.specs.BTreeMap.{get};
 ghost use Rattle.desk_base.specs.Paths.{is_root, is_full_path, is_relative_path};
 ghost use Rattle.desk_base.specs.Counts.{Rose};
 ghost use Rattle.desk_folders.specs.Contents.{ChangesOnly, IsPart, IsListing, bytes_at, holding, adding, paths_below};
-ghost use Rattle.desk_folders.specs.InMemory.{called, fails, leaving, growing, half, filled};
+ghost use Rattle.desk_folders.specs.InMemory.{called, fails, is_stopped, leaving, growing, half, filled};
 
 use crate::listing::paths_of;
 use crate::{FolderFault, Folders, GenFile};
@@ -20,8 +20,9 @@ use std::alloc::Global;
 use std::collections::BTreeMap;
 use std::marker::Model;
 
-/// Folders in memory, which tell their contents. Some of their calls fail, by their numbers. Contracts
-/// see the contents, the count of faults, the count of calls and the numbers of the calls that fail.
+/// Folders in memory, which tell their contents. Some of their calls fail, by their numbers, and all from
+/// a number on where they are told to stop. Contracts see the contents, the count of faults, the count of
+/// calls, the numbers of the calls that fail and the number from which on all fail.
 #[derive(Drop)]
 pub struct MemoryFolders {
     files: BTreeMap<Text, Text>,
@@ -29,6 +30,7 @@ pub struct MemoryFolders {
     faults: u64,
     calls: u64,
     failing: Vec<u64>,
+    stop: Option<u64>,
 }
 
 impl Model for MemoryFolders {
@@ -39,7 +41,7 @@ impl Model for MemoryFolders {
 
     ghost coded = { in_memory_code };
 
-    ghost view = { λ m. record { contents = map.from_entries m.files.entries; faults = m.faults; calls = m.calls; failing = m.failing.items } };
+    ghost view = { λ m. record { contents = map.from_entries m.files.entries; faults = m.faults; calls = m.calls; failing = m.failing.items; stop = m.stop } };
 }
 
 /// The files by their paths; of two with one path the later counts.
@@ -76,7 +78,7 @@ impl MemoryFolders {
         failing: Vec<u64>,
     ) -> Result<MemoryFolders, Memory>
         requires { IsTrue (list_all (λ file. is_full_path file.path) files.items) }
-        ensures { IfOk result (λ folders. folders ≡ record { contents = filled files.items fin.empty; faults = 0; calls = 0; failing = failing.items }) }
+        ensures { IfOk result (λ folders. folders ≡ record { contents = filled files.items fin.empty; faults = 0; calls = 0; failing = failing.items; stop = None }) }
     {
         let files = map_of(alloc, files)?;
         Ok(MemoryFolders {
@@ -85,6 +87,7 @@ impl MemoryFolders {
             faults: 0,
             calls: 0,
             failing,
+            stop: None,
         })
     }
 
@@ -95,6 +98,46 @@ impl MemoryFolders {
         content_of(&self.files, path)
     }
 
+    /// Makes the call of this number fail as a failing call does, and each later call fail without any
+    /// effect but on the counts. Calls are counted from 0, over all calls since the folders were made; a
+    /// call with this number or a greater one that was made before stays as it was. A later stop takes
+    /// the place of this one. It takes no memory.
+    pub fn stop_at(&mut self, call: u64)
+        ensures { self.new ≡ record self.old { stop = Some call } }
+    {
+        self.stop = Some(call);
+    }
+
+    /// Makes no call fail from now on: neither those with the numbers that were to fail nor those behind a
+    /// stop. Calls and faults keep their counts, and the files stay as they are. It takes no memory.
+    pub fn mend(&mut self)
+        ensures { self.new ≡ record self.old { stop = None; failing = [] } }
+    {
+        self.failing.clear();
+        self.stop = None;
+    }
+
+    /// Whether the calls stopped before the next one.
+    fn is_stopped(&self) -> bool
+        ensures { result ≡ is_stopped self.now }
+    {
+        match self.stop {
+            Some(stop) => stop < self.calls,
+            None => false,
+        }
+    }
+
+    /// Whether the next call fails.
+    fn is_failing(&self) -> bool
+        ensures { result ≡ fails self.now }
+    {
+        let stops = match self.stop {
+            Some(stop) => stop <= self.calls,
+            None => false,
+        };
+        self.failing.as_slice().contains(&self.calls) || stops
+    }
+
     /// Counts a call, and answers whether it fails.
     fn call(&mut self) -> bool
         ensures result { result ≡ fails self.old }
@@ -102,7 +145,7 @@ impl MemoryFolders {
         ensures rose { IsTrue result → Rose self.old.faults self.new.faults }
         ensures called { self.new ≡ called self.old }
     {
-        let fails = self.failing.as_slice().contains(&self.calls);
+        let fails = self.is_failing();
         self.calls = self.calls.saturating_add(1);
         if fails {
             self.faults = self.faults.saturating_add(1);
@@ -186,7 +229,8 @@ impl Folders for MemoryFolders {
 
     ghost faults = { λ m. m.faults };
 
-    /// It gives the first `most + 1` paths. It fails exactly where this call's number is among the failing.
+    /// It gives the first `most + 1` paths. It fails exactly where this call's number is among the failing or
+    /// a stop is at it or before it.
     fn list(&mut self, root: &Text, most: u32) -> Result<TextList, FolderFault>
         requires most { most ≤ 1000000 }
         requires root { IsTrue (is_root root.now) }
@@ -207,7 +251,8 @@ impl Folders for MemoryFolders {
         Ok(self.listed(root, most)?)
     }
 
-    /// It gives as many bytes as it may. It fails exactly where this call's number is among the failing.
+    /// It gives as many bytes as it may. It fails exactly where this call's number is among the failing or a
+    /// stop is at it or before it.
     fn read_part(&mut self, path: &Text, at: u64, want: u32) -> Result<Text, FolderFault>
         requires want { want ≢ 0 }
         requires there { IfSome (Some self.old.contents) (λ m. IsSome (fin.get m path.now)) }
@@ -226,44 +271,54 @@ impl Folders for MemoryFolders {
         Ok(self.part(path, at, want)?)
     }
 
-    /// It fails exactly where this call's number is among the failing, and then removes the path. After want
-    /// of memory the path is as it was.
+    /// It fails exactly where this call's number is among the failing or a stop is at it or before it. Where
+    /// it fails it removes the path, but behind a stop it leaves the path as it was; so it does after want of
+    /// memory.
     fn create(&mut self, path: &Text) -> Result<(), FolderFault>
         requires path { IsTrue (is_full_path path.now) }
         ensures exactly { (result ≡ Err FolderFault.Failed) ↔ IsTrue (fails self.old) }
         ensures made { OnOk result (self.new ≡ leaving path.now (Some []) (called self.old)) }
-        ensures removed { result ≡ Err FolderFault.Failed → self.new ≡ leaving path.now None (called self.old) }
+        ensures removed { IsFalse (is_stopped self.old) → result ≡ Err FolderFault.Failed → self.new ≡ leaving path.now None (called self.old) }
+        ensures stopped { IsTrue (is_stopped self.old) → self.new ≡ called self.old }
         ensures memory { result ≡ Err FolderFault.Memory → self.new ≡ called self.old }
         ensures ok { OnOk result (Some self.new.contents ≡ holding path.now [] (Some self.old.contents)) }
         ensures err { OnErr result (ChangesOnly path.now (Some self.old.contents) (Some self.new.contents)) }
         ensures counts { self.old.faults ≤ self.new.faults }
         ensures failed { result ≡ Err FolderFault.Failed → Rose self.old.faults self.new.faults }
     {
+        let stopped = self.is_stopped();
         if self.call() {
-            self.take_away(path);
+            if !stopped {
+                self.take_away(path);
+            }
             return Err(FolderFault::Failed);
         }
         self.empty(path)?;
         Ok(())
     }
 
-    /// It fails, or wants memory, exactly where this call's number is among the failing or memory is
-    /// wanted; where it fails it added the first half of the bytes. After want of memory the path is as
-    /// it was.
+    /// It fails, or wants memory, exactly where this call's number is among the failing, a stop is at it or
+    /// before it, or memory is wanted. Where it fails it added the first half of the bytes, but behind a stop
+    /// it leaves the path as it was; so it does after want of memory.
     fn append(&mut self, path: &Text, bytes: &[u8]) -> Result<(), FolderFault>
         requires there { IfSome (Some self.old.contents) (λ m. IsSome (fin.get m path.now)) }
         ensures exactly { result ≡ Err FolderFault.Failed → IsTrue (fails self.old) }
         ensures refused { IsTrue (fails self.old) → IsErr result }
         ensures added { OnOk result (self.new ≡ growing path.now bytes.now (called self.old)) }
-        ensures half { result ≡ Err FolderFault.Failed → self.new ≡ growing path.now (half bytes.now) (called self.old) }
+        ensures half { IsFalse (is_stopped self.old) → result ≡ Err FolderFault.Failed → self.new ≡ growing path.now (half bytes.now) (called self.old) }
+        ensures stopped { IsTrue (is_stopped self.old) → self.new ≡ called self.old }
+        ensures refused_stopped { IsTrue (is_stopped self.old) → result ≡ Err FolderFault.Failed }
         ensures memory { result ≡ Err FolderFault.Memory → self.new ≡ called self.old }
         ensures ok { OnOk result (Some self.new.contents ≡ adding path.now bytes.now (Some self.old.contents)) }
         ensures err { OnErr result (ChangesOnly path.now (Some self.old.contents) (Some self.new.contents)) }
         ensures counts { self.old.faults ≤ self.new.faults }
         ensures failed { result ≡ Err FolderFault.Failed → Rose self.old.faults self.new.faults }
     {
+        let stopped = self.is_stopped();
         if self.call() {
-            self.grow(path, half_of(bytes))?;
+            if !stopped {
+                self.grow(path, half_of(bytes))?;
+            }
             return Err(FolderFault::Failed);
         }
         self.grow(path, bytes)?;

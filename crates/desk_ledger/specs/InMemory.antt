@@ -1,5 +1,5 @@
 -- What a keeper in memory holds.
-use Rattle.std.specs.Prelude.{ℕ, ◌==◌, Bool, List, Option, Some, refl, if◌then◌else◌}
+use Rattle.std.specs.Prelude.{ℕ, ◌==◌, ◌||◌, nat_le, Bool, false, List, Option, Some, None, refl, if◌then◌else◌}
 use Rattle.std.specs.List.{list_any}
 use Rattle.std.specs.FinMap as fin
 use Rattle.std.specs.Coded.{Coded, code_by, coded×, coded_list, coded_option, coded_ℕ}
@@ -9,13 +9,14 @@ use Rattle.desk_ledger.specs.declared.keeper.Header.{Header}
 use Rattle.desk_ledger.specs.declared.keeper.Held.{Held}
 use Rattle.desk_ledger.specs.Ledger.{Ledger, Rows}
 
--- the ledger, the attached name, the count of faults, the count of calls, and the numbers of the calls that fail
+-- the ledger, the attached name, the count of faults, the count of calls, the numbers of the calls that fail, and the number from which on all fail
 pub record InMemory : Type 0 where
   pub ledger : Ledger
   pub attached : Option Text
   pub faults : ℕ
   pub calls : ℕ
   pub failing : List ℕ
+  pub stop : Option ℕ
 
 abbrev pub text_code : Coded Text
 text_code = coded_list coded_ℕ
@@ -33,12 +34,17 @@ ledger_code =
 
 abbrev pub in_memory_code : Coded InMemory
 in_memory_code =
-    code_by (Ledger × (Option Text × (ℕ × (ℕ × List ℕ)))) (coded× ledger_code (coded× (coded_option text_code) (coded× coded_ℕ (coded× coded_ℕ (coded_list coded_ℕ)))))
-    (λ k. (k.ledger, (k.attached, (k.faults, (k.calls, k.failing))))) (λ p. record { ledger = p.0; attached = p.1.0; faults = p.1.1.0; calls = p.1.1.1.0; failing = p.1.1.1.1 }) (λ _. refl)
+    code_by (Ledger × (Option Text × (ℕ × (ℕ × (List ℕ × Option ℕ))))) (coded× ledger_code (coded× (coded_option text_code) (coded× coded_ℕ (coded× coded_ℕ (coded× (coded_list coded_ℕ) (coded_option coded_ℕ))))))
+    (λ k. (k.ledger, (k.attached, (k.faults, (k.calls, (k.failing, k.stop)))))) (λ p. record { ledger = p.0; attached = p.1.0; faults = p.1.1.0; calls = p.1.1.1.0; failing = p.1.1.1.1.0; stop = p.1.1.1.1.1 }) (λ _. refl)
+
+-- whether calls stop at this one or stopped before it
+abbrev pub is_reached : Option ℕ → ℕ → Bool
+is_reached None call = false
+is_reached (Some stop) call = nat_le stop call
 
 -- whether the next call fails
 abbrev pub fails : InMemory → Bool
-fails k = list_any (λ n. n == k.calls) k.failing
+fails k = list_any (λ n. n == k.calls) k.failing || is_reached k.stop k.calls
 
 -- with one call more, and one fault more where it fails
 abbrev pub called : InMemory → InMemory

@@ -1,6 +1,6 @@
 //! A keeper in memory.
 
-ghost use Rattle.std.specs.Prelude.{◌≡◌, ◌≤◌, ◌↔◌, Some, None, Err, IsTrue, IsSome, IsOk, IfSome, IfOk, OnOk, OnErr, option_map};
+ghost use Rattle.std.specs.Prelude.{◌≡◌, ◌≤◌, ◌↔◌, [], Some, None, Err, IsTrue, IsSome, IsOk, IfSome, IfOk, OnOk, OnErr, option_map};
 ghost use Rattle.std.specs.FinMap as fin;
 ghost use Rattle.desk_base.specs.Counts.{Rose};
 ghost use Rattle.desk_ledger.specs.Ledger.{NoneWaits, row_at, held_in, with_header, with_row, without_row};
@@ -11,9 +11,9 @@ use desk_base::{Memory, Text};
 use std::alloc::Global;
 use std::marker::Model;
 
-/// A keeper in memory, which tells its contents. Some of its calls fail, by their numbers. Contracts see
-/// the ledger, the attached name, the count of faults, the count of calls and the numbers of the calls
-/// that fail.
+/// A keeper in memory, which tells its contents. Some of its calls fail, by their numbers, and all from a
+/// number on where it is told to stop. Contracts see the ledger, the attached name, the count of faults,
+/// the count of calls, the numbers of the calls that fail and the number from which on all fail.
 #[derive(Drop)]
 pub struct MemoryKeeper {
     contents: Contents,
@@ -21,6 +21,7 @@ pub struct MemoryKeeper {
     faults: u64,
     calls: u64,
     failing: Vec<u64>,
+    stop: Option<u64>,
 }
 
 impl Model for MemoryKeeper {
@@ -30,10 +31,39 @@ impl Model for MemoryKeeper {
 
     ghost coded = { in_memory_code };
 
-    ghost view = { λ k. record { ledger = k.contents; attached = k.attached; faults = k.faults; calls = k.calls; failing = k.failing.items } };
+    ghost view = { λ k. record { ledger = k.contents; attached = k.attached; faults = k.faults; calls = k.calls; failing = k.failing.items; stop = k.stop } };
 }
 
 impl MemoryKeeper {
+    /// Makes the call of this number and each later one fail. Calls are counted from 0, over all calls
+    /// since the keeper was made, of which a commit is none; a call with this number or a greater one that
+    /// was made before stays as it was. A later stop takes the place of this one. It takes no memory.
+    pub fn stop_at(&mut self, call: u64)
+        ensures { self.new ≡ record self.old { stop = Some call } }
+    {
+        self.stop = Some(call);
+    }
+
+    /// Makes no call fail from now on: neither those with the numbers that were to fail nor those behind a
+    /// stop. Calls and faults keep their counts, and the ledger stays as it is. It takes no memory.
+    pub fn mend(&mut self)
+        ensures { self.new ≡ record self.old { stop = None; failing = [] } }
+    {
+        self.failing.clear();
+        self.stop = None;
+    }
+
+    /// Whether the next call fails.
+    fn is_failing(&self) -> bool
+        ensures { result ≡ fails self.now }
+    {
+        let stops = match self.stop {
+            Some(stop) => stop <= self.calls,
+            None => false,
+        };
+        self.failing.as_slice().contains(&self.calls) || stops
+    }
+
     /// Counts a call, and answers whether it fails.
     fn call(&mut self) -> bool
         ensures result { result ≡ fails self.old }
@@ -41,7 +71,7 @@ impl MemoryKeeper {
         ensures rose { IsTrue result → Rose self.old.faults self.new.faults }
         ensures called { self.new ≡ called self.old }
     {
-        let fails = self.failing.as_slice().contains(&self.calls);
+        let fails = self.is_failing();
         self.calls = self.calls.saturating_add(1);
         if fails {
             self.faults = self.faults.saturating_add(1);
@@ -55,7 +85,7 @@ impl MemoryKeeper {
     /// fail, counted from 0 over all calls; the count of calls stands still at
     /// 18,446,744,073,709,551,615. The only error is want of memory.
     pub fn new(alloc: Global, failing: Vec<u64>) -> Result<MemoryKeeper, Memory>
-        ensures { IfOk result (λ keeper. keeper ≡ record { ledger = record { header = None; rows = fin.empty }; attached = None; faults = 0; calls = 0; failing = failing.items }) }
+        ensures { IfOk result (λ keeper. keeper ≡ record { ledger = record { header = None; rows = fin.empty }; attached = None; faults = 0; calls = 0; failing = failing.items; stop = None }) }
     {
         Ok(MemoryKeeper {
             contents: Contents::new(alloc),
@@ -63,6 +93,7 @@ impl MemoryKeeper {
             faults: 0,
             calls: 0,
             failing,
+            stop: None,
         })
     }
 }
@@ -76,7 +107,7 @@ impl Keeper for MemoryKeeper {
 
     ghost faults = { λ k. k.faults };
 
-    /// It fails exactly where this call's number is among the failing.
+    /// It fails exactly where this call's number is among the failing or a stop is at it or before it.
     fn attach(&mut self, name: &Text) -> Result<(), KeeperFault>
         ensures exactly { (result ≡ Err KeeperFault.Failed) ↔ IsTrue (fails self.old) }
         ensures done { OnOk result (self.new ≡ attaching name.now (called self.old)) }
@@ -94,7 +125,7 @@ impl Keeper for MemoryKeeper {
         Ok(())
     }
 
-    /// It fails exactly where this call's number is among the failing.
+    /// It fails exactly where this call's number is among the failing or a stop is at it or before it.
     fn header(&mut self) -> Result<Option<Header>, KeeperFault>
         requires { IsSome self.old.attached }
         ensures exactly { (result ≡ Err KeeperFault.Failed) ↔ IsTrue (fails self.old) }
@@ -112,7 +143,7 @@ impl Keeper for MemoryKeeper {
         Ok(self.contents.header()?)
     }
 
-    /// It fails exactly where this call's number is among the failing.
+    /// It fails exactly where this call's number is among the failing or a stop is at it or before it.
     fn set_header(&mut self, header: &Header) -> Result<(), KeeperFault>
         requires { IsSome self.old.attached }
         ensures exactly { (result ≡ Err KeeperFault.Failed) ↔ IsTrue (fails self.old) }
@@ -131,7 +162,7 @@ impl Keeper for MemoryKeeper {
         Ok(())
     }
 
-    /// It fails exactly where this call's number is among the failing.
+    /// It fails exactly where this call's number is among the failing or a stop is at it or before it.
     fn find(&mut self, target: &Text) -> Result<Option<Row>, KeeperFault>
         requires { IsSome self.old.attached }
         ensures exactly { (result ≡ Err KeeperFault.Failed) ↔ IsTrue (fails self.old) }
@@ -149,7 +180,7 @@ impl Keeper for MemoryKeeper {
         Ok(self.contents.find(target)?)
     }
 
-    /// It fails exactly where this call's number is among the failing.
+    /// It fails exactly where this call's number is among the failing or a stop is at it or before it.
     fn put(&mut self, row: Row) -> Result<(), KeeperFault>
         requires { IsSome self.old.attached }
         ensures exactly { (result ≡ Err KeeperFault.Failed) ↔ IsTrue (fails self.old) }
@@ -168,7 +199,8 @@ impl Keeper for MemoryKeeper {
         Ok(())
     }
 
-    /// It fails exactly where this call's number is among the failing. It wants no memory.
+    /// It fails exactly where this call's number is among the failing or a stop is at it or before it. It
+    /// wants no memory.
     fn forget(&mut self, target: &Text) -> Result<(), KeeperFault>
         requires { IsSome self.old.attached }
         ensures exactly { (result ≡ Err KeeperFault.Failed) ↔ IsTrue (fails self.old) }

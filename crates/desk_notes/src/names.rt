@@ -1,6 +1,6 @@
 //! The first ten of some names.
 
-ghost use Rattle.std.specs.Prelude.{◌≡◌, ◌≤◌, length};
+ghost use Rattle.std.specs.Prelude.{◌≡◌, ◌≤◌, OnErr, length};
 
 use desk_base::{Memory, Text, TextList};
 use std::alloc::Global;
@@ -27,9 +27,11 @@ impl Names {
         }
     }
 
-    /// Takes a name; it is kept where fewer than ten are. The only error is want of memory.
+    /// Takes a name; it is kept where fewer than ten are. After want of memory, the only error, those that are kept are as
+    /// they were, and the name is counted.
     pub fn take(&mut self, alloc: Global, name: &[u8]) -> Result<(), Memory>
-        ensures { length self.old.first ≤ 10 → length self.new.first ≤ 10 }
+        ensures few { length self.old.first ≤ 10 → length self.new.first ≤ 10 }
+        ensures err { OnErr result (self.new.first ≡ self.old.first) }
     {
         self.count = self.count.saturating_add(1);
         if self.first.len() < MOST {

@@ -43,15 +43,18 @@ all_more (file ∷ files) last e h = let p = and_parts _ _ e in and_from _ _ p.0
 pub all_full : (n : ℕ) → list_all (λ (file : GenFile). is_relative_path file.path) (generated n) ≡ true → list_all (λ (file : GenFile). is_full_path file.path) (generated_files n) ≡ true
 all_full n e = all_more (map (placed (codes "in")) (generated n)) (placed (codes "rules") rule_file) (all_below_in (generated n) e) refl
 
--- paths stand below `out`, and none of them below `in`
+-- paths stand below `out`, and none of them below `in` or `rules`
 below_out : IsPathRoot (codes "out")
 below_out path e = or_yes _ _ e
 
 in_and_out : RootsApart (codes "in") (codes "out")
 in_and_out p q rp rq e = let h : 105 ≡ 111 = ap (λ t. get_or t 0 0) e in omega (arith, h)
 
+rules_and_out : RootsApart (codes "rules") (codes "out")
+rules_and_out p q rp rq e = let h : 114 ≡ 111 = ap (λ t. get_or t 0 0) e in omega (arith, h)
+
 pub roots_in_memory : AreRoots generated_roots
-roots_in_memory = record { rules_is_root = refl; from_is_root = refl; below_to = below_out; apart = in_and_out }
+roots_in_memory = record { rules_is_root = refl; from_is_root = refl; below_to = below_out; apart = in_and_out; rules_apart = rules_and_out }
 
 contents_are : (n : ℕ) → filled (generated_files n) fin.empty ≡ generated_contents n
 unfolding generated_contents

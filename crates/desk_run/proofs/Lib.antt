@@ -14,7 +14,9 @@ pub mod Reporting
 pub mod Gathering
 pub mod Preparing
 pub mod Ending
+pub mod Sparing
 pub mod Promised
+pub mod Resuming
 pub mod Finishing
 pub mod Referring
 pub mod Following

@@ -15,4 +15,5 @@ pub mod Endings
 pub mod Classes
 pub mod Follows
 pub mod Clauses
+pub mod Resuming
 pub mod Generated

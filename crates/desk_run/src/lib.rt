@@ -17,6 +17,7 @@ ghost use Rattle.desk_run.specs.Endings.{Committed, HasCauses, Named, ReportedOf
 ghost use Rattle.desk_run.specs.Follows.{Follow};
 ghost use Rattle.desk_run.specs.Generated.{Generates, TellsTotals};
 ghost use Rattle.desk_run.specs.Named.{OfGenerate, OfRun, asked_of};
+ghost use Rattle.desk_run.specs.Resuming.{LeavesSources, Resumes};
 
 mod clash;
 mod classes;
@@ -111,6 +112,10 @@ fn follow<R: Threads + Sync, F: Folders, K: Keeper, O: Sink, G: Gate + Sync>(
 /// in this call; `Moved` only where the two readings of a file gave different bytes, and never where the folders tell their
 /// contents; `Memory` may come at any step. Rows that wait are written outside before the report: where
 /// that fails, the run ends as `LedgerFault` with all files done, and no report is written.
+///
+/// Whatever the status, source and rule folder stay as they were. A run over a true ledger that was stopped by want of memory
+/// or a fault of the outside goes on where it stood: run again over unchanged source and rules until it completes, it leaves
+/// the folders of one run that was never stopped.
 pub fn desk<R: Threads + Sync, F: Folders, K: Keeper, O: Sink, G: Gate + Sync>(
     rt: &R,
     alloc: Global,
@@ -128,6 +133,8 @@ pub fn desk<R: Threads + Sync, F: Folders, K: Keeper, O: Sink, G: Gate + Sync>(
         (F.faults folders.old) (F.faults folders.new) (K.faults keeper.old) (K.faults keeper.new) (O.faults out.old) (O.faults out.new)) }
     ensures causes { HasCauses (asked_of words.now) (F.told folders.old) result (F.faults folders.old) (F.faults folders.new) (K.faults keeper.old) (K.faults keeper.new) (O.faults out.old) (O.faults out.new) }
     ensures remains { OfRun words.now (WhereTold (F.told folders.old) (K.told keeper.old) (λ m0 l0. Tells (F.told folders.new) (K.told keeper.new) (λ m l. Left (asked_of words.now) m0 l0 m l result))) }
+    ensures sources { OfRun words.now (WhereTold (F.told folders.old) (K.told keeper.old) (λ m0 _. Tells (F.told folders.new) (K.told keeper.new) (λ m _. LeavesSources (asked_of words.now) m0 m))) }
+    ensures resume { OfRun words.now (WhereTold (F.told folders.old) (K.told keeper.old) (λ m1 l1. Tells (F.told folders.new) (K.told keeper.new) (λ m _. Resumes (asked_of words.now) m1 l1 m result))) }
     ensures classes { OfRun words.now (WhereTold (F.told folders.old) (K.told keeper.old) (λ m0 l0. Tells (F.told folders.new) (K.told keeper.new) (λ m l. Classes (asked_of words.now) m0 l0 m result))) }
     ensures follow { OfRun words.now (WhereTold (F.told folders.old) (K.told keeper.old) (λ m0 _. Follow (asked_of words.now) m0 result)) }
     ensures untouched { OfGenerate words.now (λ _. (folders.new ≡ folders.old) × (keeper.new ≡ keeper.old)) }

@@ -193,12 +193,14 @@ roots_by : (rules from to ledger : Root) (workers : ℕ) (given : Order) (o : Op
 roots_by rules from to ledger workers given (Some pair) n fr ff ft w e = cc
 roots_by rules from to ledger workers given None n fr ff ft w e =
     let is : order.Run (record { rules = written_of rules; from = written_of from; to = written_of to; ledger = written_of ledger }) workers ≡ given = cc in
+    let not_from = if_some_no (overlap from to) _ _ n in
     subst IsSound is (
       record {
         rules_is_root = written_is_root rules fr;
         from_is_root = written_is_root from ff;
         below_to = λ p rel. full_is_path to p ft rel;
-        apart = apart_roots from to ff ft (if_some_no (overlap from to) _ _ n).0;
+        apart = apart_roots from to ff ft not_from.0;
+        rules_apart = apart_roots rules to fr ft (if_some_no (overlap rules to) _ _ not_from.1).0;
       },
       w,
     )

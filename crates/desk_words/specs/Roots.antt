@@ -43,13 +43,14 @@ IsPathRoot root = (p : Text) → is_relative_path p ≡ true → is_full_path (f
 abbrev pub RootsApart : Text → Text → Type 0
 RootsApart from to = (p q : Text) → is_relative_path p ≡ true → is_relative_path q ≡ true → full from p ≢ full to q
 
--- the roots that are read are roots, paths stand below the one that is written to, and source and target
--- have no path in common
+-- the roots that are read are roots, paths stand below the one that is written to, and neither the source nor the rule
+-- folder has a path in common with the target
 pub record AreRoots (roots : Roots) : Type 0 where
   pub rules_is_root : is_root roots.rules ≡ true
   pub from_is_root : is_root roots.from ≡ true
   pub below_to : IsPathRoot roots.to
   pub apart : RootsApart roots.from roots.to
+  pub rules_apart : RootsApart roots.rules roots.to
 
 -- as many workers as words may ask for
 pub record AreWorkers (workers : ℕ) : Type 0 where

@@ -8,6 +8,7 @@ ghost use Rattle.desk_report.specs.Texts.{code_of};
 
 mod after;
 mod before;
+mod streams;
 mod telling;
 
 use after::tell_end;
@@ -24,6 +25,7 @@ use std::io::ErrorKind;
 use std::process::ExitCode;
 use std::thread::Threads;
 use std::{env, io};
+use streams::Streams;
 use telling::tell_unread;
 
 /// Words as texts, as they were given.
@@ -144,5 +146,6 @@ fn exit_of(status: &Status) -> ExitCode
 }
 
 fn main(rt: HostRuntime) -> ExitCode {
+    let _streams = Streams::take_places(&rt);
     exit_of(&run(&rt, &rt))
 }

@@ -76,23 +76,34 @@ fn a_body_ends_where_its_length_says(rt: HostRuntime) -> Result<(), Fail> {
     Ok(())
 }
 
+/// The Code with other bytes from a place on.
+fn code_with(place: usize, new: &[u8]) -> [u8; 31] {
+    let mut bytes = CODE;
+    for (offset, byte) in new.iter().enumerate() {
+        if let Some(old) = bytes.get_mut(place.wrapping_add(offset)) {
+            *old = *byte;
+        }
+    }
+    bytes
+}
+
 #[test]
 fn attributes_stand_in_a_code(rt: HostRuntime) -> Result<(), Fail> {
-    let cases: [(usize, u8, Result<(), ReadFault>); 5] = [
-        (0, 0, Ok(())),
-        (24, 7, fault(FaultKind::AttributeLength, 2)),
-        (24, 5, fault(FaultKind::AttributeLength, 21)),
-        (13, 0, fault(FaultKind::CodeLength, 10)),
-        (5, 26, fault(FaultKind::Truncated, 6)),
+    let cases: [(usize, &[u8], Result<(), ReadFault>); 7] = [
+        (0, &[0], Ok(())),
+        (24, &[7], fault(FaultKind::AttributeLength, 2)),
+        (24, &[5], fault(FaultKind::AttributeLength, 21)),
+        (10, &[0, 0, 0, 0], fault(FaultKind::CodeLength, 10)),
+        (10, &[0, 1, 0, 0], fault(FaultKind::CodeLength, 10)),
+        (10, &[0, 0, 255, 255], fault(FaultKind::AttributeLength, 2)),
+        (5, &[26], fault(FaultKind::Truncated, 6)),
     ];
-    for (place, byte, want) in cases {
-        let mut bytes = CODE;
-        assert!(rt; place < 31);
-        bytes[place] = byte;
+    for (place, new, want) in cases {
+        let bytes = code_with(place, new);
         let mut uses = Vec::new(rt.alloc());
         let mut cursor = Cursor::new(&bytes);
         let ended = walk_attribute(Place::OfMethod, &mut cursor, &SmallPool, &mut uses);
-        assert!(rt; ended == want, "{place} {byte}: {ended:?}");
+        assert!(rt; ended == want, "{place} {new:?}: {ended:?}");
     }
     Ok(())
 }

@@ -136,6 +136,17 @@ fn any_byte_may_be_255(rt: HostRuntime) -> Result<(), Fail> {
     Ok(())
 }
 
+#[test]
+fn a_servlet_that_is_cut_is_truncated(rt: HostRuntime) -> Result<(), Fail> {
+    let mut front = Vec::new(rt.alloc());
+    for byte in &SERVLET {
+        let kind = fault_of(rt.alloc(), &front).map(|(kind, _)| kind);
+        assert_eq!(rt; kind, Some(FaultKind::Truncated));
+        front.push(*byte)?;
+    }
+    Ok(())
+}
+
 // `javap -v -p` prints the same uses and members.
 #[test]
 fn a_compiled_servlet_reads(rt: HostRuntime) -> Result<(), Fail> {
@@ -161,7 +172,7 @@ fn a_compiled_servlet_reads(rt: HostRuntime) -> Result<(), Fail> {
 
 #[test]
 fn attributes_are_read_to_their_length(rt: HostRuntime) -> Result<(), Fail> {
-    let rows: [(&[u8], Option<(FaultKind, u32)>); 3] = [
+    let rows: [(&[u8], Option<(FaultKind, u32)>); 4] = [
         (
             b"\x00\x05\x00\x00\x00\x02\x00\x07\x00\x06\x00\x00\x00\x0A\x00\x01\x00\x02\x00\x00\x00\x08\x00\x00",
             None,
@@ -173,6 +184,10 @@ fn attributes_are_read_to_their_length(rt: HostRuntime) -> Result<(), Fail> {
         (
             b"\x00\x05\x00\x00\x00\x02\x00\x07\x00\x06\x00\x00\x00\x0A\x00\x01\x00\x01\x00\x00\x00\x08\x00\x00",
             Some((FaultKind::Index, 110)),
+        ),
+        (
+            b"\x00\x05\xFF\xFF\xFF\xFF\x00\x07\x00\x06\x00\x00\x00\x0A\x00\x01\x00\x02\x00\x00\x00\x08\x00\x00",
+            Some((FaultKind::Truncated, 100)),
         ),
     ];
     for (attributes, fault) in rows.as_slice() {

@@ -1,6 +1,6 @@
 //! Classes and what they become, or why they aren't rewritten.
 
-use desk_base::Text;
+use desk_base::{ReadFault, Text};
 use desk_class::ClassView;
 use desk_fixtures::rule_set;
 use desk_rename::NoImages;
@@ -145,6 +145,46 @@ fn a_text_that_is_no_signature_is_odd(rt: HostRuntime) -> Result<(), Fail> {
 #[test]
 fn a_servlet_is_rewritten(rt: HostRuntime) -> Result<(), Fail> {
     assert!(rt; becomes(rt.alloc(), &SERVLET, b"", &NEW_SERVLET, [4, 0, 0])?);
+    Ok(())
+}
+
+/// The servlet with 255 in place of one byte.
+fn servlet_with_255(alloc: Global, place: usize) -> Result<Vec<u8>, Fail> {
+    let mut bytes = SERVLET.to_vec(alloc)?;
+    if let Some(byte) = bytes.get_mut(place) {
+        *byte = 255;
+    }
+    Ok(bytes)
+}
+
+/// Whether a class becomes a class, or isn't rewritten for a reason that is named.
+fn is_rewritten_or_refused(alloc: Global, class: &[u8]) -> Result<bool, Fail> {
+    match rewritten(alloc, class, b"")? {
+        Ok(new) => {
+            let bytes = new.bytes.as_bytes();
+            Ok(bytes.len() < 1_000_000 && ClassView::read(alloc, bytes).is_ok())
+        }
+        Err(fault) => Ok(fault != RewriteFault::Memory),
+    }
+}
+
+/// Whether bytes are no class for a reason that is named, or a class that is rewritten or refused.
+fn is_answered(alloc: Global, bytes: &[u8]) -> Result<bool, Fail> {
+    if bytes.len() > 1_000_000 {
+        return Ok(false);
+    }
+    match ClassView::read(alloc, bytes) {
+        Ok(_) => is_rewritten_or_refused(alloc, bytes),
+        Err(fault) => Ok(fault != ReadFault::Memory),
+    }
+}
+
+#[test]
+fn a_servlet_with_any_byte_255_is_answered(rt: HostRuntime) -> Result<(), Fail> {
+    for place in 0..SERVLET.len() {
+        let bytes = servlet_with_255(rt.alloc(), place)?;
+        assert!(rt; is_answered(rt.alloc(), &bytes)?, "{place}");
+    }
     Ok(())
 }
 

@@ -151,3 +151,94 @@ fn a_commit_is_no_call_that_fails(rt: HostRuntime) -> Result<(), Fail> {
     assert!(rt; has(&mut keeper, &one));
     Ok(())
 }
+
+/// Where the calls stop, which of three calls then fail, and whether the row and the header then stand.
+struct Stop {
+    at: u64,
+    failed: [bool; 3],
+    row: bool,
+    header: bool,
+}
+
+/// An attached keeper, which made one call, puts a row, sets a header and forgets the row.
+const STOPS: &[Stop] = &[
+    Stop {
+        at: 0,
+        failed: [true, true, true],
+        row: false,
+        header: false,
+    },
+    Stop {
+        at: 1,
+        failed: [true, true, true],
+        row: false,
+        header: false,
+    },
+    Stop {
+        at: 2,
+        failed: [false, true, true],
+        row: true,
+        header: false,
+    },
+    Stop {
+        at: 3,
+        failed: [false, false, true],
+        row: true,
+        header: true,
+    },
+    Stop {
+        at: 4,
+        failed: [false, false, false],
+        row: false,
+        header: true,
+    },
+];
+
+/// Makes the three calls, and answers which of them failed.
+fn three_calls(keeper: &mut MemoryKeeper, row: &Row, header: &Header) -> Result<[bool; 3], Fail>
+    requires { IsSome keeper.old.attached }
+    ensures { IsSome keeper.new.attached }
+{
+    Ok([
+        put(keeper, row)?.is_some(),
+        set_header(keeper, header).is_some(),
+        forget(keeper, &row.target).is_some(),
+    ])
+}
+
+#[test]
+fn calls_from_a_stop_on_fail(rt: HostRuntime) -> Result<(), Fail> {
+    let alloc = rt.alloc();
+    let one = row(alloc, b"one", b"a", 1)?;
+    let header = header(alloc)?;
+    for stop in STOPS {
+        let mut keeper = attached(alloc, Vec::new(alloc))?;
+        keeper.stop_at(9);
+        keeper.stop_at(stop.at);
+        assert_eq!(rt; three_calls(&mut keeper, &one, &header)?, stop.failed);
+        keeper.mend();
+        assert_eq!(rt; has(&mut keeper, &one), stop.row);
+        assert_eq!(rt; has_header(&mut keeper, &header), stop.header);
+    }
+    Ok(())
+}
+
+#[test]
+fn a_mended_keeper_fails_no_more(rt: HostRuntime) -> Result<(), Fail> {
+    let alloc = rt.alloc();
+    let name = Text::from_bytes(alloc, b"ledger")?;
+    let one = row(alloc, b"one", b"a", 1)?;
+    let header = header(alloc)?;
+    let keeper = MemoryKeeper::new(alloc, vec![in alloc; 0u64, 3]?)?;
+    let mut keeper = Box::new(alloc, keeper)?;
+    keeper.stop_at(1);
+    assert!(rt; keeper.attach(&name).is_err());
+    assert!(rt; keeper.attach(&name).is_err());
+    keeper.mend();
+    keeper.attach(&name)?;
+    assert_eq!(rt;
+        three_calls(&mut keeper, &one, &header)?,
+        [false, false, false]
+    );
+    Ok(())
+}

@@ -116,3 +116,102 @@ fn named_calls_fail(rt: HostRuntime) -> Result<(), Fail> {
     );
     Ok(())
 }
+
+/// Where the calls stop, which of four calls then fail, and what the two paths hold afterwards.
+struct Stop {
+    at: u64,
+    failed: [bool; 4],
+    first: Option<&'static [u8]>,
+    second: Option<&'static [u8]>,
+}
+
+/// Two appends to `out/x`, which holds `old`, and a new beginning of it and of `out/y`, which holds `kept`.
+const STOPS: &[Stop] = &[
+    Stop {
+        at: 0,
+        failed: [true, true, true, true],
+        first: Some(b"oldab"),
+        second: Some(b"kept"),
+    },
+    Stop {
+        at: 1,
+        failed: [false, true, true, true],
+        first: Some(b"oldabcde"),
+        second: Some(b"kept"),
+    },
+    Stop {
+        at: 2,
+        failed: [false, false, true, true],
+        first: None,
+        second: Some(b"kept"),
+    },
+    Stop {
+        at: 3,
+        failed: [false, false, false, true],
+        first: Some(b""),
+        second: None,
+    },
+    Stop {
+        at: 4,
+        failed: [false, false, false, false],
+        first: Some(b""),
+        second: Some(b""),
+    },
+];
+
+/// Folders with a file `out/x` and a file `out/y`.
+fn two_files(alloc: Global) -> Result<Box<MemoryFolders>, Fail> {
+    let files = vec![in alloc;
+        file(alloc, b"out/x", b"old")?,
+        file(alloc, b"out/y", b"kept")?,
+    ]?;
+    let folders = MemoryFolders::new(alloc, files, Vec::new(alloc))?;
+    Ok(Box::new(alloc, folders)?)
+}
+
+/// Makes the four calls, and answers which of them failed.
+fn four_calls(folders: &mut MemoryFolders, alloc: Global) -> Result<[bool; 4], Fail> {
+    let first = Text::from_bytes(alloc, b"out/x")?;
+    let second = Text::from_bytes(alloc, b"out/y")?;
+    Ok([
+        add(folders, alloc, b"out/x", b"abcd")?.is_some(),
+        add(folders, alloc, b"out/x", b"ef")?.is_some(),
+        folders.create(&first).is_err(),
+        folders.create(&second).is_err(),
+    ])
+}
+
+#[test]
+fn calls_from_a_stop_on_fail(rt: HostRuntime) -> Result<(), Fail> {
+    let alloc = rt.alloc();
+    for stop in STOPS {
+        let mut folders = two_files(alloc)?;
+        folders.stop_at(9);
+        folders.stop_at(stop.at);
+        assert_eq!(rt; four_calls(&mut folders, alloc)?, stop.failed);
+        assert_eq!(rt; folders.content(b"out/x"), stop.first);
+        assert_eq!(rt; folders.content(b"out/y"), stop.second);
+    }
+    Ok(())
+}
+
+#[test]
+fn mended_folders_fail_no_more(rt: HostRuntime) -> Result<(), Fail> {
+    let alloc = rt.alloc();
+    let files = vec![in alloc;
+        file(alloc, b"out/x", b"old")?,
+        file(alloc, b"out/y", b"kept")?,
+    ]?;
+    let folders = MemoryFolders::new(alloc, files, vec![in alloc; 0u64, 5]?)?;
+    let mut folders = Box::new(alloc, folders)?;
+    folders.stop_at(1);
+    assert_eq!(rt; four_calls(&mut folders, alloc)?, [true, true, true, true]);
+    assert_eq!(rt; folders.content(b"out/x"), Some(b"oldabe".as_slice()));
+    folders.mend();
+    assert_eq!(rt;
+        four_calls(&mut folders, alloc)?,
+        [false, false, false, false]
+    );
+    assert_eq!(rt; folders.content(b"out/y"), Some(b"".as_slice()));
+    Ok(())
+}

@@ -3,10 +3,11 @@
 
 use crate::classes::A;
 use crate::fixture::{
-    BELOW, ROOM, WORDS, expect, expect_files, first_run, folders_of, keeper_of, run,
+    BELOW, ROOM, WORDS, expect, expect_files, first_run, folders_of, have_same_row, keeper_of, run,
 };
 use desk_base::Text;
-use desk_folders::MemoryFolders;
+use desk_folders::{Folders, MemoryFolders};
+use desk_ledger::MemoryKeeper;
 use std::alloc::Global;
 use std::test::Fail;
 use worked_classes::servlet::{NEW_SERVLET, SERVLET};
@@ -263,7 +264,7 @@ const AGAIN: &[&[u8]] = &[
 ];
 
 /// The path of a file below a folder.
-fn below(alloc: Global, folder: &[u8], path: &[u8]) -> Result<Text, Fail> {
+pub fn below(alloc: Global, folder: &[u8], path: &[u8]) -> Result<Text, Fail> {
     let mut whole = Text::from_bytes(alloc, folder)?;
     whole.append(path)?;
     Ok(whole)
@@ -274,6 +275,26 @@ pub fn holds_shop(alloc: Global, folders: &MemoryFolders, folder: &[u8]) -> Resu
     for (path, content) in NEW_SHOP {
         let whole = below(alloc, folder, path)?;
         if folders.content(whole.as_bytes()) != Some(*content) {
+            return Ok(false);
+        }
+    }
+    Ok(true)
+}
+
+/// Whether the folder for the result holds the files of the migrated application and no others.
+pub fn is_migrated(alloc: Global, folders: &mut MemoryFolders) -> Result<bool, Fail> {
+    let paths = folders.list(&Text::from_bytes(alloc, b"out")?, 9)?;
+    Ok(paths.len() == NEW_SHOP.len() && holds_shop(alloc, folders, b"out/")?)
+}
+
+/// Whether two ledgers of the application have the same rows.
+pub fn have_same_rows(
+    alloc: Global,
+    one: &mut MemoryKeeper,
+    other: &mut MemoryKeeper,
+) -> Result<bool, Fail> {
+    for (target, _) in NEW_SHOP {
+        if !have_same_row(alloc, target, one, other)? {
             return Ok(false);
         }
     }

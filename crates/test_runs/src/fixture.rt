@@ -180,7 +180,7 @@ pub fn row_of(
 }
 
 /// The header of the ledger.
-pub fn header_of(alloc: Global, keeper: &mut MemoryKeeper) -> Result<Header, Fail> {
+fn header_of(alloc: Global, keeper: &mut MemoryKeeper) -> Result<Header, Fail> {
     let name = Text::from_bytes(alloc, b"l")?;
     keeper.attach(&name)?;
     match keeper.header()? {
@@ -192,4 +192,32 @@ pub fn header_of(alloc: Global, keeper: &mut MemoryKeeper) -> Result<Header, Fai
 /// Whether the ledger holds a row of a target.
 pub fn has_row(alloc: Global, keeper: &mut MemoryKeeper, target: &[u8]) -> Result<bool, Fail> {
     Ok(row_of(alloc, keeper, target)?.is_some())
+}
+
+/// Whether two ledgers hold the same row of a target.
+pub fn have_same_row(
+    alloc: Global,
+    target: &[u8],
+    one: &mut MemoryKeeper,
+    other: &mut MemoryKeeper,
+) -> Result<bool, Fail> {
+    let first = row_of(alloc, one, target)?;
+    let second = row_of(alloc, other, target)?;
+    match (first, second) {
+        (Some(first), Some(second)) => {
+            Ok(first.source == second.source && first.digest == second.digest)
+        }
+        _ => Ok(false),
+    }
+}
+
+/// Whether two ledgers have the same header.
+pub fn have_same_header(
+    alloc: Global,
+    one: &mut MemoryKeeper,
+    other: &mut MemoryKeeper,
+) -> Result<bool, Fail> {
+    let first = header_of(alloc, one)?;
+    let second = header_of(alloc, other)?;
+    Ok(first.from == second.from && first.to == second.to && first.rules == second.rules)
 }

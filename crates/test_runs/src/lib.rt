@@ -15,6 +15,8 @@ mod changing;
 #[cfg(test)]
 mod classes;
 #[cfg(test)]
+mod failing;
+#[cfg(test)]
 mod faults;
 #[cfg(test)]
 mod fixture;

@@ -1,9 +1,9 @@
 //! Runs by several workers.
 
-use crate::applications::{NEW_SHOP, SHOP, SHOP_REPORT, holds_shop};
+use crate::applications::{SHOP, SHOP_REPORT, have_same_rows, holds_shop};
 use crate::classes::{A, B};
 use crate::fixture::{
-    BELOW, Ended, ROOM, WORDS, expect, folders_of, header_of, keeper_of, row_of, run, run_through,
+    BELOW, Ended, ROOM, WORDS, expect, folders_of, have_same_header, keeper_of, run, run_through,
 };
 use desk_folders::MemoryFolders;
 use desk_ledger::MemoryKeeper;
@@ -15,7 +15,7 @@ use std::test::Fail;
 use std::thread::Threads;
 
 /// How a run by so many workers ends, through a gate.
-fn run_by<R: Threads + Sync, G: Gate + Sync>(
+pub fn run_by<R: Threads + Sync, G: Gate + Sync>(
     rt: &R,
     alloc: Global,
     workers: &[u8],
@@ -37,48 +37,6 @@ fn run_by<R: Threads + Sync, G: Gate + Sync>(
         workers,
     ];
     run_through(rt, alloc, words, folders, keeper, ROOM, gate)
-}
-
-/// Whether two ledgers hold the same row of a target.
-fn have_same_row(
-    alloc: Global,
-    target: &[u8],
-    one: &mut MemoryKeeper,
-    other: &mut MemoryKeeper,
-) -> Result<bool, Fail> {
-    let first = row_of(alloc, one, target)?;
-    let second = row_of(alloc, other, target)?;
-    match (first, second) {
-        (Some(first), Some(second)) => {
-            Ok(first.source == second.source && first.digest == second.digest)
-        }
-        _ => Ok(false),
-    }
-}
-
-/// Whether two ledgers of the application have the same rows.
-fn have_same_rows(
-    alloc: Global,
-    one: &mut MemoryKeeper,
-    other: &mut MemoryKeeper,
-) -> Result<bool, Fail> {
-    for (target, _) in NEW_SHOP {
-        if !have_same_row(alloc, target, one, other)? {
-            return Ok(false);
-        }
-    }
-    Ok(true)
-}
-
-/// Whether two ledgers have the same header.
-fn have_same_header(
-    alloc: Global,
-    one: &mut MemoryKeeper,
-    other: &mut MemoryKeeper,
-) -> Result<bool, Fail> {
-    let first = header_of(alloc, one)?;
-    let second = header_of(alloc, other)?;
-    Ok(first.from == second.from && first.to == second.to && first.rules == second.rules)
 }
 
 /// Numbers of workers.

@@ -2,6 +2,8 @@ use Rattle.desk_run.specs.Named.{asked_of}
 use Rattle.desk_run.proofs.Promised.{files_clause, classes_clause, ledger_clause, remains_clause, status_clause, output_clause, last_write, causes_after, generates}
 use Rattle.desk_run.proofs.Following.{of_run_map, of_run_both, of_generate_map}
 use Rattle.desk_run.proofs.Referring.{follow_clause}
+use Rattle.desk_run.proofs.Resuming.{resume_clause}
+use Rattle.desk_run.proofs.Sparing.{sources_clause}
 use Rattle.desk_run.proofs.desk.Goals as goal
 
 pub returns-clause-files : goal.returns-clause-files
@@ -41,3 +43,11 @@ returns-clause-classes g c =
 pub returns-clause-follow : goal.returns-clause-follow
 returns-clause-follow g c =
     of_run_map c.args.words.now _ _ (λ s m l ef ek. follow_clause (asked_of c.args.words.now) m l _ _ _ (s m l ef ek)) c.follow-status.ensures.stands
+
+pub returns-clause-sources : goal.returns-clause-sources
+returns-clause-sources g c =
+    of_run_map c.args.words.now _ _ (λ s m l ef ek. sources_clause c.args.words.now m l _ _ _ (s m l ef ek)) c.follow-status.ensures.stands
+
+pub returns-clause-resume : goal.returns-clause-resume
+returns-clause-resume g c =
+    of_run_map c.args.words.now _ _ (λ s m l ef ek. resume_clause (asked_of c.args.words.now) m l _ _ _ (s m l ef ek)) c.follow-status.ensures.stands
