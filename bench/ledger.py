@@ -54,8 +54,32 @@ def in_memory(program, place):
     return [int(word) / 1e6 for word in run([program, "2"] + words_of(place))[1].split()]
 
 
+def sums(place):
+    """The seconds that sha256sum takes over source and target."""
+    return run(["sh", "-c", f"find {place}/app {place}/out -type f -print0 | xargs -0 sha256sum"])[0]
+
+
+def looked(program, name, place):
+    """Prints what a run with --verify takes that keeps every file, beside sha256sum."""
+    in_file(program, place)
+    looks, plain = [], []
+    for _ in range(ROUNDS):
+        plain.append(sums(place))
+        looks.append(run([program] + words_of(place) + ["--verify"])[0])
+    print(f"{name}: a run with --verify that keeps every file takes {min(looks) / min(plain):.2f} times sha256sum over source and target ({min(looks):.2f} s to {min(plain):.2f} s; aim: at most 1.5)")
+
+
+def before(program, other, name, place):
+    """Prints what a first run takes beside that of another program."""
+    new, old = [], []
+    for _ in range(ROUNDS):
+        old.append(in_file(other, place)[0])
+        new.append(in_file(program, place)[0])
+    print(f"{name}: a first run takes {min(new) / min(old):.2f} times that of the other program ({min(new):.2f} s to {min(old):.2f} s; aim: at most 1.1)")
+
+
 def main():
-    migrate, bench, disk, memory = sys.argv[1:]
+    migrate, bench, disk, memory, *others = sys.argv[1:]
     for name, place in (("on disk", disk), ("in /dev/shm", memory)):
         make(place)
         file, held = [], []
@@ -65,6 +89,9 @@ def main():
         for i, what, aim in ((0, "a first run", 1.3), (1, "a run that keeps every file", 1.2)):
             least, beside = min(f[i] for f in file), min(h[i] for h in held)
             print(f"{name}: {what} takes {least / beside:.2f} times that with the ledger in memory ({least:.2f} s to {beside:.2f} s; aim: at most {aim})")
+        looked(migrate, name, place)
+        for other in others:
+            before(migrate, other, name, place)
 
 
 main()

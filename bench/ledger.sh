@@ -1,6 +1,10 @@
 #!/bin/sh
 # Times runs over 30,000 small files with the ledger on disk beside the same runs with the ledger in memory, and prints the
-# ratios: a first run, and a run that keeps every file, each with all folders on disk and in memory (/dev/shm).
+# ratios: a first run, and a run that keeps every file, each with all folders on disk and in memory (/dev/shm). Beside them a
+# run with --verify that keeps every file, as a ratio to sha256sum over source and target; and, where another program is
+# named, as that of an earlier state, a first run as a ratio to its.
+#
+# Usage: bench/ledger.sh [PROGRAM]
 #
 # It needs python3 and the two programs built: `rt run` in crates/migrate and in crates/bench_ledger.
 set -eu
@@ -11,4 +15,4 @@ done
 disk=$(mktemp -d)
 memory=$(mktemp -d -p /dev/shm)
 trap 'rm -rf "$disk" "$memory"' EXIT
-python3 "$here/bench/ledger.py" "$here/crates/migrate/out/migrate" "$here/crates/bench_ledger/out/bench_ledger" "$disk" "$memory"
+python3 "$here/bench/ledger.py" "$here/crates/migrate/out/migrate" "$here/crates/bench_ledger/out/bench_ledger" "$disk" "$memory" "$@"

@@ -8,7 +8,7 @@ trap 'chmod -R u+rwX "$place"; rm -rf "$place"' EXIT
 chmod 755 "$place"
 cd "$place" || exit 1
 
-usage='migrate: 20 usage: migrate run --rules R --from A --to B --ledger L [--workers N] or migrate generate --count N [--workers N]'
+usage='migrate: 20 usage: migrate run --rules R --from A --to B --ledger L [--workers N] [--verify] or migrate generate --count N [--workers N]'
 
 # ---- words
 
@@ -37,6 +37,10 @@ wrong 'an empty root' '`` is no root' run --rules r --from= --to b --ledger l
 wrong 'too many workers' '`65` is no number of workers' run --rules r --from a --to b --ledger l --workers 65
 wrong 'no count' '`0` is no count' generate --count 0
 wrong 'a long count' '`20001` is no count' generate --count 20001
+wrong 'a value of an option without one' "unexpected value 'yes' for '--verify'" run --rules r --from a --to b --ledger l --verify=yes
+wrong 'a word behind an option without a value' '`yes` stands where an option is wanted' run --rules r --from a --to b --ledger l --verify yes
+wrong 'an option without a value twice' "the argument '--verify' cannot be used multiple times" run --rules r --from a --to b --ledger l --verify --verify
+wrong 'an option of run behind generate' "unexpected argument '--verify'" generate --count 1 --verify
 wrong 'a word of bytes' "isn't in UTF-8" run --rules $'\xff' --from a --to b --ledger l
 
 # ---- an application

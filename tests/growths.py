@@ -6,12 +6,13 @@ Usage: tests/growths.py. The program has to be built for x86-64 (examples/first/
 Growths are refused in two ways. In a copy of the program the two functions by which all its memory is taken, `rattle_alloc` and
 `rattle_realloc`, count their calls, and at the call of one number they ask the C library for more than there can be, so that it
 refuses; each number is tried until a run has no such call. And strace, where it is installed, refuses the system's calls `brk`,
-`mmap` and `mremap`: one alone, and all from one on. Those that load the program, before it begins, aren't counted.
+`mmap`, `mremap` and `mprotect`: one alone, and all from one on. Those that load the program, before it begins, aren't counted.
 
 A run must end with the status 10 and its line, or go on without that memory, as where a thread can't be started, and end as a run
 with ample memory does. Then each row of the ledger must be true, and a run to the end must make the target folder of a run with
-ample memory. The runs start from nothing and from a whole run over older files, by 1 and by 4 workers. It prints the counts, and
-ends with 1 unless those of what must not be are 0.
+ample memory. The runs start from nothing, by 1 worker, and from a whole run over older files, by 4. A run that must not begin, since
+its target is a link to its source, must not begin either where a growth is refused, and leaves the source. It prints the counts,
+and ends with 1 unless those of what must not be are 0.
 """
 
 import os
@@ -22,9 +23,11 @@ import subprocess
 import sys
 import tempfile
 
-from kills import FEW, PROGRAM, WORKERS, begin, finish, prepare, settle, words
+from kills import FEW, PROGRAM, begin, clear, finish, prepare, settle, words
 from ledgers import tree, untrue
 
+# Whether a run starts from a whole run over older files, and by how many workers it goes.
+STARTS = ((False, 1), (True, 4))
 LINE = b"migrate: 10 out of memory\n"
 PAGE = 4096
 LOAD, NOTE = 1, 4
@@ -36,7 +39,7 @@ SIZES = {"rattle_alloc": (b"\xff", b"\x48\x83\xcf\xff"), "rattle_realloc": (b"\x
 # `int3` and three times `nop`: it ends the program by a signal.
 END = b"\xcc\x90\x90\x90"
 # How each call of the system by which memory grows says that it doesn't.
-GROWTHS = {"brk": "retval=0", "mmap": "error=ENOMEM", "mremap": "error=ENOMEM"}
+GROWTHS = {"brk": "retval=0", "mmap": "error=ENOMEM", "mremap": "error=ENOMEM", "mprotect": "error=ENOMEM"}
 
 
 def addresses(names):
@@ -123,6 +126,17 @@ class Counts:
         finish("out", "ledger")
         self.differences += tree("out") != images
 
+    def look_at_unbegun(self, run, is_same):
+        """Looks at how a run ended that must not begin: with want of memory, or as nested."""
+        if run.returncode == 10 and run.stdout == LINE:
+            self.memory += 1
+        elif run.returncode == 21:
+            self.whole += 1
+        else:
+            self.other += 1
+        self.untrue += os.path.exists("ledger")
+        self.differences += not is_same
+
     def is_bad(self):
         return self.other or self.untrue or self.differences
 
@@ -133,9 +147,9 @@ class Counts:
         )
 
 
-def run(program, workers):
+def run(program, to, workers):
     """A run that may end in any way; the program stands behind the words that start it."""
-    return subprocess.run([*program, *words("out", "ledger", workers)[1:]], stdout=subprocess.PIPE, stderr=subprocess.PIPE)
+    return subprocess.run([*program, *words(to, "ledger", workers)[1:]], stdout=subprocess.PIPE, stderr=subprocess.PIPE)
 
 
 class Start:
@@ -149,10 +163,28 @@ class Start:
 
     def run(self, program):
         begin(self.is_old)
-        return run(program, self.workers)
+        return run(program, "out", self.workers)
 
     def look_at(self, program, counts):
         counts.look(self.run(program), self.images, self.report)
+
+
+class Unbegun:
+    """A run that must not begin, since its target is a link to its source."""
+
+    def __init__(self):
+        os.symlink("app", "linked")
+        shutil.copytree("app", "source")
+        self.source = tree("source")
+
+    def run(self, program):
+        clear("app", "ledger")
+        shutil.copytree("source", "app")
+        return run(program, "linked", 1)
+
+    def look_at(self, program, counts):
+        ended = self.run(program)
+        counts.look_at_unbegun(ended, tree("app") == self.source)
 
 
 def growths_of(start):
@@ -179,11 +211,13 @@ def in_the_program(start, counts):
 
 
 def system_growths(start):
-    """The names of the system's calls by which memory grows, in their order, and how many of them load the program."""
+    """The calls of the system by which memory of the first thread grows, in their order, and how many of them load the program."""
     start.run(["strace", "-f", "-qq", "-o", "trace", PROGRAM])
     with open("trace", encoding="ascii", errors="replace") as file:
-        calls = re.findall(r"^[0-9]+ +([a-z_0-9]+)\(", file.read(), re.MULTILINE)
-    loaded = calls.index("set_tid_address")
+        found = re.findall(r"^([0-9]+) +([a-z_0-9]+)\(", file.read(), re.MULTILINE)
+    calls = [call for thread, call in found if thread == found[0][0]]
+    # The last that loads the program lets go of the list of libraries.
+    loaded = calls.index("munmap")
     return [call for call in calls if call in GROWTHS], sum(call in GROWTHS for call in calls[:loaded])
 
 
@@ -194,7 +228,7 @@ def refusing(injected):
 
 
 def in_the_system(start, counts):
-    """Refuses each call by which the system gives memory, alone, and with all that follow."""
+    """Refuses each call by which the system gives memory, alone, and with all that follow. Numbers are counted in each thread."""
     calls, loading = system_growths(start)
     for at in range(loading, len(calls)):
         refusals = {call: f"{call}:{refusal}:when={calls[:at].count(call) + 1}" for call, refusal in GROWTHS.items()}
@@ -217,8 +251,9 @@ def main():
     with tempfile.TemporaryDirectory() as place:
         settle(place)
         images, _ = prepare(FEW, True)
-        starts = [Start(is_old, workers, images) for workers in WORKERS for is_old in (False, True)]
+        starts = [Start(is_old, workers, images) for is_old, workers in STARTS]
         seen = [tried("growths in the program", in_the_program, starts)]
+        seen.append(tried("growths of a run that must not begin", in_the_program, [Unbegun()]))
         if shutil.which("strace"):
             seen.append(tried("growths in the system", in_the_system, starts))
         os.chdir("/")

@@ -35,16 +35,16 @@ seen=$place.seen/ledger
 check 'integrity' ok "$(sqlite3 "$seen" 'PRAGMA integrity_check')"
 check 'tables' 'folder
 header
-written' "$(sqlite3 "$seen" "SELECT name FROM sqlite_schema WHERE type = 'table' ORDER BY name")"
-check 'kinds' 'blob|blob|blob' "$(sqlite3 "$seen" 'SELECT DISTINCT typeof(target), typeof(source), typeof(digest) FROM written')"
+rows2' "$(sqlite3 "$seen" "SELECT name FROM sqlite_schema WHERE type = 'table' ORDER BY name")"
+check 'kinds' 'blob|blob|blob|blob' "$(sqlite3 "$seen" 'SELECT DISTINCT typeof(target), typeof(source), typeof(digest), typeof(output) FROM rows2')"
 check 'folder' "$PWD" "$(sqlite3 "$seen" 'SELECT CAST(path AS TEXT) FROM folder')"
 check 'header' 'app|out|32' "$(sqlite3 "$seen" 'SELECT CAST(from_root AS TEXT), CAST(to_root AS TEXT), length(rules) FROM header')"
 wanted=
 for pair in META-INF/services/jakarta.servlet.Filter:META-INF/services/javax.servlet.Filter readme.txt:readme.txt sub/empty:sub/empty; do
-  wanted="$wanted${pair%%:*}|${pair#*:}|$(sha256sum "app/${pair#*:}" | cut -c1-64 | tr a-f A-F)
+  wanted="$wanted${pair%%:*}|${pair#*:}|$(sha256sum "app/${pair#*:}" | cut -c1-64 | tr a-f A-F)|$(sha256sum "out/${pair%%:*}" | cut -c1-64 | tr a-f A-F)
 "
 done
-check 'rows' "${wanted%?}" "$(sqlite3 "$seen" 'SELECT CAST(target AS TEXT), CAST(source AS TEXT), hex(digest) FROM written ORDER BY target')"
+check 'rows' "${wanted%?}" "$(sqlite3 "$seen" 'SELECT CAST(target AS TEXT), CAST(source AS TEXT), hex(digest), hex(output) FROM rows2 ORDER BY target')"
 rm -rf "$place.seen"
 
 # ---- later runs
@@ -69,8 +69,25 @@ status 0' "$(run rules out ledger 2>&1)"
 check 'then all is kept' 'total files=3 written=0 kept=3 refused=0 renamed=0 added=0
 status 0' "$(run rules out ledger 2>&1 | tail -2)"
 # A ledger that sqlite3 wrote last is read too.
-sqlite3 ledger "DELETE FROM written WHERE target = CAST('readme.txt' AS BLOB)"
+sqlite3 ledger "DELETE FROM rows2 WHERE target = CAST('readme.txt' AS BLOB)"
 check 'a row that sqlite3 removed' 'written readme.txt readme.txt copy' "$(run rules out ledger 2>&1 | grep readme)"
+
+# ---- a ledger of format 1, whose rows have no outputs
+
+# old FILE: the same ledger in format 1, of the tables that its first programs made
+old() {
+  sqlite3 "$1" 'CREATE TABLE written (target BLOB NOT NULL PRIMARY KEY, source BLOB NOT NULL, digest BLOB NOT NULL) STRICT' \
+    'INSERT INTO written SELECT target, source, digest FROM rows2' 'DROP TABLE rows2'
+}
+
+old ledger
+check 'format 1: all is kept' "$kept" "$(run rules out ledger 2>&1)"
+cp -r . "$place.seen"
+check 'format 1: the tables' 'folder
+header
+rows2' "$(sqlite3 "$seen" "SELECT name FROM sqlite_schema WHERE type = 'table' ORDER BY name")"
+check 'format 1: the rows' '3|0' "$(sqlite3 "$seen" 'SELECT count(*), count(output) FROM rows2')"
+rm -rf "$place.seen"
 
 # ---- files that can't be a ledger
 
@@ -132,7 +149,7 @@ status 12') passed=$((passed + 1)) ;;
   cp ledger seen && [ -e ledger-wal ] && cp ledger-wal seen-wal
   check 'integrity on a full disk' ok "$(sqlite3 seen 'PRAGMA integrity_check')"
   # A copy has the digest of its source at its target.
-  sqlite3 seen "SELECT lower(hex(digest)) || '  full/' || CAST(target AS TEXT) FROM written WHERE target = source" >sums
+  sqlite3 seen "SELECT lower(hex(digest)) || '  full/' || CAST(target AS TEXT) FROM rows2 WHERE target = source" >sums
   check 'true rows on a full disk' '' "$(sha256sum --quiet -c sums 2>&1)"
   check 'the run goes on elsewhere' 'status 0' "$(run rules full ledger 2>&1 | tail -1)"
 fi

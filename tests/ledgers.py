@@ -36,9 +36,9 @@ def read(ledger):
     """The rows of a ledger that nothing else reads."""
     connection = sqlite3.connect(ledger)
     tables = [name for (name,) in connection.execute("SELECT name FROM sqlite_schema WHERE type = 'table' ORDER BY name")]
-    if tables not in ([], ["folder", "header", "written"]):
+    if tables not in ([], ["folder", "header", "rows2"]):
         sys.exit(f"the ledger has the tables {tables}")
-    found = connection.execute("SELECT target, source, digest FROM written").fetchall() if tables else []
+    found = connection.execute("SELECT target, source, digest FROM rows2").fetchall() if tables else []
     connection.close()
     return found
 

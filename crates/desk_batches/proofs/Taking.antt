@@ -6,7 +6,7 @@ use Rattle.std.proofs.lemmas.List.{map-append, length-map, take_more, get_or-dro
 use Rattle.std.proofs.Math.ListN.{get_or-map}
 use Rattle.desk_ledger.specs.Ledger.{Ledger}
 use Rattle.desk_batches.specs.Stops.{Broken, StoppedAt, HasCause}
-use Rattle.desk_batches.specs.Works.{files_after, held_of_work, ledger_after, logged, logged_plan, wrote, wrote_plan, Work}
+use Rattle.desk_batches.specs.Works.{files_after, ledger_after, logged, logged_plan, wrote, wrote_plan, Work}
 use Rattle.desk_base.specs.Names.{Text}
 use Rattle.desk_batches.specs.Notes.{IsNoteOf, IsSound}
 use Rattle.desk_batches.specs.declared.noted.Outcome.{Outcome}
@@ -402,7 +402,7 @@ keep_file : (to : List ℕ) (image : Text → Text → Result Image Reason) (fro
 keep_file to image from m n x e = ap (λ w. wrote_plan (full to x.route.target) (plan_by w (bytes_of from m x) (image_here image from m x)) n) e
 
 keep_row : (image : Text → Text → Result Image Reason) (from : List ℕ) (m : Contents) (l : Ledger) (x : Noted) → x.way ≡ Keep → logged (work_in image from m x) l ≡ l
-keep_row image from m l x e = ap (λ w. logged_plan x.route.target (held_of_work (work_in image from m x)) (plan_by w (bytes_of from m x) (image_here image from m x)) l) e
+keep_row image from m l x e = ap (λ w. logged_plan x.route.target x.route.path x.digest (plan_by w (bytes_of from m x) (image_here image from m x)) l) e
 
 pass_files : (to : List ℕ) (image : Text → Text → Result Image Reason) (from : List ℕ) (m : Contents) (x : Noted) (before : List Work) (f : Option Contents) → x.way ≡ Keep
     → option_map (files_after to before) f ≡ option_map (files_after to (work_in image from m x ∷ before)) f

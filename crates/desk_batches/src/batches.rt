@@ -12,13 +12,13 @@ ghost use Rattle.desk_batches.specs.Works.{files_after, ledger_after};
 ghost use Rattle.desk_words.specs.Roots.{IsPathRoot, RootsApart};
 
 use crate::WHOLE;
+use crate::digested::DigestedImage;
 use crate::inputs::read_batch;
 use crate::migrating::migrate_batch;
 use crate::noted::{Noted, Outcome, Way};
 use crate::stops::Stop;
 use crate::writing::write_noted;
 use desk_base::Text;
-use desk_file::Image;
 use desk_folders::Folders;
 use desk_graph::ClassGraph;
 use desk_ledger::Keeper;
@@ -49,7 +49,7 @@ fn images_of_batch<R: Threads + Sync, F: Folders, G: Gate + Sync>(
     from: &Text,
     workers: u32,
     batch: &[Noted],
-) -> Result<Vec<Result<Image, Reason>>, Stop>
+) -> Result<Vec<Result<DigestedImage, Reason>>, Stop>
     requires graph { graph.now.renames ≡ rules.now.renames }
     requires some { 0 < workers }
     requires workers { workers ≤ 64 }

@@ -12,6 +12,7 @@ mod again;
 mod batches;
 mod contents;
 mod copying;
+mod digested;
 mod gathering;
 mod inputs;
 mod measured;
@@ -33,7 +34,7 @@ pub use measured::Measured;
 pub use noted::{Noted, Outcome, Way};
 pub use noting::note_all;
 pub use outside::full_path;
-pub use reading::read_whole;
+pub use reading::{digest_of_front, read_whole};
 pub use stops::{Moved, NoteFault, Stop};
 
 /// How many bytes one call on folders asks for or carries.

@@ -6,11 +6,12 @@ ghost use Rattle.desk_file.specs.Routes.{image_along};
 ghost use Rattle.desk_packages.specs.Renames.{renaming_code};
 ghost use Rattle.desk_batches.specs.Turns.{HasItsDigest, MovedIn, again_by, image_of_input};
 
+use crate::digested::DigestedImage;
 use crate::inputs::Input;
 use crate::replacing::moved;
 use crate::stops::Stop;
 use desk_base::Memory;
-use desk_file::{FileFault, Image, migrate_file};
+use desk_file::{FileFault, migrate_file};
 use desk_graph::ClassGraph;
 use desk_ledger::{Digest, digest_of};
 use desk_report::Reason;
@@ -23,7 +24,7 @@ use std::thread::Threads;
 #[derive(Debug, Drop)]
 pub enum Again {
     /// Its bytes have the digest that was noted: its image, or why it has none.
-    Same(Result<Image, Reason>),
+    Same(Result<DigestedImage, Reason>),
     /// They have this digest instead.
     Other(Digest),
 }
@@ -43,12 +44,12 @@ fn image_under(
     rules: &RuleSet,
     graph: &ClassGraph<'_>,
     input: &Input,
-) -> Result<Result<Image, Reason>, Memory>
+) -> Result<Result<DigestedImage, Reason>, Memory>
     requires { graph.now.renames ≡ rules.now.renames }
     ensures { IfOk result (λ fate. fate ≡ image_of_input rules.now graph.now.defined input.now) }
 {
     match migrate_file(alloc, rules, graph, &input.route, input.bytes.as_bytes()) {
-        Ok(image) => Ok(Ok(image)),
+        Ok(image) => Ok(Ok(DigestedImage::of(image))),
         Err(FileFault::Refused(reason)) => Ok(Err(reason)),
         Err(FileFault::Memory) => Err(Memory),
     }
@@ -100,7 +101,7 @@ fn images_in(
     graph: &ClassGraph<'_>,
     inputs: &[Input],
     made: Vec<Again>,
-) -> Result<Vec<Result<Image, Reason>>, Stop>
+) -> Result<Vec<Result<DigestedImage, Reason>>, Stop>
     requires { made.items ≡ map (again_by rules.now graph.now.defined) inputs.now }
     ensures images { IfOk result (λ images. images.items ≡ map (image_of_input rules.now graph.now.defined) inputs.now) }
     ensures same { IfOk result (λ _. All HasItsDigest inputs.now) }
@@ -129,7 +130,7 @@ pub(crate) fn migrate_batch<R: Threads + Sync, G: Gate + Sync>(
     inputs: &[Input],
     gate: &G,
     workers: u32,
-) -> Result<Vec<Result<Image, Reason>>, Stop>
+) -> Result<Vec<Result<DigestedImage, Reason>>, Stop>
     requires some { 0 < workers }
     requires workers { workers ≤ 64 }
     requires few { length inputs.now < 2 ^ 32 }

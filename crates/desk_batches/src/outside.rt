@@ -11,7 +11,7 @@ use crate::PART;
 use crate::noted::Noted;
 use desk_base::{Memory, Text};
 use desk_folders::{FolderFault, Folders};
-use desk_ledger::{Keeper, KeeperFault, Row};
+use desk_ledger::{Digest, Keeper, KeeperFault, Row};
 use std::alloc::Global;
 
 /// A path below a root, as a full path.
@@ -29,11 +29,12 @@ pub fn full_path(alloc: Global, root: &Text, path: &Text) -> Result<Text, Memory
     Ok(text)
 }
 
-/// The row that a file leaves.
-pub(crate) fn row_of(noted: &Noted) -> Result<Row, Memory>
+/// The row that a file leaves whose target holds bytes of this digest.
+pub(crate) fn row_of(noted: &Noted, output: Digest) -> Result<Row, Memory>
     ensures target { IfOk result (λ row. row.target ≡ noted.now.route.target) }
     ensures source { IfOk result (λ row. row.source ≡ noted.now.route.path) }
     ensures digest { IfOk result (λ row. row.digest ≡ noted.now.digest) }
+    ensures output { IfOk result (λ row. row.output ≡ Some output) }
 {
     let target = noted.route.target.clone()?;
     let source = noted.route.path.clone()?;
@@ -41,6 +42,7 @@ pub(crate) fn row_of(noted: &Noted) -> Result<Row, Memory>
         target,
         source,
         digest: noted.digest,
+        output: Some(output),
     })
 }
 

@@ -1,10 +1,11 @@
 //! The first reading of a file: its size and its digest, or the whole of it.
 
-ghost use Rattle.std.specs.Prelude.{◌≡◌, ◌≤◌, ◌++◌, length, Err, IfOk, IfSome, IsSome};
+ghost use Rattle.std.specs.Prelude.{◌≡◌, ◌≤◌, ◌++◌, length, take, Err, IfOk, IfSome, IsSome};
 ghost use Rattle.std.specs.FinMap as fin;
 ghost use Rattle.desk_base.specs.Counts.{Rose};
 ghost use Rattle.desk_folders.specs.Contents.{bytes_at};
 ghost use Rattle.desk_format.specs.Laws.{IsBytes};
+ghost use Rattle.desk_ledger.specs.Digests.{digest};
 ghost use Rattle.desk_batches.specs.Notes.{found_within, large_size, within};
 
 use crate::PART;
@@ -58,6 +59,32 @@ pub(crate) fn read_first<F: Folders>(
             return Ok(None);
         }
     }
+}
+
+/// The digest of so many bytes of a file, which is read in parts, or of fewer where it ends before.
+pub fn digest_of_front<F: Folders>(
+    folders: &mut F,
+    path: &Text,
+    size: u64,
+) -> Result<Digest, FolderFault>
+    requires there { IfSome (F.told folders.old) (λ m. IsSome (fin.get m path.now)) }
+    ensures told { F.told folders.new ≡ F.told folders.old }
+    ensures digest { IfOk result (λ found. IfSome (F.told folders.old) (λ m. found ≡ digest (take size (bytes_at m path.now)))) }
+    ensures counts { F.faults folders.old ≤ F.faults folders.new }
+    ensures failed { result ≡ Err FolderFault.Failed → Rose (F.faults folders.old) (F.faults folders.new) }
+{
+    let mut digester = Digester::new();
+    let mut at = 0;
+    while at < size {
+        let want = (size - at).min(u64::from(PART)) as u32;
+        let part = folders.read_part(path, at, want)?;
+        if part.as_bytes().is_empty() {
+            return Ok(digester.finish());
+        }
+        digester.update(part.as_bytes());
+        at += part.as_bytes().len() as u64;
+    }
+    Ok(digester.finish())
 }
 
 /// A text with one part more. Behind no bytes the part is taken as it is.

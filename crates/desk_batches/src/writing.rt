@@ -13,12 +13,12 @@ ghost use Rattle.desk_batches.specs.Notes.{IsNoteOf, IsSound, large_size};
 ghost use Rattle.desk_batches.specs.Stops.{HasCause};
 ghost use Rattle.desk_batches.specs.Turns.{DidWork, SourceStays, bytes_of, fate_at, is_migrated, outcome_of, work_by, work_with};
 
+use crate::digested::DigestedImage;
 use crate::noted::{Noted, Outcome, Way};
 use crate::outside::{full_path, row_of};
 use crate::replacing::{replace, replace_copy};
 use crate::stops::Stop;
 use desk_base::Text;
-use desk_file::Image;
 use desk_folders::Folders;
 use desk_ledger::Keeper;
 use desk_report::{Detail, Reason};
@@ -33,7 +33,7 @@ fn write_image<F: Folders, K: Keeper>(
     to: &Text,
     noted: &Noted,
     found: bool,
-    image: &Image,
+    image: &DigestedImage,
 ) -> Result<(), Stop>
     requires attached { IsSome (K.attached keeper.old) }
     requires root { IsPathRoot to.now }
@@ -48,8 +48,8 @@ fn write_image<F: Folders, K: Keeper>(
     ensures cause { IfErr result (λ stop. HasCause (F.told folders.old) stop (F.faults folders.old) (F.faults folders.new) (K.faults keeper.old) (K.faults keeper.new)) }
 {
     let path = full_path(alloc, to, &noted.route.target)?;
-    let row = row_of(noted)?;
-    replace(folders, keeper, &path, found, row, image.bytes.as_bytes())
+    let row = row_of(noted, image.output())?;
+    replace(folders, keeper, &path, found, row, image.as_bytes())
 }
 
 /// Copies a file to its target in parts.
@@ -82,7 +82,7 @@ fn write_copy<F: Folders, K: Keeper>(
 {
     let source = full_path(alloc, from, &noted.route.path)?;
     let path = full_path(alloc, to, &noted.route.target)?;
-    let row = row_of(noted)?;
+    let row = row_of(noted, noted.digest)?;
     replace_copy(
         alloc, folders, keeper, &source, &path, found, row, noted.size,
     )
@@ -97,7 +97,7 @@ pub(crate) fn write_noted<F: Folders, K: Keeper>(
     from: &Text,
     to: &Text,
     noted: &Noted,
-    images: &[Result<Image, Reason>],
+    images: &[Result<DigestedImage, Reason>],
     next: usize,
 ) -> Result<Outcome, Stop>
     requires attached { IsSome (K.attached keeper.old) }
@@ -123,7 +123,7 @@ pub(crate) fn write_noted<F: Folders, K: Keeper>(
             Ok(image) => {
                 write_image(alloc, folders, keeper, to, noted, found, image)?;
                 Ok(Outcome::Written {
-                    detail: image.detail,
+                    detail: image.detail(),
                 })
             }
             Err(reason) => Ok(Outcome::Refused { reason: *reason }),

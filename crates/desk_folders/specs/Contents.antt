@@ -25,6 +25,10 @@ holding path bytes = option_map (setting path (Some bytes))
 abbrev pub bytes_at : Contents → Text → Text
 bytes_at m path = unwrap_or (fin.get m path) []
 
+-- how many bytes stand at a path, none where it is missing
+abbrev pub size_at : Contents → Text → Option ℕ
+size_at m path = option_map (λ (bytes : Text). length bytes) (fin.get m path)
+
 -- with these bytes added at the path's end
 abbrev pub adding : Text → Text → Option Contents → Option Contents
 adding path bytes = option_map (λ m. setting path (Some (bytes_at m path ++ bytes)) m)

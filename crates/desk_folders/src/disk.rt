@@ -9,7 +9,7 @@ ghost use Rattle.desk_base.specs.Paths.{is_relative_path};
 ghost use Rattle.desk_base.specs.Counts.{Rose};
 
 use crate::guard::no_link_on_the_way;
-use crate::open::{Reading, Writing, text_of};
+use crate::open::{Reading, Writing, size_of, text_of};
 use crate::progress::Progress;
 use crate::walk::{Stopped, files_below, first_of};
 use crate::{FolderFault, Folders};
@@ -25,7 +25,7 @@ pub struct Faults {
 }
 
 /// Folders on a disk. They tell nothing. Each error counts as a fault, and so do a name that isn't UTF-8,
-/// a path that isn't there, an entry that is neither a file nor a folder (a symbolic link isn't followed),
+/// a path that isn't there but for its size, an entry that is neither a file nor a folder (a symbolic link isn't followed),
 /// and a listing with more than 1,000,000 entries, folders included. The last fault is remembered, with what was
 /// tried, on which path, and why it failed.
 ///
@@ -196,6 +196,14 @@ impl<'r> DiskFolders<'r> {
         Ok(())
     }
 
+    /// How many bytes the file at a path has.
+    fn sized(&mut self, path: &Text) -> Result<Option<u64>, Refusal>
+        ensures { self.new ≡ self.old }
+    {
+        self.look(path)?;
+        size_of(self.rt, path)
+    }
+
     /// Makes the file at a path anew.
     fn make(&mut self, path: &Text) -> Result<(), Refusal>
         ensures { self.new ≡ self.old }
@@ -266,6 +274,15 @@ impl Folders for DiskFolders<'_> {
     fn read_part(&mut self, path: &Text, at: u64, want: u32) -> Result<Text, FolderFault> {
         let part = self.part(path, at, want);
         self.count(Tried::Reading, path, part)
+    }
+
+    /// Nothing is at a path below a file, and a link isn't the file of its path: both have no size, as what is
+    /// missing has none, and no fault counts for them. A folder, a pipe or a device at the path is a fault,
+    /// and so is a link in place of a folder below the target that `keep_within` names. Nothing is opened or
+    /// waited for.
+    fn size(&mut self, path: &Text) -> Result<Option<u64>, FolderFault> {
+        let size = self.sized(path);
+        self.count(Tried::Reading, path, size)
     }
 
     fn create(&mut self, path: &Text) -> Result<(), FolderFault> {

@@ -8,7 +8,7 @@ ghost use Rattle.std.specs.Cmp.Lexicographic.{slice_cmp};
 ghost use Rattle.std.specs.FinMap as fin;
 ghost use Rattle.desk_base.specs.Paths.{is_root, is_full_path, is_relative_path};
 ghost use Rattle.desk_base.specs.Counts.{Rose};
-ghost use Rattle.desk_folders.specs.Contents.{Contents, ChangesOnly, IsPart, IsListing, holding, adding, bytes_at, paths_below};
+ghost use Rattle.desk_folders.specs.Contents.{Contents, ChangesOnly, IsPart, IsListing, holding, adding, bytes_at, size_at, paths_below};
 
 use desk_base::{Memory, Text, TextList};
 use std::alloc::{AllocError, AllocFailed};
@@ -96,6 +96,14 @@ pub trait Folders {
         requires there { IfSome (told self.old) (λ m. IsSome (fin.get m path.now)) }
         ensures part { IfOk result (λ part. IfSome (told self.old) (λ m. IsPart (bytes_at m path.now) at part)) }
         ensures few { IfOk result (λ part. length part ≤ want) }
+        ensures told { told self.new ≡ told self.old }
+        ensures counts { faults self.old ≤ faults self.new }
+        ensures failed { result ≡ Err FolderFault.Failed → Rose (faults self.old) (faults self.new) };
+
+    /// How many bytes the file at a path has; none where it isn't there.
+    fn size(&mut self, path: &Text) -> Result<Option<u64>, FolderFault>
+        requires path { IsTrue (is_full_path path.now) }
+        ensures size { IfOk result (λ size. IfSome (told self.old) (λ m. size ≡ size_at m path.now)) }
         ensures told { told self.new ≡ told self.old }
         ensures counts { faults self.old ≤ faults self.new }
         ensures failed { result ≡ Err FolderFault.Failed → Rose (faults self.old) (faults self.new) };

@@ -1,9 +1,8 @@
 //! Links in place of folders.
 
-use crate::open::fault_of;
+use crate::open::{fault_of, is_missing};
 use desk_faults::{Cause, Refusal};
 use std::fs;
-use std::io::ErrorKind;
 
 /// Where the paths below a root begin to be looked at: behind the root.
 fn start_of(root: &str) -> usize {
@@ -19,7 +18,7 @@ fn is_there(rt: &HostRuntime, folder: &str) -> Result<bool, Refusal> {
     match fs::symlink_metadata(rt, folder) {
         Ok(found) if found.is_symlink() => Err(Refusal::Failed(Cause::Link)),
         Ok(_) => Ok(true),
-        Err(error) if error.kind() == ErrorKind::NotFound => Ok(false),
+        Err(error) if is_missing(&error) => Ok(false),
         Err(error) => Err(fault_of(error)),
     }
 }

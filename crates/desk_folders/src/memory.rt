@@ -10,7 +10,7 @@ ghost use Rattle.std.specs.FinMap as fin;
 ghost use Rattle.std.specs.BTreeMap.{get};
 ghost use Rattle.desk_base.specs.Paths.{is_root, is_full_path, is_relative_path};
 ghost use Rattle.desk_base.specs.Counts.{Rose};
-ghost use Rattle.desk_folders.specs.Contents.{ChangesOnly, IsPart, IsListing, bytes_at, holding, adding, paths_below};
+ghost use Rattle.desk_folders.specs.Contents.{ChangesOnly, IsPart, IsListing, bytes_at, size_at, holding, adding, paths_below};
 ghost use Rattle.desk_folders.specs.InMemory.{called, fails, is_stopped, leaving, growing, half, filled};
 
 use crate::listing::paths_of;
@@ -215,6 +215,16 @@ impl MemoryFolders {
         }
     }
 
+    /// How many bytes a file has; none where it isn't there.
+    fn size_of(&self, path: &Text) -> Option<u64>
+        ensures { result ≡ size_at self.now.contents path.now }
+    {
+        match self.files.get(path) {
+            Some(content) => Some(content.as_bytes().len() as u64),
+            None => None,
+        }
+    }
+
     /// The first paths below a root, `most + 1` at most.
     fn listed(&self, root: &Text, most: u32) -> Result<TextList, Memory>
         requires { most ≤ 1000000 }
@@ -271,6 +281,24 @@ impl Folders for MemoryFolders {
         Ok(self.part(path, at, want)?)
     }
 
+    /// It fails exactly where this call's number is among the failing or a stop is at it or before it. It
+    /// wants no memory.
+    fn size(&mut self, path: &Text) -> Result<Option<u64>, FolderFault>
+        requires path { IsTrue (is_full_path path.now) }
+        ensures exactly { (result ≡ Err FolderFault.Failed) ↔ IsTrue (fails self.old) }
+        ensures is { IfOk result (λ size. size ≡ size_at self.old.contents path.now) }
+        ensures called { self.new ≡ called self.old }
+        ensures size { IfOk result (λ size. IfSome (Some self.old.contents) (λ m. size ≡ size_at m path.now)) }
+        ensures told { Some self.new.contents ≡ Some self.old.contents }
+        ensures counts { self.old.faults ≤ self.new.faults }
+        ensures failed { result ≡ Err FolderFault.Failed → Rose self.old.faults self.new.faults }
+    {
+        if self.call() {
+            return Err(FolderFault::Failed);
+        }
+        Ok(self.size_of(path))
+    }
+
     /// It fails exactly where this call's number is among the failing or a stop is at it or before it. Where
     /// it fails it removes the path, but behind a stop it leaves the path as it was; so it does after want of
     /// memory.
@@ -286,9 +314,9 @@ impl Folders for MemoryFolders {
         ensures counts { self.old.faults ≤ self.new.faults }
         ensures failed { result ≡ Err FolderFault.Failed → Rose self.old.faults self.new.faults }
     {
-        let stopped = self.is_stopped();
+        let removes = !self.is_stopped();
         if self.call() {
-            if !stopped {
+            if removes {
                 self.take_away(path);
             }
             return Err(FolderFault::Failed);
@@ -314,9 +342,9 @@ impl Folders for MemoryFolders {
         ensures counts { self.old.faults ≤ self.new.faults }
         ensures failed { result ≡ Err FolderFault.Failed → Rose self.old.faults self.new.faults }
     {
-        let stopped = self.is_stopped();
+        let adds = !self.is_stopped();
         if self.call() {
-            if !stopped {
+            if adds {
                 self.grow(path, half_of(bytes))?;
             }
             return Err(FolderFault::Failed);

@@ -1,15 +1,15 @@
 //! Files that are open.
 
-ghost use Rattle.std.specs.Prelude.{◌≡◌, ◌≢◌, ◌+◌, ◌-◌, ◌<◌, ◌≤◌, ◌↔◌, ◌^◌, length, min, Ok, Err, IfErr, IfOk, IsTrue, OnOk};
+ghost use Rattle.std.specs.Prelude.{◌≡◌, ◌≢◌, ◌+◌, ◌-◌, ◌<◌, ◌≤◌, ◌↔◌, ◌⊎◌, ◌^◌, length, min, Some, None, Ok, Err, IfErr, IfOk, IsErr, IsTrue, OnOk};
 ghost use Rattle.std.specs.IoError.{error_kind};
-ghost use Rattle.std.specs.Fs.{IsDir, IsFile, IsSymlink};
+ghost use Rattle.std.specs.Fs.{IsDir, IsFile, IsSymlink, file_type, metadata_len};
 ghost use Rattle.std.specs.Str.{IsUtf8};
 ghost use Rattle.desk_faults.specs.declared.causes.Cause.TheVariants as cause;
 
 use desk_base::Text;
 use desk_faults::{Cause, Refusal, refusal_of};
 use std::alloc::Global;
-use std::fs::{self, File, FileType, OpenOptions};
+use std::fs::{self, File, FileType, Metadata, OpenOptions};
 use std::io::{self, ErrorKind, Read, Seek, SeekFrom, Write};
 use std::path::Path;
 use std::str;
@@ -102,6 +102,39 @@ fn file_in(kind: FileType) -> Result<(), Cause>
     } else {
         Err(Cause::Special)
     }
+}
+
+/// Whether an error of the system says that nothing stands at a path: it isn't there, or is below a file.
+pub(crate) fn is_missing(error: &io::Error) -> bool
+    ensures { IsTrue result ↔ ((error_kind error.now ≡ ErrorKind.NotFound) ⊎ (error_kind error.now ≡ ErrorKind.NotADirectory)) }
+{
+    let kind = error.kind();
+    kind == ErrorKind::NotFound || kind == ErrorKind::NotADirectory
+}
+
+/// How many bytes the file has that was found at a path. There is none where nothing was found, or a link, which
+/// is no file of its folder.
+fn size_in(found: io::Result<Metadata>) -> Result<Option<u64>, Refusal>
+    ensures file { IfOk found (λ found. IsFile (file_type found) → result ≡ Ok (Some (metadata_len found))) }
+    ensures link { IfOk found (λ found. IsSymlink (file_type found) → result ≡ Ok None) }
+    ensures other { IfOk found (λ found. ¬ IsFile (file_type found) → ¬ IsSymlink (file_type found) → IsErr result) }
+    ensures missing { IfErr found (λ error. error_kind error ≡ ErrorKind.NotFound → result ≡ Ok None) }
+    ensures below_file { IfErr found (λ error. error_kind error ≡ ErrorKind.NotADirectory → result ≡ Ok None) }
+{
+    match found {
+        Ok(found) if found.is_symlink() => Ok(None),
+        Ok(found) => {
+            file_in(found.file_type())?;
+            Ok(Some(found.len()))
+        }
+        Err(error) if is_missing(&error) => Ok(None),
+        Err(error) => Err(fault_of(error)),
+    }
+}
+
+/// How many bytes the file at a path has. Nothing is opened, so that a pipe there isn't waited for.
+pub(crate) fn size_of(rt: &HostRuntime, path: &Text) -> Result<Option<u64>, Refusal> {
+    size_in(fs::symlink_metadata(rt, text_of(path)?))
 }
 
 /// The length of a file that is open, set to be read from a byte on.

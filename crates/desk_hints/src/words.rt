@@ -2,7 +2,8 @@
 
 use desk_base::{Memory, Text, show_byte};
 use desk_options::{
-    GenerateValues, RunValues, generate_values, message_of_generate, message_of_run, run_values,
+    GenerateValues, RunValues, generate_values, is_flag, message_of_generate, message_of_run,
+    run_values,
 };
 use std::alloc::Global;
 
@@ -24,9 +25,12 @@ fn line_of(alloc: Global, word: &[u8], said: &[u8]) -> Result<Text, Memory> {
     Ok(line)
 }
 
-/// Whether a word is an option that holds its value, `--name=value`.
-fn holds_value(word: &[u8]) -> bool {
-    word.contains(&b'=')
+/// Whether a word is an option by itself: one that holds its value, `--name=value`, or one that has none.
+fn stands_alone(word: &[u8]) -> bool {
+    match word {
+        [b'-', b'-', name @ ..] => name.contains(&b'=') || is_flag(name),
+        _ => false,
+    }
 }
 
 /// The line of the first word that is no option, and no value of one: where an option is wanted, a word that doesn't
@@ -39,7 +43,7 @@ fn loose_word(alloc: Global, words: &[Text]) -> Result<Option<Text>, Memory> {
             Some(_) if !bytes.starts_with(b"-") => name = None,
             Some(option) => return Ok(Some(line_of(alloc, option, NO_VALUE)?)),
             None if !bytes.starts_with(b"--") => return Ok(Some(line_of(alloc, bytes, NO_OPTION)?)),
-            None if !holds_value(bytes) => name = Some(bytes),
+            None if !stands_alone(bytes) => name = Some(bytes),
             None => {}
         }
     }

@@ -5,6 +5,7 @@ use Rattle.std.specs.FinMap as fin
 use Rattle.std.specs.Coded.{Coded, code_by, coded×, coded_list, coded_option, coded_ℕ}
 use Rattle.desk_base.specs.Counts.{counted}
 use Rattle.desk_base.specs.Names.{Text}
+use Rattle.desk_ledger.specs.declared.digest.Digest.{Digest}
 use Rattle.desk_ledger.specs.declared.keeper.Header.{Header}
 use Rattle.desk_ledger.specs.declared.keeper.Held.{Held}
 use Rattle.desk_ledger.specs.Ledger.{Ledger, Rows}
@@ -21,12 +22,17 @@ pub record InMemory : Type 0 where
 abbrev pub text_code : Coded Text
 text_code = coded_list coded_ℕ
 
+abbrev pub digest_code : Coded Digest
+digest_code = code_by Text text_code (λ d. d.0) (λ t. record { 0 = t }) (λ _. refl)
+
 abbrev pub header_code : Coded Header
 header_code =
     code_by (Text × (Text × Text)) (coded× text_code (coded× text_code text_code)) (λ h. (h.from, (h.to, h.rules.0))) (λ p. record { from = p.0; to = p.1.0; rules = record { 0 = p.1.1 } }) (λ _. refl)
 
 abbrev pub held_code : Coded Held
-held_code = code_by (Text × Text) (coded× text_code text_code) (λ h. (h.source, h.digest.0)) (λ p. record { source = p.0; digest = record { 0 = p.1 } }) (λ _. refl)
+held_code =
+    code_by (Text × (Text × Option Digest)) (coded× text_code (coded× text_code (coded_option digest_code))) (λ h. (h.source, (h.digest.0, h.output)))
+    (λ p. record { source = p.0; digest = record { 0 = p.1.0 }; output = p.1.1 }) (λ _. refl)
 
 abbrev pub ledger_code : Coded Ledger
 ledger_code =

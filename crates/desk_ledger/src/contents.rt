@@ -2,9 +2,9 @@
 
 ghost use Rattle.std.specs.Prelude.{◌≡◌, IfOk, OnOk, OnErr, None, option_map};
 ghost use Rattle.std.specs.FinMap as fin;
-ghost use Rattle.desk_ledger.specs.Ledger.{row_at, with_header, with_row, without_row};
+ghost use Rattle.desk_ledger.specs.Ledger.{row_at, taken_over, with_header, with_old_rows, with_row, without_row};
 
-use crate::{Header, Held, Row};
+use crate::{Header, Held, OldRow, Row};
 use desk_base::{Memory, Text};
 use std::alloc::Global;
 use std::collections::BTreeMap;
@@ -37,7 +37,25 @@ fn row_of(target: &Text, held: &Held) -> Result<Row, Memory>
         target: target.clone()?,
         source: held.source.clone()?,
         digest: held.digest,
+        output: held.output,
     })
+}
+
+/// A row of format 1, taken over: it has no output.
+fn taken_over(row: OldRow) -> Row
+    ensures { result ≡ taken_over row }
+{
+    let OldRow {
+        target,
+        source,
+        digest,
+    } = row;
+    Row {
+        target,
+        source,
+        digest,
+        output: None,
+    }
 }
 
 impl Contents {
@@ -49,6 +67,24 @@ impl Contents {
             header: None,
             rows: BTreeMap::new(alloc),
         }
+    }
+
+    /// This header, and rows of format 1 without an output; of two with one target the later counts. The
+    /// only error is want of memory.
+    #[tactic(auto, using(crate::proofs::OldRows::one_more_row))]
+    pub fn from_format_1(
+        alloc: Global,
+        header: Option<Header>,
+        rows: Vec<OldRow>,
+    ) -> Result<Contents, Memory>
+        ensures { IfOk result (λ contents. contents ≡ with_old_rows rows.items (record { header = header; rows = fin.empty })) }
+    {
+        let mut contents = Contents::new(alloc);
+        contents.header = header;
+        for row in rows {
+            contents.put(taken_over(row))?;
+        }
+        Ok(contents)
     }
 
     /// A copy of the header, if there is one. The only error is want of memory.
@@ -86,8 +122,14 @@ impl Contents {
             target,
             source,
             digest,
+            output,
         } = row;
-        Ok(self.rows.insert(target, Held { source, digest })?)
+        let held = Held {
+            source,
+            digest,
+            output,
+        };
+        Ok(self.rows.insert(target, held)?)
     }
 
     /// Removes the row of a target, if there is one. It takes no memory.

@@ -51,19 +51,31 @@ pub struct Header {
     pub rules: Digest,
 }
 
-/// What was written to a target: the path of its source, and the digest of the source's bytes.
+/// What was written to a target: the path of its source, the digest of the source's bytes, and the digest of
+/// the bytes that were written, which a row that was taken over from format 1 lacks.
 #[derive(Clone, Debug, Drop)]
 pub struct Row {
     pub target: Text,
     pub source: Text,
     pub digest: Digest,
+    pub output: Option<Digest>,
 }
 
-/// What a ledger holds under a target: the path of its source, and the digest of the source's bytes.
+/// A row of format 1, the ledger's first: it doesn't say which bytes were written.
+#[derive(Clone, Debug, Drop)]
+pub struct OldRow {
+    pub target: Text,
+    pub source: Text,
+    pub digest: Digest,
+}
+
+/// What a ledger holds under a target: the path of its source, the digest of the source's bytes, and that of
+/// the written bytes where it is known.
 #[derive(Clone, Debug, Drop)]
 pub struct Held {
     pub source: Text,
     pub digest: Digest,
+    pub output: Option<Digest>,
 }
 
 /// A ledger of rows by their targets, under a header. It may tell its contents, it tells the name that

@@ -3,10 +3,10 @@
 ghost use Rattle.std.specs.Prelude.{◌≡◌, ◌≤◌, ◌↔◌, [], Some, None, Err, IsTrue, IsSome, IsOk, IfSome, IfOk, OnOk, OnErr, option_map};
 ghost use Rattle.std.specs.FinMap as fin;
 ghost use Rattle.desk_base.specs.Counts.{Rose};
-ghost use Rattle.desk_ledger.specs.Ledger.{NoneWaits, row_at, held_in, with_header, with_row, without_row};
+ghost use Rattle.desk_ledger.specs.Ledger.{NoneWaits, row_at, held_in, with_header, with_old_rows, with_row, without_row};
 ghost use Rattle.desk_ledger.specs.InMemory.{called, fails, attaching, keeping};
 
-use crate::{Contents, Header, Keeper, KeeperFault, Row};
+use crate::{Contents, Header, Keeper, KeeperFault, OldRow, Row};
 use desk_base::{Memory, Text};
 use std::alloc::Global;
 use std::marker::Model;
@@ -93,6 +93,26 @@ impl MemoryKeeper {
             faults: 0,
             calls: 0,
             failing,
+            stop: None,
+        })
+    }
+
+    /// A keeper of this header and of rows of format 1, which are taken over without an output; of two rows
+    /// with one target the later counts. It is attached to no name, and none of its calls fails. The only
+    /// error is want of memory.
+    pub fn from_format_1(
+        alloc: Global,
+        header: Option<Header>,
+        rows: Vec<OldRow>,
+    ) -> Result<MemoryKeeper, Memory>
+        ensures { IfOk result (λ keeper. keeper ≡ record { ledger = with_old_rows rows.items (record { header = header; rows = fin.empty }); attached = None; faults = 0; calls = 0; failing = []; stop = None }) }
+    {
+        Ok(MemoryKeeper {
+            contents: Contents::from_format_1(alloc, header, rows)?,
+            attached: None,
+            faults: 0,
+            calls: 0,
+            failing: Vec::new(alloc),
             stop: None,
         })
     }

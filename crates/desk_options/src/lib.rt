@@ -6,5 +6,6 @@ mod parsing;
 mod telling;
 mod values;
 
+pub use joining::is_flag;
 pub use telling::{message_of_generate, message_of_run};
 pub use values::{GenerateValues, RunValues, generate_values, run_values};

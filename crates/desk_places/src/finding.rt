@@ -63,7 +63,7 @@ fn place_behind(
             above,
             rest,
         })),
-        Err(Memory) => Ok(None),
+        Err(Memory) => Err(io::Error::from(ErrorKind::OutOfMemory)),
     }
 }
 
@@ -88,8 +88,8 @@ fn may_end(path: &str, end: usize) -> bool {
     end == 0 || end == path.len() || path.as_bytes().get(end) == Some(&b'/')
 }
 
-/// The place of a root as it is written: the longest front of it that is there. None where nothing is there, where it
-/// isn't UTF-8, and where memory is wanting; an error where the system refuses to tell.
+/// The place of a root as it is written: the longest front of it that is there. None where nothing is there, and where it
+/// isn't UTF-8; an error where the system refuses to tell, and where memory is wanting.
 pub fn place_of(rt: &HostRuntime, root: &Text) -> io::Result<Option<Place>> {
     let Ok(path) = str::from_utf8(root.as_bytes()) else {
         return Ok(None);

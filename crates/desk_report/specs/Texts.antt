@@ -76,7 +76,7 @@ fault_pieces Memory = codes "migrate: 10 out of memory\n" ∷ []
 fault_pieces (FolderFault done) = codes "migrate: 11 folder fault done=" ∷ decimal done ∷ codes "\n" ∷ []
 fault_pieces (LedgerFault done) = codes "migrate: 12 ledger fault done=" ∷ decimal done ∷ codes "\n" ∷ []
 fault_pieces OutputFault = codes "migrate: 13 output fault\n" ∷ []
-fault_pieces Usage = codes "migrate: 20 usage: migrate run --rules R --from A --to B --ledger L [--workers N] or migrate generate --count N [--workers N]\n" ∷ []
+fault_pieces Usage = codes "migrate: 20 usage: migrate run --rules R --from A --to B --ledger L [--workers N] [--verify] or migrate generate --count N [--workers N]\n" ∷ []
 fault_pieces (NestedRoots first second) = pair_pieces (codes "migrate: 21 nested roots ") first second
 fault_pieces (BadRules fault) = rule_fault_pieces fault
 fault_pieces (Limit kind path) = codes "migrate: 23 limit " ∷ limit_name kind ∷ codes " " ∷ shown path ∷ codes "\n" ∷ []

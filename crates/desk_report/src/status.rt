@@ -18,7 +18,7 @@ use desk_rules::RuleFault;
 
 /// The line of words without a task.
 const USAGE: &[u8] =
-    b"migrate: 20 usage: migrate run --rules R --from A --to B --ledger L [--workers N] or migrate generate --count N [--workers N]\n";
+    b"migrate: 20 usage: migrate run --rules R --from A --to B --ledger L [--workers N] [--verify] or migrate generate --count N [--workers N]\n";
 
 /// What a run takes no more of.
 #[derive(Clone, Copy, Debug, PartialEq, Eq)]

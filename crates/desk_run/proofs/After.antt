@@ -5,10 +5,10 @@ use Rattle.std.specs.FinMap as fin
 use Rattle.std.proofs.lemmas.List.{append_cancel_left}
 use Rattle.desk_base.specs.Paths.{full, folder}
 use Rattle.desk_folders.specs.Contents.{Contents}
-use Rattle.desk_ledger.specs.declared.keeper.Held.{Held}
-use Rattle.desk_ledger.specs.Ledger.{Ledger}
+use Rattle.desk_ledger.specs.declared.digest.Digest.{Digest}
+use Rattle.desk_ledger.specs.Ledger.{Ledger, held_in}
 use Rattle.desk_base.specs.TextMaps.{get-insert-other, get-remove-other}
-use Rattle.desk_batches.specs.Works.{Plan, Keep, Leave, Write, Work, wrote, wrote_plan, logged, logged_plan, forgot, cleared_plan, writes, files_after, ledger_after}
+use Rattle.desk_batches.specs.Works.{Plan, Keep, Leave, Write, Work, written_row, wrote, wrote_plan, logged, logged_plan, forgot, cleared_plan, writes, files_after, ledger_after}
 use Rattle.desk_run.specs.Runs.{Misses}
 
 pub full_apart : (root p q : List ℕ) → p ≢ q → full root p ≢ full root q
@@ -29,10 +29,10 @@ plan_spares path q Keep m h = refl
 plan_spares path q (Leave reason) m h = refl
 plan_spares path q (Write found image) m h = get-insert-other m path image.bytes q (λ e. h refl (sym e))
 
-pub logged_spares : (target q : List ℕ) (held : Held) (plan : Plan) (l : Ledger) → (writes plan ≡ true → target ≢ q) → fin.get (logged_plan target held plan l).rows q ≡ fin.get l.rows q
-logged_spares target q held Keep l h = refl
-logged_spares target q held (Leave reason) l h = refl
-logged_spares target q held (Write found image) l h = get-insert-other l.rows target held q (λ e. h refl (sym e))
+pub logged_spares : (target q path : List ℕ) (source : Digest) (plan : Plan) (l : Ledger) → (writes plan ≡ true → target ≢ q) → fin.get (logged_plan target path source plan l).rows q ≡ fin.get l.rows q
+logged_spares target q path source Keep l h = refl
+logged_spares target q path source (Leave reason) l h = refl
+logged_spares target q path source (Write found image) l h = get-insert-other l.rows target (held_in (written_row target path source image.bytes)) q (λ e. h refl (sym e))
 
 pub forgot_spares : (target q : List ℕ) (found : Bool) (l : Ledger) → target ≢ q → fin.get (forgot found target l).rows q ≡ fin.get l.rows q
 forgot_spares target q true l h = get-remove-other l.rows target q (λ e. h (sym e))
@@ -49,7 +49,7 @@ files_spare to path (work ∷ works) m h = files_spare to path works (wrote to w
 
 pub rows_spare : (target : List ℕ) (works : List Work) (l : Ledger) → Spares target works → fin.get (ledger_after works l).rows target ≡ fin.get l.rows target
 rows_spare target [] l h = refl
-rows_spare target (work ∷ works) l h = rows_spare target works (logged work l) h.1 ∙ logged_spares work.target target _ work.plan l h.0
+rows_spare target (work ∷ works) l h = rows_spare target works (logged work l) h.1 ∙ logged_spares work.target target work.path work.digest work.plan l h.0
 
 pub off_from_misses : (to target : List ℕ) (works : List Work) → Misses target (map (λ w. w.target) works) → Off to (full to target) works
 off_from_misses to target [] h = tt
@@ -61,11 +61,11 @@ spares_from_misses target (work ∷ works) h = ((λ _ e. h.0 (sym e)), spares_fr
 
 pub header_after : (works : List Work) (l : Ledger) → (ledger_after works l).header ≡ l.header
 header_after [] l = refl
-header_after (work ∷ works) l = header_after works (logged work l) ∙ same work.target _ work.plan l where
-  same : (target : List ℕ) (held : Held) (plan : Plan) (l : Ledger) → (logged_plan target held plan l).header ≡ l.header
-  same target held Keep l = refl
-  same target held (Leave reason) l = refl
-  same target held (Write found image) l = refl
+header_after (work ∷ works) l = header_after works (logged work l) ∙ same work.target work.path work.digest work.plan l where
+  same : (target path : List ℕ) (source : Digest) (plan : Plan) (l : Ledger) → (logged_plan target path source plan l).header ≡ l.header
+  same target path source Keep l = refl
+  same target path source (Leave reason) l = refl
+  same target path source (Write found image) l = refl
 
 pub header_cleared : (target : List ℕ) (plan : Plan) (l : Ledger) → (cleared_plan target plan l).header ≡ l.header
 header_cleared target Keep l = refl

@@ -17,6 +17,7 @@ use Rattle.desk_file.specs.Routes.{route_of}
 use Rattle.desk_file.specs.declared.images.Image.{Image}
 use Rattle.desk_folders.specs.Contents.{Contents, File, setting, files_below}
 use Rattle.desk_ledger.specs.declared.keeper.Header.{Header}
+use Rattle.desk_ledger.specs.declared.keeper.Held.{Held}
 use Rattle.desk_ledger.specs.declared.keeper.Row.{Row}
 use Rattle.desk_ledger.specs.Ledger.{Ledger, NoneWaits, Rows, with_header}
 use Rattle.desk_report.specs.declared.lines.Detail.{Detail}
@@ -61,6 +62,7 @@ all_written asked m0 l0 to header works f' k' p a = record {
       split = sym (append-nil (files_below p.run.from m0));
       count = refl;
       apart = p.ready.apart;
+      finds = p.ready.finds;
       ours = p.ours;
       folder = ap (λ ws. files_after to ws m0) p.are ∙ ap (λ t. files_after t (works_of p.run l0.rows (files_below p.run.from m0)) m0) p.to_is;
       ledger = ap (λ ws. ledger_after ws (with_header header l0)) p.are ∙ ap (λ h. ledger_after (works_of p.run l0.rows (files_below p.run.from m0)) (with_header h l0)) p.header_is;
@@ -96,6 +98,7 @@ stopped_stands asked m0 l0 to header works done f' k' p s = by s.broken where
         split = at.split;
         count = count;
         apart = p.ready.apart;
+        finds = p.ready.finds;
         ours = p.ours;
         folder = ap (λ ws. files_after to ws m0) at.front ∙ ap (λ t. files_after t (works_of p.run l0.rows at.before) m0) p.to_is;
         ledger = ap (λ ws. ledger_after ws (with_header header l0)) at.front ∙ ap (λ h. ledger_after (works_of p.run l0.rows at.before) (with_header h l0)) p.header_is;
@@ -117,6 +120,7 @@ stopped_stands asked m0 l0 to header works done f' k' p s = by s.broken where
         split = at.split;
         count = count;
         apart = p.ready.apart;
+        finds = p.ready.finds;
         ours = p.ours;
         fresh = ap (λ (w : Work). writes w.plan) (sym at.is) ∙ b.writes;
         folder = record {
@@ -192,6 +196,7 @@ early asked m0 l0 f' k' f (inr k) = record {
       split = refl;
       count = refl;
       apart = k.whose.1.apart;
+      finds = k.whose.1.finds;
       ours = subst (λ h. IsOurs h l0.header) k.whose.2 k.ours;
       folder = refl;
       ledger = ap (λ h. with_header h l0) k.whose.2;
@@ -224,7 +229,7 @@ pub early_stands : (asked : Asked) (m0 : Contents) (l0 : Ledger) (f' : Option Co
     → HaltsEarly asked (Some m0) (Some l0) k' a b c d h → Tells f' k' (λ m l. StandsAfter asked m0 l0 m l (status_of_halt h))
 early_stands asked m0 l0 f' k' a b c d halt.Memory f s =
     let e = early asked m0 l0 f' k' f s in record { m = e.m; l = e.l; folders = e.folders; ledger = e.ledger; holds = record { done = 0; stands = e.holds } }
-early_stands asked m0 l0 f' k' a b c d halt.Folders f s = early asked m0 l0 f' k' f (inl s.0)
+early_stands asked m0 l0 f' k' a b c d halt.Folders f s = early asked m0 l0 f' k' f s.0
 early_stands asked m0 l0 f' k' a b c d halt.Ledger f s = early asked m0 l0 f' k' f s.0
 early_stands asked m0 l0 f' k' a b c d (halt.Answer status) f s =
     let u = unchanged asked m0 l0 f' k' f s.0 in
@@ -248,13 +253,13 @@ line_outcome path target false found (Err reason) = refl
 abbrev pub outcomes_of : Run → Rows → List File → List Outcome
 outcomes_of run rows files = map outcome_of (works_of run rows files)
 
-lines_same : (run : Run) (rules : Rules) (rows : Rows) (files : List File) → ((path : Text) → (route_of rules path).target ≡ run.target path)
-    → lines_of (map (noted_by rows) (map (measured_of rules) files)) (outcomes_of run rows files) ≡ flat_map (line_of run rows) files
-lines_same run rules rows [] goes = refl
-lines_same run rules rows (file ∷ files) goes =
-    ap (λ t. outcome_line file.path t (outcome_of (work_of run rows file)) ++ lines_of (map (noted_by rows) (map (measured_of rules) files)) (outcomes_of run rows files)) (goes file.path)
-    ∙ ap (λ t. t ++ lines_of (map (noted_by rows) (map (measured_of rules) files)) (outcomes_of run rows files)) (line_outcome file.path (run.target file.path) _ _ _)
-    ∙ ap (λ t. line_of run rows file ++ t) (lines_same run rules rows files goes)
+lines_same : (run : Run) (rules : Rules) (finds : Text → Held → Bool) (rows : Rows) (files : List File) → ((path : Text) → (route_of rules path).target ≡ run.target path)
+    → lines_of (map (noted_by finds rows) (map (measured_of rules) files)) (outcomes_of run rows files) ≡ flat_map (line_of run rows) files
+lines_same run rules finds rows [] goes = refl
+lines_same run rules finds rows (file ∷ files) goes =
+    ap (λ t. outcome_line file.path t (outcome_of (work_of run rows file)) ++ lines_of (map (noted_by finds rows) (map (measured_of rules) files)) (outcomes_of run rows files)) (goes file.path)
+    ∙ ap (λ t. t ++ lines_of (map (noted_by finds rows) (map (measured_of rules) files)) (outcomes_of run rows files)) (line_outcome file.path (run.target file.path) _ _ _)
+    ∙ ap (λ t. line_of run rows file ++ t) (lines_same run rules finds rows files goes)
 
 counted : (p : Outcome → Bool) (q : File → Bool) (run : Run) (rows : Rows) → ((file : File) → p (outcome_of (work_of run rows file)) ≡ q file) → (files : List File) → count_by p (outcomes_of run rows files) ≡ count_by q files
 counted p q run rows same files = by 0 files where
@@ -316,7 +321,7 @@ planned_first asked m0 l0 to header works p =
 -- what became of the files of a run that is written whole
 pub is_written_all : (asked : Asked) (m0 : Contents) (l0 : Ledger) (to : Text) (header : Header) (works : List Work) (rules : Rules) (noted : List Noted) (outcomes : List Outcome) (f' : Option Contents) (k' : Option Ledger)
     → (p : Planned asked m0 l0 to header works) → ((path : Text) → (route_of rules path).target ≡ p.run.target path) → AllWritten to works (Some m0) f' (Some (with_header header l0)) k'
-    → noted ≡ map (noted_by l0.rows) (map (measured_of rules) (files_below p.run.from m0)) → outcomes ≡ map outcome_of works → Tells f' k' (λ m l. IsWritten asked m0 l0 m l noted outcomes)
+    → noted ≡ map (noted_by p.run.finds l0.rows) (map (measured_of rules) (files_below p.run.from m0)) → outcomes ≡ map outcome_of works → Tells f' k' (λ m l. IsWritten asked m0 l0 m l noted outcomes)
 unfolding all_written
 is_written_all asked m0 l0 to header works rules noted outcomes f' k' p goes a e o =
     let t = all_written asked m0 l0 to header works f' k' p a in
@@ -331,7 +336,7 @@ is_written_all asked m0 l0 to header works rules noted outcomes f' k' p goes a e
       holds = record {
         done = t.holds;
         report_is = ap (λ os. report_by noted os) are ∙ ap (λ ns. report_by ns (outcomes_of p.run l0.rows files)) e
-            ∙ ap (λ t. t ++ summary_text (summary_by (outcomes_of p.run l0.rows files))) (lines_same p.run rules l0.rows files goes)
+            ∙ ap (λ t. t ++ summary_text (summary_by (outcomes_of p.run l0.rows files))) (lines_same p.run rules p.run.finds l0.rows files goes)
             ∙ ap (λ s. flat_map (line_of p.run l0.rows) files ++ summary_text s) (summary_same p.run l0.rows files);
         totals = totals;
         ends = ap ending_by are ∙ ap (λ b. if b then Refusals else Done) (refused_any p.run l0.rows files) ∙ planned_first asked m0 l0 to header works p;

@@ -23,7 +23,7 @@ use Rattle.desk_run.proofs.Measures.{all_notes}
 use Rattle.desk_run.proofs.Preparing.{names_of, planned}
 use Rattle.desk_run.specs.Answers.{other_run}
 use Rattle.desk_run.specs.Endings.{AllWritten, GatheredFrom, HasCauses, HasGathered, IsWritten, Planned, StandsAfter, Tells, WhereTold}
-use Rattle.desk_run.specs.Meaning.{defined_in}
+use Rattle.desk_run.specs.Meaning.{defined_in, finds_in}
 use Rattle.desk_run.specs.Named.{Asked, asked_roots}
 use Rattle.desk_run.specs.Notes.{measured_in, noted_by}
 use Rattle.desk_run.specs.Stops.{StopsAt, status_of_stop}
@@ -45,14 +45,14 @@ pub record IsPlanned (names : Roots) (g : Gathered) (defined : List Text) (noted
   pub gathered : HasGathered names f0 g
   pub defined_is : defined ≡ defined_in g.notes.scanned.items
   pub clear : names_of g ≡ None
-  pub rows : IfSome k0 (λ l. noted ≡ map (noted_by l.rows) g.notes.files.items)
+  pub rows : WhereTold f0 k0 (λ m l. noted ≡ map (noted_by (finds_in names m) l.rows) g.notes.files.items)
   pub ours : IfSome k0 (λ l. IsOurs g.header l.header)
   pub other : IfSome k0 (λ l. other_run g.header l.header ≡ None)
   pub ledger : k1 ≡ option_map (with_header g.header) k0
 
 -- from what the planning ensures
 pub is_planned : (names : Roots) (g : Gathered) (graph : Graph) (noted : List Noted) (f0 : Option Contents) (k0 k1 : Option Ledger) → AreRoots names → HasGathered names f0 g → graph ≡ graph_of g.ruled.value.rules.renames g.notes.scanned.items → names_of g ≡ None
-    → IfSome k0 (λ l. noted ≡ map (noted_by l.rows) g.notes.files.items) → IfSome k0 (λ l. IsOurs g.header l.header) → IfSome k0 (λ l. other_run g.header l.header ≡ None) → k1 ≡ option_map (with_header g.header) k0
+    → WhereTold f0 k0 (λ m l. noted ≡ map (noted_by (finds_in names m) l.rows) g.notes.files.items) → IfSome k0 (λ l. IsOurs g.header l.header) → IfSome k0 (λ l. other_run g.header l.header ≡ None) → k1 ≡ option_map (with_header g.header) k0
     → IsPlanned names g graph.defined noted f0 k0 k1
 is_planned names g graph noted f0 k0 k1 sound gathered is clear rows ours other ledger =
     record { sound = sound; gathered = gathered; defined_is = ap (λ (x : Graph). x.defined) is; clear = clear; rows = rows; ours = ours; other = other; ledger = ledger }
@@ -60,7 +60,7 @@ is_planned names g graph noted f0 k0 k1 sound gathered is clear rows ours other 
 plan_at : (names : Roots) (g : Gathered) (defined : List Text) (noted : List Noted) (f0 : Option Contents) (k0 k1 : Option Ledger) (m : Contents) (l : Ledger) → f0 ≡ Some m → k0 ≡ Some l → IsPlanned names g defined noted f0 k0 k1
     → Planned (asked_roots names) m l names.to g.header (works_in (image_in g.ruled.value.rules (defined_in g.notes.scanned.items)) names.from m noted)
 plan_at names g defined noted f0 k0 k1 m l ef ek p =
-    planned names m l g noted p.sound (subst (λ o. HasGathered names o g) ef p.gathered) p.clear (at_some (λ l. noted ≡ map (noted_by l.rows) g.notes.files.items) k0 l ek p.rows)
+    planned names m l g noted p.sound (subst (λ o. HasGathered names o g) ef p.gathered) p.clear (p.rows m l ef ek)
     (at_some (λ l. IsOurs g.header l.header) k0 l ek p.ours) (at_some (λ l. other_run g.header l.header ≡ None) k0 l ek p.other)
 
 -- all is written
@@ -83,7 +83,7 @@ gathered_written names g defined noted outcomes f0 f' k0 k1 k' p folders ledger 
     let outcome : outcomes ≡ map outcome_of (works (defined_in g.notes.scanned.items))
     = at_some (λ m. outcomes ≡ map outcome_of (works_in (image_in rules defined) names.from m noted)) f0 m ef became ∙ ap (λ ds. map outcome_of (works ds)) p.defined_is in
     is_written_all (asked_roots names) m l names.to g.header (works (defined_in g.notes.scanned.items)) rules noted outcomes f' k' (plan_at names g defined noted f0 k0 k1 m l ef ek p) (λ path. refl) all
-    (at_some (λ l. noted ≡ map (noted_by l.rows) g.notes.files.items) k0 l ek p.rows ∙ ap (map (noted_by l.rows)) from.files.are) outcome
+    (p.rows m l ef ek ∙ ap (map (noted_by (finds_in names m) l.rows)) from.files.are) outcome
 
 -- the writing stopped
 pub gathered_stopped : (names : Roots) (g : Gathered) (defined : List Text) (noted : List Noted) (why : Stop) (done : ℕ) (f0 f' : Option Contents) (k0 k1 k' : Option Ledger) → IsPlanned names g defined noted f0 k0 k1

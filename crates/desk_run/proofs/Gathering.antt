@@ -53,7 +53,7 @@ reading_status asked (OtherRun kept wanted) e = cc
 reading_first : (names : Roots) (m : Contents) (l : Ledger) (status : Status) (r : Result Ruled Status) → reading_answer names m r ≡ Some status → answer_of_run m l (run_by_rules m names r) ≡ status
 reading_first names m l status (Err s) e = cc
 reading_first names m l status (Ok r) e =
-    let run = run_of names r (files_below names.from m) in
+    let run = run_of names r m in
     ap (λ o. or_else o (or_else (names_answer run.name run.classes) (or_else (other_run run.header l.header) (ending run l.rows (files_below names.from m))))) e
 
 pub halts_reading : (asked : Asked) (names : Roots) (told : Option Contents) (f f' : ℕ) (h : Halt) → asked ≡ Ok names → HaltsReadingAll names told f f' h → HaltsGathering asked told f f' h
@@ -71,7 +71,7 @@ halts_reading asked names told f f' (halt.Answer status) e g =
 
 -- the run that was read
 pub run_read : (asked : Asked) (names : Roots) (r : Ruled) (told : Option Contents) → asked ≡ Ok names → IfSome told (λ m. ruled names.rules (files_below names.rules m) ≡ Ok r)
-    → IfSome told (λ m. run_of_asked asked m ≡ Ok (run_of names r (files_below names.from m)))
+    → IfSome told (λ m. run_of_asked asked m ≡ Ok (run_of names r m))
 run_read asked names r told e g = if_some _ told (λ m t. ap (run_by_roots m) e ∙ ap (run_by_rules m names) (at_some (λ m. ruled names.rules (files_below names.rules m) ≡ Ok r) told m t g))
 
 -- the first of two answers
@@ -169,7 +169,7 @@ ok_gathered names told (Ok g) header rules are files read few few_classes = reco
   few = few;
   few_classes = few_classes;
   told_of = if_some _ told (λ m t. record {
-    run = at_some (λ m. run_of_asked (asked_roots names) m ≡ Ok (run_of names g.ruled.value (files_below names.from m))) told m t (run_read (asked_roots names) names g.ruled.value told refl rules);
+    run = at_some (λ m. run_of_asked (asked_roots names) m ≡ Ok (run_of names g.ruled.value m)) told m t (run_read (asked_roots names) names g.ruled.value told refl rules);
     files = at_some (λ m. AreRead g.ruled.value.rules names.from m g.notes.files.items g.notes.scanned.items) told m t files;
   });
 }

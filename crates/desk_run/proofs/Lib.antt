@@ -15,6 +15,7 @@ pub mod Gathering
 pub mod Preparing
 pub mod Ending
 pub mod Sparing
+pub mod Sounding
 pub mod Promised
 pub mod Resuming
 pub mod Finishing

@@ -96,7 +96,7 @@ plan_same false true found bytes fate h = ap (fresh found) (sym (h refl))
 
 -- the work of one file, by what was noted of it
 work_same : (run : Run) (rules : Rules) (defined : List Text) (rows : Rows) (m : Contents) (file : File) → run.image ≡ image_in rules defined → run.target file.path ≡ (route_of rules file.path).target
-    → bytes_at m (full run.from file.path) ≡ file.bytes → work_in run.image run.from m (noted_by rows (measured_of rules file)) ≡ work_of run rows file
+    → bytes_at m (full run.from file.path) ≡ file.bytes → work_in run.image run.from m (noted_by run.finds rows (measured_of rules file)) ≡ work_of run rows file
 work_same run rules defined rows m file image goes here =
     ap (λ (bytes : Text). made bytes (run.image file.path bytes)) here ∙ ap (λ (plan : Plan). record { path = file.path; target = (route_of rules file.path).target; digest = digest file.bytes; plan = plan })
     (plan_same _ (is_copy (treatment_of rules file.path)) _ file.bytes (run.image file.path file.bytes) copy)
@@ -104,7 +104,7 @@ work_same run rules defined rows m file image goes here =
       path = file.path;
       target = target;
       digest = digest file.bytes;
-      plan = cond (is_kept (fin.get rows target) file.path (digest file.bytes).0) Keep (fresh (is_some (fin.get rows target)) (run.image file.path file.bytes));
+      plan = cond (is_kept (run.finds target) (fin.get rows target) file.path (digest file.bytes).0) Keep (fresh (is_some (fin.get rows target)) (run.image file.path file.bytes));
     }) (sym goes) where
       target : Text
       target = (route_of rules file.path).target
@@ -114,21 +114,21 @@ work_same run rules defined rows m file image goes here =
         path = file.path;
         target = target;
         digest = digest file.bytes;
-        plan = plan_by (way_by (is_kept (fin.get rows target) file.path (digest file.bytes).0) (not (is_copy (treatment_of rules file.path))) (is_some (fin.get rows target))) bytes fate;
+        plan = plan_by (way_by (is_kept (run.finds target) (fin.get rows target) file.path (digest file.bytes).0) (not (is_copy (treatment_of rules file.path))) (is_some (fin.get rows target))) bytes fate;
       }
 
       copy : is_copy (treatment_of rules file.path) ≡ true → run.image file.path file.bytes ≡ Ok (copied file.bytes)
       copy e = ap (λ f. f file.path file.bytes) image ∙ copies rules defined file.path file.bytes (sym (whole_treated rules file.path) ∙ ap not e)
 
 works_by : (run : Run) (rules : Rules) (defined : List Text) (rows : Rows) (m : Contents) (files : List File) → run.image ≡ image_in rules defined → ((path : Text) → run.target path ≡ (route_of rules path).target) → AllThere run.from m files
-    → works_in run.image run.from m (map (noted_by rows) (map (measured_of rules) files)) ≡ works_of run rows files
+    → works_in run.image run.from m (map (noted_by run.finds rows) (map (measured_of rules) files)) ≡ works_of run rows files
 works_by run rules defined rows m [] image goes h = refl
 works_by run rules defined rows m (file ∷ files) image goes h =
-    ap (λ (w : Work). w ∷ works_in run.image run.from m (map (noted_by rows) (map (measured_of rules) files))) (work_same run rules defined rows m file image (goes file.path) (ap (λ (o : Option Text). unwrap_or o []) h.0.held))
+    ap (λ (w : Work). w ∷ works_in run.image run.from m (map (noted_by run.finds rows) (map (measured_of rules) files))) (work_same run rules defined rows m file image (goes file.path) (ap (λ (o : Option Text). unwrap_or o []) h.0.held))
     ∙ ap (λ (ws : List Work). work_of run rows file ∷ ws) (works_by run rules defined rows m files image goes h.1)
 
 -- the works by what was noted are those of the run
 pub works_noted : (run : Run) (rules : Rules) (defined : List Text) (rows : Rows) (m : Contents) (files : List Measured) (noted : List Noted) → run.image ≡ image_in rules defined → ((path : Text) → run.target path ≡ (route_of rules path).target)
-    → noted ≡ map (noted_by rows) files → files ≡ map (measured_of rules) (files_below run.from m) → works_in run.image run.from m noted ≡ works_of run rows (files_below run.from m)
+    → noted ≡ map (noted_by run.finds rows) files → files ≡ map (measured_of rules) (files_below run.from m) → works_in run.image run.from m noted ≡ works_of run rows (files_below run.from m)
 works_noted run rules defined rows m files noted image goes e are =
-    ap (works_in run.image run.from m) (e ∙ ap (map (noted_by rows)) are) ∙ works_by run rules defined rows m (files_below run.from m) image goes (files_there run.from m)
+    ap (works_in run.image run.from m) (e ∙ ap (map (noted_by run.finds rows)) are) ∙ works_by run rules defined rows m (files_below run.from m) image goes (files_there run.from m)

@@ -25,7 +25,7 @@ use Rattle.desk_run.proofs.Measures.{works_noted}
 use Rattle.desk_run.specs.Answers.{clash_status, clash_answer, first_of, files_answer, names_answer, or_else, other_run, first_answer, answer_of_run, is_answer, AskedCause}
 use Rattle.desk_run.specs.Endings.{GatheredFrom, HasGathered, IsAnswer, IsReady, Planned, LedgerEarly, HaltsEarly, NamedBy, NamedByRoots, NamedEarly}
 use Rattle.desk_run.specs.Halts.{HaltsGathering, HaltsPlan, AnswersPlan, LedgerOwn, NamedAtPlan, is_ledger_status, is_names_status, is_early_answer}
-use Rattle.desk_run.specs.Meaning.{defined_in, header_of, run_of, run_of_asked}
+use Rattle.desk_run.specs.Meaning.{defined_in, finds_in, header_of, run_of, run_of_asked}
 use Rattle.desk_run.specs.Named.{Asked, asked_roots}
 use Rattle.desk_run.specs.Notes.{IsRead, measured_of, noted_by}
 use Rattle.desk_run.specs.Reports.{ending}
@@ -65,7 +65,7 @@ built_apart run m e =
 
 -- the run over the files below its root
 abbrev pub run_at : Roots → Ruled → Contents → Run
-run_at names r m = run_of names r (files_below names.from m)
+run_at names r m = run_of names r m
 
 -- what stands against its classes
 abbrev pub names_of : Gathered → Option Status
@@ -91,6 +91,7 @@ ready names m g sound from read clear = record {
     relative = targets_relative g.ruled.value.rules (files_below names.from m) (subst (All (IsRead g.ruled.value.rules)) from.files.are read);
     distinct = built_apart (run_at names g.ruled.value m) m from.files.built;
   };
+  finds = λ target row. refl;
 }
 
 -- the images of a run over these classes
@@ -98,7 +99,7 @@ abbrev images_over : Gathered → Text → Text → Result Image Reason
 images_over g = image_in g.ruled.value.rules (defined_in g.notes.scanned.items)
 
 -- what was planned
-unfoldable pub planned : (names : Roots) (m : Contents) (l : Ledger) (g : Gathered) (noted : List Noted) → AreRoots names → HasGathered names (Some m) g → names_of g ≡ None → noted ≡ map (noted_by l.rows) g.notes.files.items
+unfoldable pub planned : (names : Roots) (m : Contents) (l : Ledger) (g : Gathered) (noted : List Noted) → AreRoots names → HasGathered names (Some m) g → names_of g ≡ None → noted ≡ map (noted_by (finds_in names m) l.rows) g.notes.files.items
     → IsOurs g.header l.header → other_run g.header l.header ≡ None → Planned (asked_roots names) m l names.to g.header (works_in (images_over g) names.from m noted)
 planned names m l g noted sound h clear e ours other =
     let r = g.ruled.value in
@@ -192,10 +193,10 @@ plan_answer names g f0 k0 status h (inr b) =
     }
 
 -- where the names are looked at, the ledger is opened or the rows are looked up, a run halts early
-pub plan_early : (names : Roots) (g : Gathered) (f0 : Option Contents) (k0 k1 : Option Ledger) (a b c d : ℕ) (h : Halt) → AreRoots names → HasGathered names f0 g → HaltsPlan (names_of g) g.header k0 k1 c d h
+pub plan_early : (names : Roots) (g : Gathered) (f0 : Option Contents) (k0 k1 : Option Ledger) (a b c d : ℕ) (h : Halt) → AreRoots names → HasGathered names f0 g → HaltsPlan (names_of g) g.header k0 k1 a b c d h
     → HaltsEarly (asked_roots names) f0 k0 k1 a b c d h
 plan_early names g f0 k0 k1 a b c d halt.Memory sound is p = own_early names g f0 k0 k1 sound is p
-plan_early names g f0 k0 k1 a b c d halt.Folders sound is p = absurd p
+plan_early names g f0 k0 k1 a b c d halt.Folders sound is p = (own_early names g f0 k0 k1 sound is p.0, p.1)
 plan_early names g f0 k0 k1 a b c d halt.Ledger sound is p = (own_early names g f0 k0 k1 sound is p.0, p.1)
 plan_early names g f0 k0 k1 a b c d (halt.Answer status) sound is p = (p.0, plan_answer names g f0 k0 status is p.1)
 
@@ -219,7 +220,7 @@ early_status (OtherRun kept wanted) e = cc
 -- where something is gathered, too
 pub gather_early : (asked : Asked) (f0 : Option Contents) (k0 : Option Ledger) (a b c d : ℕ) (h : Halt) → HaltsGathering asked f0 a b h → HaltsEarly asked f0 k0 k0 a b c d h
 gather_early asked f0 k0 a b c d halt.Memory g = inl refl
-gather_early asked f0 k0 a b c d halt.Folders g = (refl, g)
+gather_early asked f0 k0 a b c d halt.Folders g = (inl refl, g)
 gather_early asked f0 k0 a b c d halt.Ledger g = absurd g
 gather_early asked f0 k0 a b c d (halt.Answer status) g = (
   refl,
@@ -256,9 +257,9 @@ gather_named asked f0 old a b h g = by (asked) h g where
   by (Ok roots) halt.Ledger g = inl refl
   by (Ok roots) (halt.Answer status) g = early_named old roots.ledger status g.is
 
-pub plan_named : (asked : Asked) (names : Roots) (answer : Option Status) (header : Header) (k0 k1 : Option Ledger) (c d : ℕ) (old new : Option Text) (h : Halt) → asked ≡ Ok names → HaltsPlan answer header k0 k1 c d h
+pub plan_named : (asked : Asked) (names : Roots) (answer : Option Status) (header : Header) (k0 k1 : Option Ledger) (a b c d : ℕ) (old new : Option Text) (h : Halt) → asked ≡ Ok names → HaltsPlan answer header k0 k1 a b c d h
     → NamedAtPlan old new names.ledger h → NamedEarly asked old new h
-plan_named asked names answer header k0 k1 c d old new h e g n = subst (NamedByRoots old new (status_of_halt h)) (sym e) (by h g n) where
+plan_named asked names answer header k0 k1 a b c d old new h e g n = subst (NamedByRoots old new (status_of_halt h)) (sym e) (by h g n) where
   answered : (status : Status) → AnswersPlan answer header k0 status → NamedAtPlan old new names.ledger (halt.Answer status) → NamedBy old new names.ledger status
   answered (OtherRun kept wanted) g n = n
   answered (NameClash defined other image) g n = n
@@ -280,7 +281,7 @@ plan_named asked names answer header k0 k1 c d old new h e g n = subst (NamedByR
   answered (FolderFault done) g n = inl n
   answered (LedgerFault done) g n = inl n
 
-  by : (h : Halt) → HaltsPlan answer header k0 k1 c d h → NamedAtPlan old new names.ledger h → NamedBy old new names.ledger (status_of_halt h)
+  by : (h : Halt) → HaltsPlan answer header k0 k1 a b c d h → NamedAtPlan old new names.ledger h → NamedBy old new names.ledger (status_of_halt h)
   by halt.Memory g n = n
   by halt.Folders g n = n
   by halt.Ledger g n = n

@@ -33,21 +33,20 @@ use Rattle.desk_follow.proofs.Follow.{follow}
 use Rattle.desk_file.specs.ClassScans.{is_class_kind}
 use Rattle.desk_run.specs.Runs.{Run}
 use Rattle.desk_run.specs.Works.{works_of}
-use Rattle.desk_run.specs.Truth.{TrueLedger}
+use Rattle.desk_run.specs.Truth.{IsVerified, SoundLedger, TrueLedger}
 use Rattle.desk_run.specs.Stops.{status_of_halt}
-use Rattle.desk_run.specs.Stands.{Unchanged, Between, Remains}
+use Rattle.desk_run.specs.Stands.{Unchanged, Between, Stands, Remains}
 use Rattle.desk_run.specs.Classes.{is_selected_class, HoldsNewClass, RenamesClasses, Classes}
 use Rattle.desk_run.specs.Meaning.{defined_in, run_of, run_of_asked}
 use Rattle.desk_run.specs.Answers.{first_answer}
 use Rattle.desk_run.specs.Endings.{WhereTold, Tells, Planned, HaltsEarly, Finishes, ReportedOf, HasCauses, StandsAt, IsDone, StandsAfter, is_final, Named}
-use Rattle.desk_run.specs.Clauses.{HoldsFiles, HoldsRows, Files, CompleteRows, KeepsLedger, LedgerHolds, Output, Exact, RemainsAt, Left}
+use Rattle.desk_run.specs.Clauses.{HoldsFiles, HoldsRows, Files, CompleteRows, TrueBehind, KeepsLedger, LedgerHolds, Output, Exact, RemainsAt, Left}
 use Rattle.desk_run.specs.Generated.{TellsTotals, Generates, generated_totals}
 use Rattle.desk_run.proofs.After.{header_after}
 use Rattle.desk_run.proofs.Remaining.{remains_of, truth_of}
+use Rattle.desk_run.proofs.Sounding.{sound_of, true_behind}
+use Rattle.desk_run.proofs.Splits.{shorter_than}
 use Rattle.desk_run.proofs.Ending.{finish_stands, early_stands, early_first}
-
-shorter_than : (files before rest : List File) (file : File) → files ≡ before ++ file ∷ rest → length before < length files
-shorter_than files before rest file e = let h = ap length e in let k = length-append before (file ∷ rest) in omega arith
 
 holds_files : (run : Run) (m0 : Contents) (l0 : Ledger) (m : Contents) (l : Ledger) → Between run m0 l0 m l (length (files_below run.from m0)) → HoldsFiles run m0 l0 m
 holds_files run m0 l0 m l b =
@@ -123,7 +122,7 @@ all_among (f ∷ before) rest file h = all_among before rest file (All-tail (λ 
 
 renames_classes : (asked : Asked) (m0 : Contents) (l0 : Ledger) (m : Contents) (l : Ledger) → IsDone asked m0 l0 m l → RenamesClasses asked m0 l0 m
 renames_classes asked m0 l0 m l d =
-    let run = run_of d.runs.roots d.runs.ruled (files_below d.runs.roots.from m0) in
+    let run = run_of d.runs.roots d.runs.ruled m0 in
     let holds : HoldsFiles run m0 l0 m = subst (λ (r : Run). HoldsFiles r m0 l0 m) d.runs.is (holds_files d.run m0 l0 m l d.stands) in
     let bytes : All (λ (f : File). IsBytes f.bytes) (files_below run.from m0) = subst (λ (r : Run). All (λ (f : File). IsBytes f.bytes) (files_below r.from m0)) d.runs.is d.runs.bytes in
     record {
@@ -156,33 +155,61 @@ classes_clause asked m0 l0 f k status t = record { m = t.m; l = t.l; folders = t
   by (Moved path one other) s = tt
 
 keeps_ledger : (asked : Asked) (m0 : Contents) (l0 : Ledger) (m : Contents) (l : Ledger) (status : Status) → StandsAfter asked m0 l0 m l status → KeepsLedger asked m0 l0 m l status
-keeps_ledger asked m0 l0 m l status s = record { stays = λ run is. truth status s run is; complete = rows status s } where
-  untouched : (u : Unchanged m0 l0 m l 0) (run : Run) → TrueLedger run m0 l0 → TrueLedger run m l
-  untouched u run = truth_of run m0 l0 m l 0 (inl u)
+keeps_ledger asked m0 l0 m l status s = record {
+  stays = λ run is. stays TrueLedger (λ run done. truth_of run m0 l0 m l done) status s run is;
+  sound = λ run is. stays SoundLedger (λ run done. sound_of run m0 l0 m l done) status s run is;
+  complete = rows status s;
+  verified = behind status s;
+} where
+  -- what holds of a ledger stays, wherever the run stands
+  stays : (P : Run → Contents → Ledger → Type 0) → ((run : Run) (done : ℕ) → Stands run m0 l0 m l done → P run m0 l0 → P run m l) → (status : Status) → StandsAfter asked m0 l0 m l status → (run : Run) → run_of_asked asked m0 ≡ Ok run → P run m0 l0 → P run m l
+  stays P keep status s run is = by status s where
+    untouched : Unchanged m0 l0 m l 0 → P run m0 l0 → P run m l
+    untouched u = keep run 0 (inl u)
 
-  begun : (done : ℕ) (run : Run) → run_of_asked asked m0 ≡ Ok run → StandsAt asked m0 l0 m l done → TrueLedger run m0 l0 → TrueLedger run m l
-  begun done run is (inl u) = truth_of run m0 l0 m l done (inl u)
-  begun done run is (inr b) = subst (λ (r : Run). TrueLedger r m0 l0 → TrueLedger r m l) (same_ok (run_of_asked asked m0) b.run run b.is is) (truth_of b.run m0 l0 m l done (inr b.stands))
+    begun : (done : ℕ) → StandsAt asked m0 l0 m l done → P run m0 l0 → P run m l
+    begun done (inl u) = keep run done (inl u)
+    begun done (inr b) = subst (λ (r : Run). P r m0 l0 → P r m l) (same_ok (run_of_asked asked m0) b.run run b.is is) (keep b.run done (inr b.stands))
 
-  all : (d : IsDone asked m0 l0 m l) (run : Run) → run_of_asked asked m0 ≡ Ok run → TrueLedger run m0 l0 → TrueLedger run m l
-  all d run is = subst (λ (r : Run). TrueLedger r m0 l0 → TrueLedger r m l) (same_ok (run_of_asked asked m0) d.run run d.ready.is is) (truth_of d.run m0 l0 m l _ (inr (inl d.stands)))
+    all : IsDone asked m0 l0 m l → P run m0 l0 → P run m l
+    all d = subst (λ (r : Run). P r m0 l0 → P r m l) (same_ok (run_of_asked asked m0) d.run run d.ready.is is) (keep d.run _ (inr (inl d.stands)))
 
-  truth : (status : Status) → StandsAfter asked m0 l0 m l status → (run : Run) → run_of_asked asked m0 ≡ Ok run → TrueLedger run m0 l0 → TrueLedger run m l
-  truth Done s run is = all s run is
-  truth Refusals s run is = all s run is
-  truth OutputFault s run is = all s run is
-  truth Memory s run is = begun s.done run is s.stands
-  truth (FolderFault done) s run is = begun done run is s
-  truth (LedgerFault done) s run is = begun done run is s
-  truth Usage s run is = untouched s run
-  truth (NestedRoots first second) s run is = untouched s run
-  truth (BadRules fault) s run is = untouched s run
-  truth (OtherRun kept wanted) s run is = untouched s run
-  truth (Limit kind path) s run is = untouched s run
-  truth (PathClash first second) s run is = untouched s run
-  truth (NameClash defined other image) s run is = untouched s run
-  truth (Stranded path held) s run is = untouched s run
-  truth (Moved path one other) s run is = begun s.done run is s.stands
+    by : (status : Status) → StandsAfter asked m0 l0 m l status → P run m0 l0 → P run m l
+    by Done s = all s
+    by Refusals s = all s
+    by OutputFault s = all s
+    by Memory s = begun s.done s.stands
+    by (FolderFault done) s = begun done s
+    by (LedgerFault done) s = begun done s
+    by Usage s = untouched s
+    by (NestedRoots first second) s = untouched s
+    by (BadRules fault) s = untouched s
+    by (OtherRun kept wanted) s = untouched s
+    by (Limit kind path) s = untouched s
+    by (PathClash first second) s = untouched s
+    by (NameClash defined other image) s = untouched s
+    by (Stranded path held) s = untouched s
+    by (Moved path one other) s = begun s.done s.stands
+
+  true_then : IsDone asked m0 l0 m l → IsOkAnd (run_of_asked asked m0) (λ run. IsVerified run m0 l0 → TrueLedger run m l)
+  true_then d = ok_and (run_of_asked asked m0) d.run (λ run. IsVerified run m0 l0 → TrueLedger run m l) d.ready.is (true_behind d.run m0 l0 m l d.stands)
+
+  behind : (status : Status) → StandsAfter asked m0 l0 m l status → TrueBehind asked m0 l0 m l status
+  behind Done s = true_then s
+  behind Refusals s = true_then s
+  behind OutputFault s = true_then s
+  behind Memory s = tt
+  behind (FolderFault done) s = tt
+  behind (LedgerFault done) s = tt
+  behind Usage s = tt
+  behind (NestedRoots first second) s = tt
+  behind (BadRules fault) s = tt
+  behind (OtherRun kept wanted) s = tt
+  behind (Limit kind path) s = tt
+  behind (PathClash first second) s = tt
+  behind (NameClash defined other image) s = tt
+  behind (Stranded path held) s = tt
+  behind (Moved path one other) s = tt
 
   rows : (status : Status) → StandsAfter asked m0 l0 m l status → CompleteRows asked m0 l0 l status
   rows Done s = ok_and (run_of_asked asked m0) s.run (λ run. HoldsRows run m0 l0 l) s.ready.is (holds_rows s.run m0 l0 m l s.stands)

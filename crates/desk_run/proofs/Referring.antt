@@ -49,7 +49,7 @@ targets_same rules from m (path ∷ paths) = ap (λ ts. target rules path ∷ ts
 -- over the files of a run against which nothing stands
 follow_over : (roots : Roots) (r : Ruled) (m : Contents) → AreRules r.rules → All (λ (f : File). IsBytes f.bytes) (files_below roots.from m)
     → files_answer roots.from (target r.rules) (is_whole r.rules) m ≡ None → names_answer (cls r.rules.renames) (classes_of r.rules (files_below roots.from m)) ≡ None
-    → FollowOver (run_of roots r (files_below roots.from m)) r.rules (files_below roots.from m)
+    → FollowOver (run_of roots r m) r.rules (files_below roots.from m)
 follow_over roots r m rules_are bytes built names =
     let rules = r.rules in
     let files = files_below roots.from m in

@@ -1,6 +1,7 @@
 -- What remains of a run that stands at some file.
 use Rattle.std.proofs.Common.{◌≡◌, ◌≢◌, ◌⊎◌, inl, inr, ℕ, ◌<◌, ◌≤◌, List, [], ◌∷◌, ◌++◌, Option, Some, None, refl, sym, ap, ◌∙◌, subst, true, false, Bool, cond, arith, append_assoc, is_some, map, length, length-append, Result, Ok, Err}
-use Rattle.std.specs.Prelude.{not, ◌&&◌, ◌==◌, is_ok}
+use Rattle.std.specs.Prelude.{not, ◌&&◌, ◌==◌, is_ok, IfSome}
+use Rattle.sha2.specs.Sha256.{sha256}
 use Rattle.std.specs.FinMap as fin
 use Rattle.std.specs.Cmp.Lexicographic.{pointwise}
 use Rattle.std.proofs.lemmas.List.{map-append}
@@ -8,17 +9,19 @@ use Rattle.std.proofs.lemmas.Slice.Eq.{bytes_eq-Decides}
 use Rattle.desk_base.specs.Names.{Text}
 use Rattle.desk_base.specs.Paths.{full, is_relative_path}
 use Rattle.desk_folders.specs.Contents.{Contents, File, setting, files_below}
+use Rattle.desk_ledger.specs.declared.digest.Digest.{Digest}
 use Rattle.desk_ledger.specs.declared.keeper.Held.{Held}
+use Rattle.desk_ledger.specs.Digests.{digest}
 use Rattle.desk_ledger.specs.Ledger.{Ledger, Rows, with_header}
 use Rattle.desk_base.specs.TextMaps.{get-insert-same, get-remove-same}
 use Rattle.desk_folders.specs.ContentsLaws.{get-setting-other}
 use Rattle.desk_file.specs.declared.images.Image.{Image}
 use Rattle.desk_report.specs.declared.lines.Reason.{Reason}
-use Rattle.desk_run.specs.Runs.{Run, TargetsApart, AllRelative, Misses, AllApart, held_of, is_kept, is_kept_file, is_fresh, targets_of}
+use Rattle.desk_run.specs.Runs.{Run, FindsIn, TargetsApart, AllRelative, Misses, AllApart, written_of, row_of, has_output, is_candidate, is_kept, is_kept_file, is_fresh, targets_of}
 use Rattle.desk_batches.specs.Works.{Keep, Work, fresh, wrote_plan, logged_plan, cleared_plan, writes, files_after, ledger_after}
 use Rattle.desk_run.specs.Works.{work_of, works_of}
 use Rattle.desk_batches.proofs.Steps.{files_after-join, ledger_after-join}
-use Rattle.desk_run.specs.Truth.{TrueRows, TrueLedger, IsOurs}
+use Rattle.desk_run.specs.Truth.{TrueRows, SoundRows, TargetsTell, TrueLedger, IsTrusted, IsOurs}
 use Rattle.desk_run.specs.Stands.{Unchanged, Between, Within, Stands, Remains}
 use Rattle.desk_run.proofs.Splits.{covered, same_route, apart_before, apart_behind, misses_front, misses_back, relative_at, relative_front}
 use Rattle.desk_run.proofs.After.{Off, Spares, full_apart, files_spare, rows_spare, off_from_misses, spares_from_misses, header_after, header_cleared, cleared_spares}
@@ -29,13 +32,19 @@ and_both true b e = (refl, e)
 and_both false b e = cc
 
 -- the row by which a file is kept
-kept_row : (o : Option Held) (path digest : Text) → is_kept o path digest ≡ true → o ≡ Some (record { source = path; digest = record { 0 = digest } })
-kept_row None path digest e = cc
-kept_row (Some row) path digest e =
-    let both = and_both (pointwise ◌==◌ row.source path) (pointwise ◌==◌ row.digest.0 digest) e in
-    let p = (bytes_eq-Decides row.source path).0 both.0 in
-    let d = (bytes_eq-Decides row.digest.0 digest).0 both.1 in
-    λ i. Some (record { source = p i; digest = record { 0 = d i } })
+record IsKeptBy (finds : Held → Bool) (o : Option Held) (path digest : Text) : Type 0 where
+  row : Held
+  is : o ≡ Some row
+  source : row.source ≡ path
+  digest_is : row.digest.0 ≡ digest
+  found : finds row ≡ true
+
+kept_row : (finds : Held → Bool) (o : Option Held) (path digest : Text) → is_kept finds o path digest ≡ true → IsKeptBy finds o path digest
+kept_row finds None path digest e = cc
+kept_row finds (Some row) path digest e =
+    let found = and_both (is_candidate row path digest) (finds row) e in
+    let both = and_both (pointwise ◌==◌ row.source path) (pointwise ◌==◌ row.digest.0 digest) found.0 in
+    record { row = row; is = refl; source = (bytes_eq-Decides row.source path).0 both.0; digest_is = (bytes_eq-Decides row.digest.0 digest).0 both.1; found = found.1 }
 
 -- a file's work writes where it is fresh
 fresh_works : (kept found : Bool) (o : Result Image Reason) → writes (cond kept Keep (fresh found o)) ≡ not kept && is_ok o
@@ -83,7 +92,7 @@ folder_before run rows m target a h = files_spare run.to (full run.to target) (w
 
 rows_at : (run : Run) (rows : Rows) (l : Ledger) (a : List File) (file : File) (b : List File) → Round run a file b
     → fin.get (ledger_after (works_of run rows (a ++ file ∷ b)) l).rows (run.target file.path)
-    ≡ fin.get (logged_plan (run.target file.path) (held_of file) (work_of run rows file).plan (ledger_after (works_of run rows a) l)).rows (run.target file.path)
+    ≡ fin.get (logged_plan (run.target file.path) file.path (digest file.bytes) (work_of run rows file).plan (ledger_after (works_of run rows a) l)).rows (run.target file.path)
 rows_at run rows l a file b r =
     ap (λ ws. fin.get (ledger_after ws l).rows (run.target file.path)) (map-append (work_of run rows) a (file ∷ b))
     ∙ ap (λ (n : Ledger). fin.get n.rows (run.target file.path)) (ledger_after-join (works_of run rows a) (works_of run rows (file ∷ b)) l)
@@ -101,35 +110,79 @@ written_or_kept run m rows file image false found (Ok x) e h =
     let same : x ≡ image = cc in get-insert-same m (full run.to (run.target file.path)) x.bytes ∙ ap (λ (y : Image). Some y.bytes) same
 written_or_kept run m rows file image false found (Err reason) e h = cc
 
-logged_or_kept : (run : Run) (l : Ledger) (file : File) (image : Image) (kept found : Bool) (o : Result Image Reason) → o ≡ Ok image → (kept ≡ true → fin.get l.rows (run.target file.path) ≡ Some (held_of file))
-    → fin.get (logged_plan (run.target file.path) (held_of file) (cond kept Keep (fresh found o)) l).rows (run.target file.path) ≡ Some (held_of file)
-logged_or_kept run l file image true found o e h = h refl
-logged_or_kept run l file image false found (Ok x) e h = get-insert-same l.rows (run.target file.path) (held_of file)
-logged_or_kept run l file image false found (Err reason) e h = cc
+logged_or_kept : (run : Run) (l : Ledger) (file : File) (image : Image) (row : Option Held) (kept found : Bool) (o : Result Image Reason) → o ≡ Ok image → fin.get l.rows (run.target file.path) ≡ row
+    → fin.get (logged_plan (run.target file.path) file.path (digest file.bytes) (cond kept Keep (fresh found o)) l).rows (run.target file.path) ≡ cond kept row (Some (written_of file image))
+logged_or_kept run l file image row true found o e h = h
+logged_or_kept run l file image row false found (Ok x) e h =
+    let same : x ≡ image = cc in get-insert-same l.rows (run.target file.path) (written_of file x) ∙ ap (λ (y : Image). Some (written_of file y)) same
+logged_or_kept run l file image row false found (Err reason) e h = cc
 
 -- a kept file's target holds its image, where the rows are true
 kept_image : (run : Run) (m : Contents) (rows : Rows) (file : File) (image : Image) → TrueRows run m rows → IsThere run.from m file
     → run.image file.path file.bytes ≡ Ok image → is_kept_file run rows file ≡ true → fin.get m (full run.to (run.target file.path)) ≡ Some image.bytes
 kept_image run m rows file image truth there is kept =
-    let has = truth (run.target file.path) (held_of file) file.bytes (kept_row _ _ _ kept) there.relative there.held refl in
-    let same : ◌≡◌ {A = Result Image Reason} (Ok has.image) (Ok image) = sym has.is ∙ is in
-    let at : has.image ≡ image = cc in
+    let by = kept_row (run.finds (run.target file.path)) _ _ _ kept in
+    let has = truth (run.target file.path) by.row file.bytes by.is (ap is_relative_path by.source ∙ there.relative) (ap (λ p. fin.get m (full run.from p)) by.source ∙ there.held) (sym by.digest_is) in
+    let same : ◌≡◌ {A = Result Image Reason} (Ok has.sound.image) (Ok image) = sym has.sound.is ∙ ap (λ p. run.image p file.bytes) by.source ∙ is in
+    let at : has.sound.image ≡ image = cc in
     has.held ∙ ap (λ (y : Image). Some y.bytes) at
 
-kept_or_not : (run : Run) (m : Contents) (rows : Rows) (file : File) (image : Image) → TrueRows run m rows ⊎ (is_kept_file run rows file ≡ false) → IsThere run.from m file
-    → run.image file.path file.bytes ≡ Ok image → is_kept_file run rows file ≡ true → fin.get m (full run.to (run.target file.path)) ≡ Some image.bytes
-kept_or_not run m rows file image (inl truth) there is kept = kept_image run m rows file image truth there is kept
-kept_or_not run m rows file image (inr fresh) there is kept = cc
+-- bytes that have the digest of a row's output
+record HasBytes (held : Option Text) (output : Option Digest) : Type 0 where
+  bytes : Text
+  there : held ≡ Some bytes
+  of_row : output ≡ Some (digest bytes)
 
-true_here : (run : Run) (m : Contents) (l : Ledger) (file : File) → IsOurs run.header l.header → TrueLedger run m l ⊎ (is_kept_file run l.rows file ≡ false) → TrueRows run m l.rows ⊎ (is_kept_file run l.rows file ≡ false)
-true_here run m l file ours (inl truth) = inl (truth ours)
+output_bytes : (held : Option Text) (output : Option Digest) → has_output held output ≡ true → HasBytes held output
+output_bytes None output e = cc
+output_bytes (Some bytes) None e = cc
+output_bytes (Some bytes) (Some output) e =
+    let same = (bytes_eq-Decides (sha256 bytes) output.0).0 e in
+    record { bytes = bytes; there = refl; of_row = ap (λ (t : Text). Some (record { 0 = t })) (sym same) }
+
+same_hash : (image : Text) (output : Option Digest) (bytes : Text) → output ≡ Some (digest bytes) → IfSome output (λ d. d ≡ digest image) → sha256 bytes ≡ sha256 image
+same_hash image output bytes e h = ap (λ (d : Digest). d.0) (subst (λ o. IfSome o (λ d. d ≡ digest image)) e h)
+
+-- what is to be known of rows and folders, for kept files to hold their images
+record Verified (run : Run) (m : Contents) (rows : Rows) : Type 0 where
+  verify : run.verify ≡ true
+  sound : SoundRows run m rows
+  targets : TargetsTell run m
+
+-- a kept file's target holds its image, where the run verifies over sound rows
+verified_image : (run : Run) (m : Contents) (rows : Rows) (a b : List File) (file : File) (image : Image) → FindsIn run m → Verified run m rows → files_below run.from m ≡ a ++ file ∷ b → IsThere run.from m file
+    → run.image file.path file.bytes ≡ Ok image → is_kept_file run rows file ≡ true → fin.get m (full run.to (run.target file.path)) ≡ Some image.bytes
+verified_image run m rows a b file image finds v split there is kept =
+    let goes = run.target file.path in
+    let by = kept_row (run.finds goes) _ _ _ kept in
+    let found : has_output (fin.get m (full run.to goes)) by.row.output ≡ true = ap (λ x. cond x (has_output (fin.get m (full run.to goes)) by.row.output) true) (sym v.verify) ∙ sym (finds goes by.row) ∙ by.found in
+    let held = output_bytes _ _ found in
+    let sound = v.sound goes by.row file.bytes by.is (ap is_relative_path by.source ∙ there.relative) (ap (λ p. fin.get m (full run.from p)) by.source ∙ there.held) (sym by.digest_is) in
+    let same : ◌≡◌ {A = Result Image Reason} (Ok sound.image) (Ok image) = sym sound.is ∙ ap (λ p. run.image p file.bytes) by.source ∙ is in
+    let at : sound.image ≡ image = cc in
+    let hash : sha256 held.bytes ≡ sha256 image.bytes = same_hash sound.image.bytes by.row.output held.bytes held.of_row sound.output ∙ ap (λ (y : Image). sha256 y.bytes) at in
+    held.there ∙ ap Some (v.targets a b file image held.bytes split is held.there hash)
+
+-- what is known of a file that may be kept
+abbrev Trust : Run → Contents → Rows → File → Type 0
+Trust run m rows file = (TrueRows run m rows ⊎ Verified run m rows) ⊎ (is_kept_file run rows file ≡ false)
+
+kept_or_not : (run : Run) (m : Contents) (rows : Rows) (a b : List File) (file : File) (image : Image) → FindsIn run m → Trust run m rows file → files_below run.from m ≡ a ++ file ∷ b → IsThere run.from m file
+    → run.image file.path file.bytes ≡ Ok image → is_kept_file run rows file ≡ true → fin.get m (full run.to (run.target file.path)) ≡ Some image.bytes
+kept_or_not run m rows a b file image finds (inl (inl truth)) split there is kept = kept_image run m rows file image truth there is kept
+kept_or_not run m rows a b file image finds (inl (inr v)) split there is kept = verified_image run m rows a b file image finds v split there is kept
+kept_or_not run m rows a b file image finds (inr fresh) split there is kept = cc
+
+true_here : (run : Run) (m : Contents) (l : Ledger) (file : File) → IsOurs run.header l.header → IsTrusted run m l ⊎ (is_kept_file run l.rows file ≡ false) → Trust run m l.rows file
+true_here run m l file ours (inl (inl truth)) = inl (inl (truth ours))
+true_here run m l file ours (inl (inr v)) = inl (inr (record { verify = v.verify; sound = v.sound ours; targets = v.targets }))
 true_here run m l file ours (inr fresh) = inr fresh
 
 -- images and rows of the files before
-front_image : (run : Run) (m0 : Contents) (l0 : Ledger) (before rest a b : List File) (file : File) (image : Image) → TargetsApart run m0 → TrueRows run m0 l0.rows ⊎ (is_kept_file run l0.rows file ≡ false)
+front_image : (run : Run) (m0 : Contents) (l0 : Ledger) (before rest a b : List File) (file : File) (image : Image) → TargetsApart run m0 → FindsIn run m0 → Trust run m0 l0.rows file
     → files_below run.from m0 ≡ before ++ rest → files_below run.from m0 ≡ a ++ file ∷ b → length a < length before → run.image file.path file.bytes ≡ Ok image
     → fin.get (files_after run.to (works_of run l0.rows before) m0) (full run.to (run.target file.path)) ≡ Some image.bytes
-front_image run m0 l0 before rest a b file image given truth split e lt is =
+front_image run m0 l0 before rest a b file image given finds truth split e lt is =
     let c = covered before rest a file b (sym split ∙ e) lt in
     let r = round run (files_below run.from m0) a file b given.distinct e in
     let r' : Round run a file c.between = record {
@@ -141,11 +194,11 @@ front_image run m0 l0 before rest a b file image given truth split e lt is =
     ap (λ fs. fin.get (files_after run.to (works_of run l0.rows fs) m0) (full run.to (run.target file.path))) c.front
     ∙ folder_at run l0.rows m0 a file c.between r'
     ∙ written_or_kept run (files_after run.to (works_of run l0.rows a) m0) l0.rows file image _ _ _ is
-    (λ kept. folder_before run l0.rows m0 (run.target file.path) a r.before ∙ kept_or_not run m0 l0.rows file image truth there is kept)
+    (λ kept. folder_before run l0.rows m0 (run.target file.path) a r.before ∙ kept_or_not run m0 l0.rows a b file image finds truth e there is kept)
 
 front_row : (run : Run) (m0 : Contents) (l0 : Ledger) (before rest a b : List File) (file : File) (image : Image) → TargetsApart run m0
     → files_below run.from m0 ≡ before ++ rest → files_below run.from m0 ≡ a ++ file ∷ b → length a < length before → run.image file.path file.bytes ≡ Ok image
-    → fin.get (ledger_after (works_of run l0.rows before) (with_header run.header l0)).rows (run.target file.path) ≡ Some (held_of file)
+    → fin.get (ledger_after (works_of run l0.rows before) (with_header run.header l0)).rows (run.target file.path) ≡ row_of run l0.rows file image
 front_row run m0 l0 before rest a b file image given split e lt is =
     let c = covered before rest a file b (sym split ∙ e) lt in
     let r = round run (files_below run.from m0) a file b given.distinct e in
@@ -156,8 +209,8 @@ front_row run m0 l0 before rest a b file image given split e lt is =
     } in
     ap (λ fs. fin.get (ledger_after (works_of run l0.rows fs) (with_header run.header l0)).rows (run.target file.path)) c.front
     ∙ rows_at run l0.rows (with_header run.header l0) a file c.between r'
-    ∙ logged_or_kept run (ledger_after (works_of run l0.rows a) (with_header run.header l0)) file image _ _ _ is
-    (λ kept. rows_before run l0.rows (with_header run.header l0) (run.target file.path) a r.before ∙ kept_row _ _ _ kept)
+    ∙ logged_or_kept run (ledger_after (works_of run l0.rows a) (with_header run.header l0)) file image (fin.get l0.rows (run.target file.path)) _ _ _ is
+    (rows_before run l0.rows (with_header run.header l0) (run.target file.path) a r.before)
 
 -- a path that no fresh file among these has
 off_all : (run : Run) (rows : Rows) (path : List ℕ) (files : List File) → ((a b : List File) (file : File) → files ≡ a ++ file ∷ b → is_fresh run rows file ≡ true → full run.to (run.target file.path) ≢ path)
@@ -203,7 +256,7 @@ remains_between : (run : Run) (m0 : Contents) (l0 : Ledger) (m : Contents) (l : 
 remains_between run m0 l0 m l done given s = record {
   images = λ a b file image e lt is truth.
       let lt' : length a < length s.before = let n = s.count in omega arith in
-      ap (λ x. fin.get x (full run.to (run.target file.path))) s.folder ∙ front_image run m0 l0 s.before s.rest a b file image given (true_here run m0 l0 file s.ours truth) s.split e lt' is;
+      ap (λ x. fin.get x (full run.to (run.target file.path))) s.folder ∙ front_image run m0 l0 s.before s.rest a b file image given s.finds (true_here run m0 l0 file s.ours truth) s.split e lt' is;
   rows = λ a b file image e lt is.
       let lt' : length a < length s.before = let n = s.count in omega arith in
       ap (λ (x : Ledger). fin.get x.rows (run.target file.path)) s.ledger ∙ front_row run m0 l0 s.before s.rest a b file image given s.split e lt' is;
@@ -261,7 +314,7 @@ remains_within run m0 l0 m l done given s =
       images = λ a b file image e lt is truth.
           let lt' : length a < length s.before = let n = s.count in omega arith in
           folder_within run m0 l0 m l done s (full run.to (run.target file.path)) (full_apart run.to _ _ (off a b file e lt'))
-          ∙ front_image run m0 l0 s.before (s.file ∷ s.rest) a b file image given (true_here run m0 l0 file s.ours truth) s.split e lt' is;
+          ∙ front_image run m0 l0 s.before (s.file ∷ s.rest) a b file image given s.finds (true_here run m0 l0 file s.ours truth) s.split e lt' is;
       rows = λ a b file image e lt is.
           let lt' : length a < length s.before = let n = s.count in omega arith in
           ap (λ (x : Ledger). fin.get x.rows (run.target file.path)) s.ledger

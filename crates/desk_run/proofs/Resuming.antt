@@ -1,5 +1,5 @@
 -- A run goes on where another was stopped: the folders are those of one run.
-use Rattle.std.proofs.Common.{◌≡◌, ◌≢◌, ◌⊎◌, inl, inr, ℕ, List, [], ◌∷◌, ◌++◌, Option, Some, None, Bool, true, false, refl, sym, ap, ◌∙◌, subst, Result, Ok, Err}
+use Rattle.std.proofs.Common.{◌≡◌, ◌≢◌, ◌⊎◌, inl, inr, ℕ, List, [], ◌∷◌, ◌++◌, Option, Some, None, Bool, true, false, refl, sym, ap, ◌∙◌, subst, cond, Result, Ok, Err}
 use Rattle.std.specs.Prelude.{not, ◌&&◌, is_ok, IsOkAnd, MatchResult}
 use Rattle.std.specs.FinMap as fin
 use Rattle.std.proofs.lemmas.Bool.{and_parts, not-true}
@@ -14,19 +14,19 @@ use Rattle.desk_ledger.specs.Ledger.{Ledger, Rows}
 use Rattle.desk_report.specs.declared.lines.Reason.{Reason}
 use Rattle.desk_report.specs.declared.status.Status.{Status}
 use Rattle.desk_report.specs.declared.status.Status.TheVariants.{Done, Refusals, Memory, FolderFault, LedgerFault, OutputFault, Usage, NestedRoots, BadRules, Limit, PathClash, NameClash, Stranded, OtherRun, Moved}
+use Rattle.desk_second.specs.Applications.{classes_of}
 use Rattle.desk_words.specs.declared.roots.Roots.{Roots}
 use Rattle.desk_run.specs.declared.rules.Ruled.{Ruled}
 use Rattle.desk_run.specs.Named.{Asked}
-use Rattle.desk_run.specs.Runs.{Run, is_kept, is_fresh}
+use Rattle.desk_run.specs.Runs.{Run, has_output, is_kept, is_kept_file, is_fresh}
 use Rattle.desk_run.specs.Truth.{TrueLedger}
-use Rattle.desk_run.specs.Meaning.{ruled, run_of, run_by_rules, run_of_asked}
+use Rattle.desk_run.specs.Meaning.{finds_in, ruled, run_of, run_over, run_by_rules, run_of_asked}
 use Rattle.desk_run.specs.Stands.{Unchanged, Remains}
 use Rattle.desk_run.specs.Endings.{Tells, StandsAfter}
 use Rattle.desk_run.specs.Clauses.{HoldsFiles, HoldsRows, Files, RemainsAt, Left}
 use Rattle.desk_run.specs.Resuming.{is_stop, LeavesSources, WasStopped, IsOneRun, GoesOn, Resumes}
 use Rattle.desk_run.proofs.Truths.{text_case}
 use Rattle.desk_run.proofs.Promised.{files_clause}
-use Rattle.desk_run.proofs.Sparing.{has_roots}
 
 -- ---- the folders that one run leaves are told by what is promised of them
 
@@ -68,12 +68,12 @@ a_target run rows (file ∷ files) path = by (is_fresh run rows file) refl (text
 record HasImage (run : Run) (rows : Rows) (file : File) : Type 0 where
   image : Image
   is : run.image file.path file.bytes ≡ Ok image
-  fresh : not (is_kept (fin.get rows (run.target file.path)) file.path (sha256 file.bytes)) ≡ true
+  fresh : is_kept_file run rows file ≡ false
 
 fresh_image : (run : Run) (rows : Rows) (file : File) → is_fresh run rows file ≡ true → HasImage run rows file
 fresh_image run rows file e = by (run.image file.path file.bytes) refl (and_parts _ _ e).1 where
   by : (o : Result Image Reason) → run.image file.path file.bytes ≡ o → is_ok o ≡ true → HasImage run rows file
-  by (Ok image) f g = record { image = image; is = f; fresh = (and_parts _ _ e).0 }
+  by (Ok image) f g = record { image = image; is = f; fresh = not-true _ (and_parts _ _ e).0 }
   by (Err reason) f g = cc
 
 same_folders : (run : Run) (m0 : Contents) (l0 : Ledger) (m other : Contents) → HoldsFiles run m0 l0 m → HoldsFiles run m0 l0 other → other ≡ m
@@ -83,7 +83,7 @@ same_folders run m0 l0 m other h g = same_texts other m at where
     by : IsTarget run l0.rows (files_below run.from m0) path ⊎ IsNoTarget run l0.rows (files_below run.from m0) path → fin.get other path ≡ fin.get m path
     by (inl t) =
         let has = fresh_image run l0.rows t.file t.fresh in
-        let is = λ (x : Contents) (hx : HoldsFiles run m0 l0 x). hx.images t.before t.rest t.file has.image t.split has.is (inr (not-true _ has.fresh)) in
+        let is = λ (x : Contents) (hx : HoldsFiles run m0 l0 x). hx.images t.before t.rest t.file has.image t.split has.is (inr has.fresh) in
         ap (fin.get other) (sym t.at) ∙ is other g ∙ sym (is m h) ∙ ap (fin.get m) t.at
     by (inr none) = g.paths path none ∙ sym (h.paths path none)
 
@@ -132,44 +132,88 @@ spares_stopped asked m0 l0 m l run e w = by w.status w.stopped w.remains where
 
 -- ---- the run behind it
 
+-- a run as these folders show it
+abbrev showing : Roots → Contents → Run → Run
+showing roots m run = record run { finds = finds_in roots m }
+
 -- what words and folders mean, where source and rules are as they were
-same_run : (asked : Asked) (m0 m : Contents) → LeavesSources asked m0 m → run_of_asked asked m ≡ run_of_asked asked m0
-same_run (Err status) m0 m s = refl
-same_run (Ok roots) m0 m s =
-    ap (λ fs. run_by_rules m roots (ruled roots.rules fs)) s.rules ∙ by (ruled roots.rules (files_below roots.rules m0)) where
-      by : (r : Result Ruled Status) → run_by_rules m roots r ≡ run_by_rules m0 roots r
-      by (Ok r) = ap (λ fs. Ok (run_of roots r fs)) s.source
-      by (Err status) = refl
+record SameRun (asked : Asked) (m0 m : Contents) (run : Run) : Type 0 where
+  roots : Roots
+  are : asked ≡ Ok roots
+  is : run_of_asked asked m ≡ Ok (showing roots m run)
+  source : files_below run.from m ≡ files_below run.from m0
+  finds : run.finds ≡ finds_in roots m0
+  to : run.to ≡ roots.to
 
-same_source : (asked : Asked) (m0 m : Contents) (run : Run) → LeavesSources asked m0 m → run_of_asked asked m0 ≡ Ok run → files_below run.from m ≡ files_below run.from m0
-same_source (Err status) m0 m run s e = cc
-same_source (Ok roots) m0 m run s e =
-    let from = (has_roots roots m0 run e).from in
-    ap (λ root. files_below root m) from ∙ s.source ∙ ap (λ root. files_below root m0) (sym from)
+same_run : (asked : Asked) (m0 m : Contents) (run : Run) → LeavesSources asked m0 m → run_of_asked asked m0 ≡ Ok run → SameRun asked m0 m run
+same_run (Err status) m0 m run s e = cc
+same_run (Ok roots) m0 m run s e = by (ruled roots.rules (files_below roots.rules m0)) refl e where
+  by : (r : Result Ruled Status) → ruled roots.rules (files_below roots.rules m0) ≡ r → run_by_rules m0 roots r ≡ Ok run → SameRun (Ok roots) m0 m run
+  by (Err status) f g = cc
+  by (Ok r) f g =
+      let are : run_of roots r m0 ≡ run = cc in
+      let classes : run_of roots r m ≡ showing roots m (run_of roots r m0) = ap (λ fs. run_over roots r m (classes_of r.rules fs)) s.source in
+      subst (SameRun (Ok roots) m0 m) are (record {
+        roots = roots;
+        are = refl;
+        is = ap (λ fs. run_by_rules m roots (ruled roots.rules fs)) s.rules ∙ ap (run_by_rules m roots) f ∙ ap Ok classes;
+        source = s.source;
+        finds = refl;
+        to = refl;
+      })
 
--- whether a file is fresh is told by the row at its target
-same_fresh : (run : Run) (rows rows0 : Rows) (file : File) → fin.get rows (run.target file.path) ≡ fin.get rows0 (run.target file.path) → is_fresh run rows file ≡ is_fresh run rows0 file
-same_fresh run rows rows0 file e = ap (λ (o : Option Held). not (is_kept o file.path (sha256 file.bytes)) && is_ok (run.image file.path file.bytes)) e
+-- whether a file is fresh is told by row and bytes at its target
+same_fresh : (run : Run) (roots : Roots) (m0 m : Contents) (rows rows0 : Rows) (file : File) → run.finds ≡ finds_in roots m0 → fin.get rows (run.target file.path) ≡ fin.get rows0 (run.target file.path)
+    → fin.get m (full roots.to (run.target file.path)) ≡ fin.get m0 (full roots.to (run.target file.path)) → is_fresh (showing roots m run) rows file ≡ is_fresh run rows0 file
+same_fresh run roots m0 m rows rows0 file finds row bytes =
+    ap (λ (o : Option Held). fresh_by (finds_in roots m (run.target file.path)) o) row
+    ∙ ap (λ (held : Option Text). fresh_by (λ (r : Held). cond roots.verify (has_output held r.output) true) (fin.get rows0 (run.target file.path))) bytes
+    ∙ ap (λ (f : Text → Held → Bool). fresh_by (f (run.target file.path)) (fin.get rows0 (run.target file.path))) (sym finds) where
+      fresh_by : (Held → Bool) → Option Held → Bool
+      fresh_by finds o = not (is_kept finds o file.path (sha256 file.bytes)) && is_ok (run.image file.path file.bytes)
 
-one_run : (run : Run) (m0 : Contents) (l0 : Ledger) (m1 : Contents) (l1 : Ledger) (m : Contents) → files_below run.from m1 ≡ files_below run.from m0 → Spares run m0 l0 m1 l1 → TrueLedger run m1 l1 → HoldsFiles run m1 l1 m → HoldsFiles run m0 l0 m
-one_run run m0 l0 m1 l1 m same spared truth h = record {
-  images = λ before rest file image e is _. h.images before rest file image (same ∙ e) is (inl truth);
+-- what is true of a ledger doesn't hang on what the run finds at its targets
+showing_true : (run : Run) (roots : Roots) (m : Contents) (l : Ledger) → TrueLedger run m l → TrueLedger (showing roots m run) m l
+showing_true run roots m l truth = λ ours target row bytes at rel there sha.
+    let w = truth ours target row bytes at rel there sha in
+    record { sound = record { image = w.sound.image; is = w.sound.is; goes = w.sound.goes; output = w.sound.output }; held = w.held }
+
+one_run : (run : Run) (roots : Roots) (m0 : Contents) (l0 : Ledger) (m1 : Contents) (l1 : Ledger) (m : Contents) → files_below run.from m1 ≡ files_below run.from m0 → run.finds ≡ finds_in roots m0 → run.to ≡ roots.to
+    → Spares run m0 l0 m1 l1 → TrueLedger run m1 l1 → HoldsFiles (showing roots m1 run) m1 l1 m → HoldsFiles run m0 l0 m
+one_run run roots m0 l0 m1 l1 m same finds to spared truth h = record {
+  images = λ before rest file image e is _. h.images before rest file image (same ∙ e) is (inl (inl (showing_true run roots m1 l1 truth)));
   paths = λ path none.
       h.paths path (λ before rest file e fresh at.
       let off : IsNoTarget run l0.rows (files_below run.from m0) (full run.to (run.target file.path)) = λ b a f e' fresh' at'. none b a f e' fresh' (at' ∙ at) in
-      none before rest file (sym same ∙ e) (sym (same_fresh run l1.rows l0.rows file (spared.rows (run.target file.path) off)) ∙ fresh) at)
+      let row = spared.rows (run.target file.path) off in
+      let here = spared.paths (full run.to (run.target file.path)) off in
+      let bytes = ap (λ t. fin.get m1 (full t (run.target file.path))) (sym to) ∙ here ∙ ap (λ t. fin.get m0 (full t (run.target file.path))) to in
+      none before rest file (sym same ∙ e) (sym (same_fresh run roots m0 m1 l1.rows l0.rows file finds row bytes) ∙ fresh) at)
       ∙ spared.paths path none;
 }
 
+completed : (asked : Asked) (m0 : Contents) (l0 : Ledger) (m1 : Contents) (l1 : Ledger) (m : Contents) (run : Run) → run_of_asked asked m0 ≡ Ok run → WasStopped asked m0 l0 m1 l1 → LeavesSources asked m0 m1
+    → IsOkAnd (run_of_asked asked m1) (λ run. HoldsFiles run m1 l1 m) → IsOneRun asked m0 l0 m
+completed asked m0 l0 m1 l1 m run is stopped stays h =
+    let same = same_run asked m0 m1 run stays is in
+    let truth = stopped.ledger.stays run is (stopped.truth run is) in
+    let holds = subst (λ (o : Result Run Status). IsOkAnd o (λ run. HoldsFiles run m1 l1 m)) same.is h in
+    let files = one_run run same.roots m0 l0 m1 l1 m same.source same.finds same.to (spares_stopped asked m0 l0 m1 l1 run is stopped) truth holds in
+    record { run = run; is = is; files = files; only = λ other. same_folders run m0 l0 m other files }
+
+-- where words and folders mean no run, none completes
+no_run : (asked : Asked) (m0 m : Contents) (status : Status) → LeavesSources asked m0 m → run_of_asked asked m0 ≡ Err status → run_of_asked asked m ≡ Err status
+no_run (Err other) m0 m status s e = e
+no_run (Ok roots) m0 m status s e = by (ruled roots.rules (files_below roots.rules m0)) refl e where
+  by : (r : Result Ruled Status) → ruled roots.rules (files_below roots.rules m0) ≡ r → run_by_rules m0 roots r ≡ Err status → run_of_asked (Ok roots) m ≡ Err status
+  by (Ok r) f g = cc
+  by (Err other) f g = ap (λ fs. run_by_rules m roots (ruled roots.rules fs)) s.rules ∙ ap (run_by_rules m roots) f ∙ g
+
 goes_on : (asked : Asked) (m1 : Contents) (l1 : Ledger) (m : Contents) → IsOkAnd (run_of_asked asked m1) (λ run. HoldsFiles run m1 l1 m) → GoesOn asked m1 l1 m
-goes_on asked m1 l1 m h m0 l0 stopped stays = by (run_of_asked asked m1) refl h where
-  by : (o : Result Run Status) → run_of_asked asked m1 ≡ o → IsOkAnd o (λ run. HoldsFiles run m1 l1 m) → IsOneRun asked m0 l0 m
-  by (Err status) e f = absurd f
-  by (Ok run) e f =
-      let is : run_of_asked asked m0 ≡ Ok run = sym (same_run asked m0 m1 stays) ∙ e in
-      let truth = stopped.ledger.stays run is (stopped.truth run is) in
-      let files = one_run run m0 l0 m1 l1 m (same_source asked m0 m1 run stays is) (spares_stopped asked m0 l0 m1 l1 run is stopped) truth f in
-      record { run = run; is = is; files = files; only = λ other. same_folders run m0 l0 m other files }
+goes_on asked m1 l1 m h m0 l0 stopped stays = by (run_of_asked asked m0) refl where
+  by : (o : Result Run Status) → run_of_asked asked m0 ≡ o → IsOneRun asked m0 l0 m
+  by (Ok run) e = completed asked m0 l0 m1 l1 m run e stopped stays h
+  by (Err status) e = absurd (subst (λ (o : Result Run Status). IsOkAnd o (λ run. HoldsFiles run m1 l1 m)) (no_run asked m0 m1 status stays e) h)
 
 pub resume_clause : (asked : Asked) (m1 : Contents) (l1 : Ledger) (f : Option Contents) (k : Option Ledger) (status : Status)
     → Tells f k (λ m l. StandsAfter asked m1 l1 m l status) → Tells f k (λ m _. Resumes asked m1 l1 m status)

@@ -117,7 +117,7 @@ target_relative : (run : Run) (m0 : Contents) (a b : List File) (file : File) �
 target_relative run m0 a b file apart e =
     relative_at (targets_of run a) (run.target file.path) (targets_of run b) (subst AllRelative (ap (targets_of run) e ∙ map-append (λ (f : File). run.target f.path) a (file ∷ b)) apart.relative)
 
-spared : (run : Run) (m0 : Contents) (l0 : Ledger) (m : Contents) (l : Ledger) (done : ℕ) (root : Text) → TargetsApart run m0 → RootsApart root run.to → Stands run m0 l0 m l done → TellSame root m0 m
+pub spared : (run : Run) (m0 : Contents) (l0 : Ledger) (m : Contents) (l : Ledger) (done : ℕ) (root : Text) → TargetsApart run m0 → RootsApart root run.to → Stands run m0 l0 m l done → TellSame root m0 m
 spared run m0 l0 m l done root apart roots s = λ p rel.
     (remains_of run m0 l0 m l done s).paths (full root p)
     (λ a b file e le fresh at. roots p (run.target file.path) rel (target_relative run m0 a b file apart e) (sym at))

@@ -1,5 +1,5 @@
 -- Lists in two parts, and texts that differ.
-use Rattle.std.proofs.Common.{◌≡◌, ℕ, ◌<◌, List, [], ◌∷◌, ◌++◌, length, refl, sym, ap, ◌∙◌, arith}
+use Rattle.std.proofs.Common.{◌≡◌, ℕ, ◌<◌, List, [], ◌∷◌, ◌++◌, length, length-append, refl, sym, ap, ◌∙◌, arith}
 use Rattle.std.specs.Prelude.{map}
 use Rattle.std.specs.Prelude.{true}
 use Rattle.desk_base.specs.Paths.{is_relative_path}
@@ -40,6 +40,10 @@ same_route (w ∷ before) rest [] y x b e h = absurd (omega arith)
 same_route (w ∷ before) rest (z ∷ a) y x b e h =
     let s = same_route before rest a y x b (tail_same w z (before ++ y ∷ rest) (a ++ x ∷ b) e) (omega arith) in
     (ap (λ v. v ∷ before) (head_same w z (before ++ y ∷ rest) (a ++ x ∷ b) e) ∙ ap (λ l. z ∷ l) s.0, s.1, s.2)
+
+-- a part before an item is shorter than the list
+pub shorter_than : {X : Type 0} (items before rest : List X) (item : X) → items ≡ before ++ item ∷ rest → length before < length items
+shorter_than items before rest item e = let h = ap length e in let k = length-append before (item ∷ rest) in omega arith
 
 pub misses_front : (t : List ℕ) (xs ys : List (List ℕ)) → Misses t (xs ++ ys) → Misses t xs
 misses_front t [] ys h = tt

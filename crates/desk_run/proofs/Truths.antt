@@ -1,6 +1,6 @@
 -- A true ledger stays true, whatever is done or left undone.
-use Rattle.std.proofs.Common.{◌≡◌, ◌≢◌, ◌⊎◌, inl, inr, List, [], ◌∷◌, ◌++◌, Option, Some, None, refl, sym, ap, ◌∙◌, true, false, Bool, cond, unwrap_or, append_assoc, is_some, map, eqb, arith, Result, Ok, Err}
-use Rattle.std.specs.Prelude.{option_and_then, if◌then◌else◌}
+use Rattle.std.proofs.Common.{◌≡◌, ◌≢◌, ◌⊎◌, inl, inr, List, [], ◌∷◌, ◌++◌, Option, Some, None, refl, sym, ap, ◌∙◌, subst, true, false, Bool, cond, unwrap_or, append_assoc, is_some, map, eqb, arith, Result, Ok, Err}
+use Rattle.std.specs.Prelude.{option_and_then, if◌then◌else◌, IfSome}
 use Rattle.std.specs.FinMap as fin
 use Rattle.std.specs.Ordering.{nat_cmp, eq_by_cmp}
 use Rattle.std.specs.Cmp.{eq_by_cmp_equiv}
@@ -16,11 +16,12 @@ use Rattle.desk_folders.specs.Contents.{Contents, File, behind, below, relative,
 use Rattle.desk_base.specs.TextMaps.{get-insert-same, get-insert-other}
 use Rattle.desk_folders.specs.ContentsLaws.{get-setting-other}
 use Rattle.desk_ledger.specs.declared.keeper.Held.{Held}
+use Rattle.desk_ledger.specs.Digests.{digest}
 use Rattle.desk_ledger.specs.Ledger.{Ledger, Rows}
 use Rattle.desk_file.specs.declared.images.Image.{Image}
 use Rattle.desk_report.specs.declared.lines.Reason.{Reason}
 use Rattle.desk_words.specs.Roots.{RootsApart}
-use Rattle.desk_run.specs.Runs.{Run, AllRelative, held_of, targets_of}
+use Rattle.desk_run.specs.Runs.{Run, AllRelative, written_of, targets_of}
 use Rattle.desk_batches.specs.Works.{Plan, Keep, fresh, wrote, wrote_plan, logged, logged_plan, files_after, ledger_after}
 use Rattle.desk_run.specs.Works.{work_of, works_of}
 use Rattle.desk_run.specs.Truth.{TrueRows}
@@ -108,28 +109,30 @@ there_after from to target plan m (file ∷ files) apart rel h = (
 )
 
 true_write : (run : Run) (m : Contents) (rows : Rows) (file : File) (image : Image) → RootsApart run.from run.to → is_relative_path (run.target file.path) ≡ true → run.image file.path file.bytes ≡ Ok image
-    → IsThere run.from m file → TrueRows run m rows → TrueRows run (fin.insert m (full run.to (run.target file.path)) image.bytes) (fin.insert rows (run.target file.path) (held_of file))
+    → IsThere run.from m file → TrueRows run m rows → TrueRows run (fin.insert m (full run.to (run.target file.path)) image.bytes) (fin.insert rows (run.target file.path) (written_of file image))
 true_write run m rows file image apart rel is there was_true t row now at here_rel here dig =
     let goes = run.target file.path in
     let from_kept : fin.get m (full run.from row.source) ≡ Some now = sym (get-insert-other m (full run.to goes) image.bytes (full run.from row.source) (apart row.source goes here_rel rel)) ∙ here in
     elim (text_case t goes) [
       | inl e ↦
-          let row_is : ◌≡◌ {A = Option Held} (Some (held_of file)) (Some row) = sym (get-insert-same rows goes (held_of file)) ∙ ap (fin.get (fin.insert rows goes (held_of file))) (sym e) ∙ at in
-          let row_same : held_of file ≡ row = cc in
+          let held = written_of file image in
+          let row_is : ◌≡◌ {A = Option Held} (Some held) (Some row) = sym (get-insert-same rows goes held) ∙ ap (fin.get (fin.insert rows goes held)) (sym e) ∙ at in
+          let row_same : held ≡ row = cc in
           let bytes_are : ◌≡◌ {A = Option Text} (Some file.bytes) (Some now) = sym there.held ∙ ap (λ (s : Held). fin.get m (full run.from s.source)) row_same ∙ from_kept in
           let bytes_same : file.bytes ≡ now = cc in
           record {
-            image = image;
-            is = ap (λ (s : Held). run.image s.source now) (sym row_same) ∙ ap (run.image file.path) (sym bytes_same) ∙ is;
-            goes = ap (λ (s : Held). run.target s.source) (sym row_same) ∙ sym e;
+            sound = record {
+              image = image;
+              is = ap (λ (s : Held). run.image s.source now) (sym row_same) ∙ ap (run.image file.path) (sym bytes_same) ∙ is;
+              goes = ap (λ (s : Held). run.target s.source) (sym row_same) ∙ sym e;
+              output = subst (λ (s : Held). IfSome s.output (λ output. output ≡ digest image.bytes)) row_same refl;
+            };
             held = ap (λ q. fin.get (fin.insert m (full run.to goes) image.bytes) (full run.to q)) e ∙ get-insert-same m (full run.to goes) image.bytes;
           }
       | inr n ↦
-          let was = was_true t row now (sym (get-insert-other rows goes (held_of file) t n) ∙ at) here_rel from_kept dig in
+          let was = was_true t row now (sym (get-insert-other rows goes (written_of file image) t n) ∙ at) here_rel from_kept dig in
           record {
-            image = was.image;
-            is = was.is;
-            goes = was.goes;
+            sound = was.sound;
             held = get-insert-other m (full run.to goes) image.bytes (full run.to t) (full_apart run.to t goes n) ∙ was.held;
           }
     ]
@@ -137,7 +140,7 @@ true_write run m rows file image apart rel is there was_true t row now at here_r
 -- one work leaves a true ledger true
 true_step : (run : Run) (m : Contents) (l : Ledger) (file : File) (kept found : Bool) (o : Result Image Reason) → run.image file.path file.bytes ≡ o → RootsApart run.from run.to → is_relative_path (run.target file.path) ≡ true
     → IsThere run.from m file → TrueRows run m l.rows
-    → TrueRows run (wrote_plan (full run.to (run.target file.path)) (cond kept Keep (fresh found o)) m) (logged_plan (run.target file.path) (held_of file) (cond kept Keep (fresh found o)) l).rows
+    → TrueRows run (wrote_plan (full run.to (run.target file.path)) (cond kept Keep (fresh found o)) m) (logged_plan (run.target file.path) file.path (digest file.bytes) (cond kept Keep (fresh found o)) l).rows
 true_step run m l file true found o is apart rel there true_before = true_before
 true_step run m l file false found (Ok image) is apart rel there true_before = true_write run m l.rows file image apart rel is there true_before
 true_step run m l file false found (Err reason) is apart rel there true_before = true_before
@@ -161,9 +164,7 @@ true_broken run m rows rows' target left apart rel gone others true_before t row
       | inr n ↦
           let was = true_before t row now (sym (others t n) ∙ at) here_rel (sym (get-setting-other (full run.to target) left m (full run.from row.source) (apart row.source target here_rel rel)) ∙ here) dig in
           record {
-            image = was.image;
-            is = was.is;
-            goes = was.goes;
+            sound = was.sound;
             held = get-setting-other (full run.to target) left m (full run.to t) (full_apart run.to t target n) ∙ was.held;
           }
     ]

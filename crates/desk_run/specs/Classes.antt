@@ -22,7 +22,7 @@ use Rattle.desk_run.specs.Named.{Asked}
 use Rattle.desk_run.specs.declared.rules.Ruled.{Ruled}
 use Rattle.desk_run.specs.Meaning.{run_of, run_of_asked}
 use Rattle.desk_run.specs.Runs.{Run, is_kept_file}
-use Rattle.desk_run.specs.Truth.{TrueLedger}
+use Rattle.desk_run.specs.Truth.{IsTrusted}
 
 -- a path of a class that is selected
 abbrev pub is_selected_class : Rules → Text → Bool
@@ -39,17 +39,17 @@ pub record HoldsNewClass (rules : Rules) (bytes : Text) (held : Option Text) : T
   pub names : HasImagesOfNames rules.renames class (new_class (images_of rules) class)
   pub again : IsUnchangedClass (images_of rules) (new_bytes (images_of rules) bytes class) (new_class (images_of rules) class)
 
--- the target of each selected class that is accepted holds its new class; of a kept file where the ledger was true
+-- the target of each selected class that is accepted holds its new class; of a kept file where the ledger was true, or the run verifies
 abbrev pub HoldsClasses : Run → Rules → Contents → Ledger → Contents → Type 0
 HoldsClasses run rules m0 l0 m = (before rest : List File) (file : File) (image : Image) → files_below run.from m0 ≡ before ++ file ∷ rest
-    → is_selected_class rules file.path ≡ true → run.image file.path file.bytes ≡ Ok image → TrueLedger run m0 l0 ⊎ (is_kept_file run l0.rows file ≡ false)
+    → is_selected_class rules file.path ≡ true → run.image file.path file.bytes ≡ Ok image → IsTrusted run m0 l0 ⊎ (is_kept_file run l0.rows file ≡ false)
     → HoldsNewClass rules file.bytes (fin.get m (full run.to (run.target file.path)))
 
 pub record RenamesClasses (asked : Asked) (m0 : Contents) (l0 : Ledger) (m : Contents) : Type 0 where
   pub roots : Roots
   pub ruled : Ruled
-  pub is : run_of_asked asked m0 ≡ Ok (run_of roots ruled (files_below roots.from m0))
-  pub classes : HoldsClasses (run_of roots ruled (files_below roots.from m0)) ruled.rules m0 l0 m
+  pub is : run_of_asked asked m0 ≡ Ok (run_of roots ruled m0)
+  pub classes : HoldsClasses (run_of roots ruled m0) ruled.rules m0 l0 m
 
 -- classes: after a run that completes
 abbrev pub Classes : Asked → Contents → Ledger → Contents → Status → Type 0

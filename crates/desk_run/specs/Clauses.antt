@@ -12,27 +12,28 @@ use Rattle.desk_report.specs.Texts.{fault_text}
 use Rattle.desk_report.specs.Written.{WritesFront, writing}
 use Rattle.desk_file.specs.declared.images.Image.{Image}
 use Rattle.desk_run.specs.Named.{Asked}
-use Rattle.desk_run.specs.Runs.{Run, held_of, is_kept_file, is_fresh}
-use Rattle.desk_run.specs.Truth.{TrueLedger}
+use Rattle.desk_run.specs.Runs.{Run, row_of, is_kept_file, is_fresh}
+use Rattle.desk_run.specs.Truth.{IsTrusted, IsVerified, SoundLedger, TrueLedger}
 use Rattle.desk_run.specs.Stands.{Unchanged, Remains}
 use Rattle.desk_run.specs.Reports.{report}
 use Rattle.desk_run.specs.Meaning.{run_of_asked}
 use Rattle.desk_run.specs.Endings.{WhereTold, Tells, Named, is_final}
 
--- the targets of accepted files hold their images, of a kept file where the ledger was true; every path
+-- the targets of accepted files hold their images, of a kept file where the ledger was true, or the run verifies; every path
 -- that is no target of a file that was written holds what it held
 pub record HoldsFiles (run : Run) (m0 : Contents) (l0 : Ledger) (m : Contents) : Type 0 where
   pub images : (before rest : List File) (file : File) (image : Image) → files_below run.from m0 ≡ before ++ file ∷ rest
-      → run.image file.path file.bytes ≡ Ok image → TrueLedger run m0 l0 ⊎ (is_kept_file run l0.rows file ≡ false)
+      → run.image file.path file.bytes ≡ Ok image → IsTrusted run m0 l0 ⊎ (is_kept_file run l0.rows file ≡ false)
       → fin.get m (full run.to (run.target file.path)) ≡ Some image.bytes
   pub paths : (path : Text) → ((before rest : List File) (file : File) → files_below run.from m0 ≡ before ++ file ∷ rest → is_fresh run l0.rows file ≡ true
       → full run.to (run.target file.path) ≢ path) → fin.get m path ≡ fin.get m0 path
 
--- the header is this run's, each accepted file has its row, and every other row is as it was
+-- the header is this run's; each accepted file has its row with its path, the digest of its bytes and that of its image's, that
+-- of a kept one is as it was; and every other row is as it was
 pub record HoldsRows (run : Run) (m0 : Contents) (l0 l : Ledger) : Type 0 where
   pub header : l.header ≡ Some run.header
   pub rows : (before rest : List File) (file : File) (image : Image) → files_below run.from m0 ≡ before ++ file ∷ rest
-      → run.image file.path file.bytes ≡ Ok image → fin.get l.rows (run.target file.path) ≡ Some (held_of file)
+      → run.image file.path file.bytes ≡ Ok image → fin.get l.rows (run.target file.path) ≡ row_of run l0.rows file image
   pub others : (target : Text) → ((before rest : List File) (file : File) → files_below run.from m0 ≡ before ++ file ∷ rest → is_fresh run l0.rows file ≡ true
       → run.target file.path ≢ target) → fin.get l.rows target ≡ fin.get l0.rows target
 
@@ -47,10 +48,20 @@ CompleteRows asked m0 l0 l Done = IsOkAnd (run_of_asked asked m0) (λ run. Holds
 CompleteRows asked m0 l0 l Refusals = IsOkAnd (run_of_asked asked m0) (λ run. HoldsRows run m0 l0 l)
 CompleteRows asked m0 l0 l _ = Unit {0}
 
--- a true ledger is true at exit, and has all rows after a run that completes
+-- after a run that completes and verifies, the ledger is true
+abbrev pub TrueBehind : Asked → Contents → Ledger → Contents → Ledger → Status → Type 0
+TrueBehind asked m0 l0 m l Done = IsOkAnd (run_of_asked asked m0) (λ run. IsVerified run m0 l0 → TrueLedger run m l)
+TrueBehind asked m0 l0 m l Refusals = IsOkAnd (run_of_asked asked m0) (λ run. IsVerified run m0 l0 → TrueLedger run m l)
+TrueBehind asked m0 l0 m l OutputFault = IsOkAnd (run_of_asked asked m0) (λ run. IsVerified run m0 l0 → TrueLedger run m l)
+TrueBehind asked m0 l0 m l _ = Unit {0}
+
+-- a true ledger is true at exit, and a sound one sound; it has all rows after a run that completes, and is true after one that
+-- verifies
 pub record KeepsLedger (asked : Asked) (m0 : Contents) (l0 : Ledger) (m : Contents) (l : Ledger) (status : Status) : Type 0 where
   pub stays : (run : Run) → run_of_asked asked m0 ≡ Ok run → TrueLedger run m0 l0 → TrueLedger run m l
+  pub sound : (run : Run) → run_of_asked asked m0 ≡ Ok run → SoundLedger run m0 l0 → SoundLedger run m l
   pub complete : CompleteRows asked m0 l0 l status
+  pub verified : TrueBehind asked m0 l0 m l status
 
 -- ledger: what is told of it, and the name that is attached
 pub record LedgerHolds (asked : Asked) (f0 f : Option Contents) (k0 k : Option Ledger) (name0 name : Option Text) (status : Status) : Type 0 where

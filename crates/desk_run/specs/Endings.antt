@@ -25,7 +25,7 @@ use Rattle.desk_words.specs.declared.roots.Roots.{Roots}
 use Rattle.desk_run.specs.declared.rules.Ruled.{Ruled}
 use Rattle.desk_run.specs.declared.stops.Halt.{Halt}
 use Rattle.desk_run.specs.declared.stops.Halt.TheVariants as halt
-use Rattle.desk_run.specs.Runs.{Run, TargetsApart}
+use Rattle.desk_run.specs.Runs.{Run, FindsIn, TargetsApart}
 use Rattle.desk_run.specs.Works.{works_of}
 use Rattle.desk_run.specs.Truth.{IsOurs}
 use Rattle.desk_run.specs.Reports.{ending_by, report, report_by, summary_by, summary_of}
@@ -49,12 +49,13 @@ pub record Tells (f : Option Contents) (k : Option Ledger) (P : Contents → Led
   pub ledger : k ≡ Some l
   pub holds : P m l
 
--- a run whose words and rules are read and against whose files and classes nothing stands
+-- a run whose words and rules are read and against whose files and classes nothing stands, over the folders that it finds
 pub record IsReady (asked : Asked) (m : Contents) (run : Run) : Type 0 where
   pub is : run_of_asked asked m ≡ Ok run
   pub built : files_answer run.from run.target run.whole m ≡ None
   pub names : names_answer run.name run.classes ≡ None
   pub apart : TargetsApart run m
+  pub finds : FindsIn run m
 
 -- what was read of the files below a root, against which nothing stands: their sizes and digests, the classes among them, and that
 -- what stands in them are bytes
@@ -66,7 +67,7 @@ pub record AreRead (rules : Rules) (from : Text) (m : Contents) (files : List Me
 
 -- what was gathered where the folders tell this
 pub record GatheredFrom (names : Roots) (m : Contents) (gathered : Gathered) : Type 0 where
-  pub run : run_of_asked (asked_roots names) m ≡ Ok (run_of names gathered.ruled.value (files_below names.from m))
+  pub run : run_of_asked (asked_roots names) m ≡ Ok (run_of names gathered.ruled.value m)
   pub files : AreRead gathered.ruled.value.rules names.from m gathered.notes.files.items gathered.notes.scanned.items
 
 -- what was gathered, whatever the folders tell
@@ -82,7 +83,7 @@ pub record HasGathered (names : Roots) (told : Option Contents) (gathered : Gath
 pub record RunsOn (run : Run) (m : Contents) : Type 0 where
   pub roots : Roots
   pub ruled : Ruled
-  pub is : run ≡ run_of roots ruled (files_below roots.from m)
+  pub is : run ≡ run_of roots ruled m
   pub are : AreRules ruled.rules
   pub bytes : All (λ (file : File). IsBytes file.bytes) (files_below run.from m)
 
@@ -117,7 +118,7 @@ pub record IsAnswer (asked : Asked) (f : Option Contents) (k : Option Ledger) (s
 -- before the first file is written, a run may halt so
 abbrev pub HaltsEarly : Asked → Option Contents → Option Ledger → Option Ledger → ℕ → ℕ → ℕ → ℕ → Halt → Type 0
 HaltsEarly asked f k k' f1 f2 k1 k2 halt.Memory = LedgerEarly asked f k k'
-HaltsEarly asked f k k' f1 f2 k1 k2 halt.Folders = (k' ≡ k) × Rose f1 f2
+HaltsEarly asked f k k' f1 f2 k1 k2 halt.Folders = LedgerEarly asked f k k' × Rose f1 f2
 HaltsEarly asked f k k' f1 f2 k1 k2 halt.Ledger = LedgerEarly asked f k k' × Rose k1 k2
 HaltsEarly asked f k k' f1 f2 k1 k2 (halt.Answer status) = (k' ≡ k) × IsAnswer asked f k status
 

@@ -31,8 +31,8 @@ pub record FollowOver (run : Run) (rules : Rules) (files : List File) : Type 0 w
 pub record ReferencesFollow (asked : Asked) (m0 : Contents) : Type 0 where
   pub roots : Roots
   pub ruled : Ruled
-  pub is : run_of_asked asked m0 ≡ Ok (run_of roots ruled (files_below roots.from m0))
-  pub over : FollowOver (run_of roots ruled (files_below roots.from m0)) ruled.rules (files_below roots.from m0)
+  pub is : run_of_asked asked m0 ≡ Ok (run_of roots ruled m0)
+  pub over : FollowOver (run_of roots ruled m0) ruled.rules (files_below roots.from m0)
 
 -- follow: after a run that completes
 abbrev pub Follow : Asked → Contents → Status → Type 0

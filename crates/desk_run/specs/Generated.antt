@@ -1,5 +1,5 @@
 -- A run over a generated application, in folders of its own.
-use Rattle.std.specs.Prelude.{◌≡◌, ◌⊎◌, ℕ, ◌++◌, List, [], ◌∷◌, Option, Result, Ok, Err, IsOkAnd, codes, map}
+use Rattle.std.specs.Prelude.{◌≡◌, ◌⊎◌, ℕ, ◌++◌, List, [], ◌∷◌, Option, Result, Ok, Err, IsOkAnd, codes, map, false}
 use Rattle.std.specs.FinMap as fin
 use Rattle.desk_base.specs.Names.{Text}
 use Rattle.desk_base.specs.Paths.{full}
@@ -26,7 +26,7 @@ placed root file = record { path = full root file.path; content = file.content }
 
 -- from `in` to `out`, by the rules in `rules`, with the ledger `ledger`
 abbrev pub generated_roots : Roots
-generated_roots = record { rules = codes "rules"; from = codes "in"; to = codes "out"; ledger = codes "ledger" }
+generated_roots = record { rules = codes "rules"; from = codes "in"; to = codes "out"; ledger = codes "ledger"; verify = false }
 
 -- the files of an application of so many classes below `in`, and their rule file below `rules`
 abbrev pub generated_files : ℕ → List GenFile

@@ -91,10 +91,11 @@ HaltsClashing files (Answer status) = (is_files_status status ≡ true) × (clas
 HaltsClashing files _ = ⊥
 
 -- where works are planned
-abbrev pub HaltsPlanning : ℕ → ℕ → Halt → Type 0
-HaltsPlanning k k' Memory = Unit {0}
-HaltsPlanning k k' LedgerHalt = Rose k k'
-HaltsPlanning k k' _ = ⊥
+abbrev pub HaltsPlanning : ℕ → ℕ → ℕ → ℕ → Halt → Type 0
+HaltsPlanning f f' k k' Memory = Unit {0}
+HaltsPlanning f f' k k' Folders = Rose f f'
+HaltsPlanning f f' k k' LedgerHalt = Rose k k'
+HaltsPlanning f f' k k' _ = ⊥
 
 -- a status of the ledger
 abbrev pub is_ledger_status : Status → Bool
@@ -181,8 +182,8 @@ AnswersPlan names header k status = ((is_names_status status ≡ true) × (names
     ⊎ ((is_ledger_status status ≡ true) × (names ≡ None) × IfSome k (λ l. other_run header l.header ≡ Some status))
 
 -- where the names of classes are looked at, the ledger is opened and the works are planned
-abbrev pub HaltsPlan : Option Status → Header → Option Ledger → Option Ledger → ℕ → ℕ → Halt → Type 0
-HaltsPlan names header k k' k1 k2 Memory = LedgerOwn names header k k'
-HaltsPlan names header k k' k1 k2 LedgerHalt = LedgerOwn names header k k' × Rose k1 k2
-HaltsPlan names header k k' k1 k2 (Answer status) = (k' ≡ k) × AnswersPlan names header k status
-HaltsPlan names header k k' k1 k2 _ = ⊥
+abbrev pub HaltsPlan : Option Status → Header → Option Ledger → Option Ledger → ℕ → ℕ → ℕ → ℕ → Halt → Type 0
+HaltsPlan names header k k' f1 f2 k1 k2 Memory = LedgerOwn names header k k'
+HaltsPlan names header k k' f1 f2 k1 k2 Folders = LedgerOwn names header k k' × Rose f1 f2
+HaltsPlan names header k k' f1 f2 k1 k2 LedgerHalt = LedgerOwn names header k k' × Rose k1 k2
+HaltsPlan names header k k' f1 f2 k1 k2 (Answer status) = (k' ≡ k) × AnswersPlan names header k status

@@ -1,9 +1,10 @@
 -- What words and folders mean: a run, or the answer that stands before it.
-use Rattle.std.specs.Prelude.{◌++◌, List, [], ◌∷◌, length, Option, Some, None, Result, Ok, Err}
+use Rattle.std.specs.Prelude.{◌++◌, List, [], ◌∷◌, length, Option, Some, None, Result, Ok, Err, Bool, true, false, cond}
 use Rattle.std.specs.List.{flat_map}
 use Rattle.std.specs.Int.{w32, w64, to_be_bytes}
 use Rattle.std.specs.FinMap as fin
 use Rattle.desk_base.specs.Names.{Text}
+use Rattle.desk_base.specs.Paths.{full}
 use Rattle.desk_class.specs.Held.{ascending}
 use Rattle.desk_file.specs.Images.{target}
 use Rattle.desk_file.specs.Linked.{image_in}
@@ -12,6 +13,7 @@ use Rattle.desk_folders.specs.Contents.{Contents, File, files_below}
 use Rattle.desk_graph.specs.Application.{defined_names}
 use Rattle.desk_graph.specs.declared.scanned.Scanned.{Scanned}
 use Rattle.desk_ledger.specs.declared.keeper.Header.{Header}
+use Rattle.desk_ledger.specs.declared.keeper.Held.{Held}
 use Rattle.desk_ledger.specs.Digests.{digest}
 use Rattle.desk_rename.specs.Images.{cls}
 use Rattle.desk_report.specs.declared.status.Status.{Status}
@@ -25,7 +27,7 @@ use Rattle.desk_words.specs.declared.roots.Roots.{Roots}
 use Rattle.desk_run.specs.declared.rules.Ruled.{Ruled}
 use Rattle.desk_run.specs.Named.{Asked}
 use Rattle.desk_run.specs.Limits.{rule_files_answer}
-use Rattle.desk_run.specs.Runs.{Run}
+use Rattle.desk_run.specs.Runs.{Run, has_output}
 
 -- files with these added in their order, each under its name
 abbrev pub adding_files : Files → List File → Files
@@ -62,9 +64,13 @@ header_of roots r = record { from = roots.from; to = roots.to; rules = r.digest 
 abbrev pub defined_in : List Scanned → List Text
 defined_in classes = ascending (defined_names classes)
 
--- the run over an application of these classes
-abbrev pub run_over : Roots → Ruled → List Scanned → Run
-run_over roots r classes = record {
+-- whether a target holds what its row says, in these folders; a run that doesn't verify takes it to
+abbrev pub finds_in : Roots → Contents → Text → Held → Bool
+finds_in roots m target row = cond roots.verify (has_output (fin.get m (full roots.to target)) row.output) true
+
+-- the run over an application of these classes, which finds these folders
+abbrev pub run_over : Roots → Ruled → Contents → List Scanned → Run
+run_over roots r m classes = record {
   from = roots.from;
   to = roots.to;
   ledger = roots.ledger;
@@ -74,14 +80,16 @@ run_over roots r classes = record {
   target = target r.rules;
   whole = is_whole r.rules;
   image = image_in r.rules (defined_in classes);
+  verify = roots.verify;
+  finds = finds_in roots m;
 }
 
--- the run over these files
-abbrev pub run_of : Roots → Ruled → List File → Run
-run_of roots r files = run_over roots r (classes_of r.rules files)
+-- the run over the files below its root
+abbrev pub run_of : Roots → Ruled → Contents → Run
+run_of roots r m = run_over roots r m (classes_of r.rules (files_below roots.from m))
 
 abbrev pub run_by_rules : Contents → Roots → Result Ruled Status → Result Run Status
-run_by_rules m roots (Ok r) = Ok (run_of roots r (files_below roots.from m))
+run_by_rules m roots (Ok r) = Ok (run_of roots r m)
 run_by_rules m roots (Err status) = Err status
 
 abbrev pub run_by_roots : Contents → Result Roots Status → Result Run Status

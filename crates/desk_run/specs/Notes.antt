@@ -12,6 +12,7 @@ use Rattle.desk_file.specs.Routes.{IsRouteBy, route_of}
 use Rattle.desk_file.specs.Treatments.{is_copy}
 use Rattle.desk_file.specs.declared.routes.Route.{Route}
 use Rattle.desk_folders.specs.Contents.{File}
+use Rattle.desk_ledger.specs.declared.keeper.Held.{Held}
 use Rattle.desk_ledger.specs.Digests.{digest}
 use Rattle.desk_ledger.specs.Ledger.{Rows}
 use Rattle.desk_rules.specs.Rules.{Rules}
@@ -21,12 +22,13 @@ use Rattle.desk_run.specs.Runs.{is_kept}
 abbrev pub way_by : Bool → Bool → Bool → Way
 way_by kept whole found = cond kept Keep (cond whole (Migrate found) (Copy found))
 
--- by the rows of the ledger
-abbrev pub way_of : Rows → Measured → Way
-way_of rows file = way_by (is_kept (fin.get rows file.route.target) file.route.path file.digest.0) (not (is_copy file.route.treatment)) (is_some (fin.get rows file.route.target))
+-- by the rows of the ledger, and whether a target is found as its row says
+abbrev pub way_of : (Text → Held → Bool) → Rows → Measured → Way
+way_of finds rows file =
+    way_by (is_kept (finds file.route.target) (fin.get rows file.route.target) file.route.path file.digest.0) (not (is_copy file.route.treatment)) (is_some (fin.get rows file.route.target))
 
-abbrev pub noted_by : Rows → Measured → Noted
-noted_by rows file = record { route = file.route; size = file.size; digest = file.digest; way = way_of rows file }
+abbrev pub noted_by : (Text → Held → Bool) → Rows → Measured → Noted
+noted_by finds rows file = record { route = file.route; size = file.size; digest = file.digest; way = way_of finds rows file }
 
 -- what the first reading found of a file that was noted
 abbrev pub measured_in : Noted → Measured

@@ -15,7 +15,7 @@ ghost use Rattle.desk_report.specs.declared.status.Status.TheVariants.{Done};
 ghost use Rattle.desk_run.specs.Answers.{first_answer, names_answer, other_run};
 ghost use Rattle.desk_run.specs.Endings.{Committed, HasCauses, HasGathered, IsSilent, IsTold, IsWritten, Named, Reported, ReportedOf, StandsAfter, Tells, WhereTold, is_final};
 ghost use Rattle.desk_run.specs.Halts.{HaltsPlan, NamedAtPlan};
-ghost use Rattle.desk_run.specs.Meaning.{run_of_asked};
+ghost use Rattle.desk_run.specs.Meaning.{finds_in, run_of_asked};
 ghost use Rattle.desk_run.specs.Named.{asked_roots};
 ghost use Rattle.desk_run.specs.Notes.{IsRelativeRoute, measured_in, noted_by};
 ghost use Rattle.desk_run.specs.Reports.{ending_by, report_by, summary_by, summary_of};
@@ -30,7 +30,7 @@ use crate::opening::open_ledger;
 use crate::planning::plan_files;
 use crate::report::{has_refused, summary_of, write_report};
 use crate::stops::{Halt, status_of_halt, status_of_stop};
-use desk_base::{Memory, Text};
+use desk_base::Memory;
 use desk_batches::{Noted, Notes, Outcome, Stopped, write_all};
 use desk_folders::Folders;
 use desk_graph::ClassGraph;
@@ -50,34 +50,38 @@ pub struct Prepared<'r> {
 }
 
 /// Looks at the names of the classes, opens the ledger and looks up what is to be done with each file.
-fn plan<'r, K: Keeper>(
+fn plan<'r, F: Folders, K: Keeper>(
     alloc: Global,
+    folders: &mut F,
     keeper: &mut K,
-    ledger: &Text,
+    names: &Roots,
     header: &Header,
     rules: &'r RuleSet,
     notes: Notes,
 ) -> Result<Prepared<'r>, Halt>
+    requires roots { AreRoots names.now }
     requires few { length notes.scanned.items < 2 ^ 32 }
     requires relative { All (λ file. IsRelativeRoute file.route) notes.files.items }
     requires within { All IsWithin notes.files.items }
     ensures graph { IfOk result (λ p. p.graph ≡ graph_of rules.entry.now.renames notes.scanned.items) }
-    ensures noted { IfOk result (λ p. IfSome (K.told keeper.old) (λ l. p.noted.items ≡ map (noted_by l.rows) notes.files.items)) }
+    ensures told { F.told folders.new ≡ F.told folders.old }
+    ensures noted { IfOk result (λ p. WhereTold (F.told folders.old) (K.told keeper.old) (λ m l. p.noted.items ≡ map (noted_by (finds_in names.now m) l.rows) notes.files.items)) }
     ensures sound { IfOk result (λ p. All IsSound p.noted.items) }
     ensures measured { IfOk result (λ p. map measured_in p.noted.items ≡ notes.files.items) }
     ensures ledger { OnOk result (K.told keeper.new ≡ option_map (with_header header.now) (K.told keeper.old)) }
     ensures ours { OnOk result (IfSome (K.told keeper.old) (λ l. IsOurs header.now l.header)) }
     ensures other { OnOk result (IfSome (K.told keeper.old) (λ l. other_run header.now l.header ≡ None)) }
-    ensures attached { OnOk result (K.attached keeper.new ≡ Some ledger.now) }
+    ensures attached { OnOk result (K.attached keeper.new ≡ Some names.now.ledger) }
     ensures clear { OnOk result (names_answer (cls rules.entry.now.renames) notes.scanned.items ≡ None) }
-    ensures named { IfErr result (NamedAtPlan (K.attached keeper.old) (K.attached keeper.new) ledger.now) }
-    ensures err { IfErr result (HaltsPlan (names_answer (cls rules.entry.now.renames) notes.scanned.items) header.now (K.told keeper.old) (K.told keeper.new) (K.faults keeper.old) (K.faults keeper.new)) }
+    ensures named { IfErr result (NamedAtPlan (K.attached keeper.old) (K.attached keeper.new) names.now.ledger) }
+    ensures err { IfErr result (HaltsPlan (names_answer (cls rules.entry.now.renames) notes.scanned.items) header.now (K.told keeper.old) (K.told keeper.new) (F.faults folders.old) (F.faults folders.new) (K.faults keeper.old) (K.faults keeper.new)) }
+    ensures counts_f { F.faults folders.old ≤ F.faults folders.new }
     ensures counts { K.faults keeper.old ≤ K.faults keeper.new }
 {
     let Notes { files, scanned } = notes;
     let graph = build_graph(alloc, rules, scanned)?;
-    open_ledger(keeper, ledger, header)?;
-    let noted = plan_files(alloc, keeper, files)?;
+    open_ledger(keeper, &names.ledger, header)?;
+    let noted = plan_files(alloc, folders, keeper, names, files)?;
     Ok(Prepared { graph, noted })
 }
 
@@ -191,8 +195,9 @@ fn write_gathered<R: Threads + Sync, F: Folders, K: Keeper, G: Gate + Sync>(
     } = gathered;
     let Prepared { graph, noted } = match plan(
         alloc,
+        folders,
         keeper,
-        &names.ledger,
+        names,
         &header,
         &ruled.rules,
         notes,

@@ -33,6 +33,7 @@ fn roots_in_memory(alloc: Global) -> Result<Roots, Memory>
         from,
         to,
         ledger,
+        verify: false,
     })
 }
 

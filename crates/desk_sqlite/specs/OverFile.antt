@@ -4,8 +4,9 @@ use Rattle.std.specs.FinMap as fin
 use Rattle.std.specs.Coded.{Coded, code_by, coded×, coded_list, coded_option, coded_bool, coded_ℕ}
 use Rattle.desk_base.specs.Names.{Text}
 use Rattle.desk_ledger.specs.declared.keeper.Row.{Row}
-use Rattle.desk_ledger.specs.Ledger.{Ledger, with_row}
-use Rattle.desk_ledger.specs.InMemory.{text_code, ledger_code}
+use Rattle.desk_ledger.specs.declared.keeper.Held.{Held}
+use Rattle.desk_ledger.specs.Ledger.{Ledger, held_in, row_at, with_row}
+use Rattle.desk_ledger.specs.InMemory.{text_code, held_code, ledger_code}
 
 -- the rows that wait to be written, and whether the target of one had a row already when it was put
 pub record WaitingRows : Type 0 where
@@ -24,8 +25,7 @@ pub record OverFile : Type 0 where
   pub faults : ℕ
 
 abbrev pub row_code : Coded Row
-row_code =
-    code_by (Text × (Text × Text)) (coded× text_code (coded× text_code text_code)) (λ r. (r.target, (r.source, r.digest.0))) (λ p. record { target = p.0; source = p.1.0; digest = record { 0 = p.1.1 } }) (λ _. refl)
+row_code = code_by (Text × Held) (coded× text_code held_code) (λ r. (r.target, held_in r)) (λ p. row_at p.0 p.1) (λ _. refl)
 
 abbrev pub waiting_code : Coded WaitingRows
 waiting_code = code_by (List Row × Bool) (coded× (coded_list row_code) coded_bool) (λ w. (w.rows, w.replaces)) (λ p. record { rows = p.0; replaces = p.1 }) (λ _. refl)

@@ -1,9 +1,10 @@
 //! The tables of a ledger: one holds the header, one the rows by their targets, and one notes the working folder of
-//! relative roots.
+//! relative roots. In format 1 the rows have no outputs; a ledger of that format is taken over when it is opened.
 
 ghost use Rattle.std.specs.Prelude.{◌≡◌, ◌≢◌, string_bytes, IfOk, OnOk};
-ghost use Rattle.sqlite.specs.Values.{bound};
-ghost use Rattle.desk_sqlite.specs.Statements.{insertion, values_in, verb};
+ghost use Rattle.sqlite.specs.Value.{owned};
+ghost use Rattle.sqlite.specs.Values.{bound, bound_value};
+ghost use Rattle.desk_sqlite.specs.Statements.{insertion, output_of, values_in, verb};
 
 use crate::database::Database;
 use crate::waiting::Waiting;
@@ -19,6 +20,10 @@ const HEADER: &str =
     "CREATE TABLE header (number INTEGER PRIMARY KEY, from_root BLOB NOT NULL, to_root BLOB NOT NULL, rules BLOB NOT NULL) STRICT";
 
 /// The table with the rows.
+const ROWS: &str =
+    "CREATE TABLE rows2 (target BLOB NOT NULL PRIMARY KEY, source BLOB NOT NULL, digest BLOB NOT NULL, output BLOB) STRICT";
+
+/// The table with the rows of format 1.
 const WRITTEN: &str =
     "CREATE TABLE written (target BLOB NOT NULL PRIMARY KEY, source BLOB NOT NULL, digest BLOB NOT NULL) STRICT";
 
@@ -29,7 +34,7 @@ fn make_all(database: &mut Database) -> Result<(), Refusal>
     ensures { OnOk result (database.new ≡ database.old) }
 {
     database.run(HEADER, &[])?;
-    database.run(WRITTEN, &[])?;
+    database.run(ROWS, &[])?;
     database.run(FOLDER, &[])
 }
 
@@ -42,13 +47,59 @@ fn make(database: &mut Database) -> Result<(), Refusal>
     database.end(made)
 }
 
+/// Makes the table of the rows from the one of format 1: each row without an output.
+fn move_rows(database: &mut Database) -> Result<(), Refusal>
+    ensures { OnOk result (database.new ≡ database.old) }
+{
+    database.run(ROWS, &[])?;
+    database.run(
+        "INSERT INTO rows2 SELECT target, source, digest, NULL FROM written",
+        &[],
+    )?;
+    database.run("DROP TABLE written", &[])
+}
+
+/// Makes the table of the working folder too, which the first ledgers lack.
+fn move_rows_and_make_folder(database: &mut Database) -> Result<(), Refusal>
+    ensures { OnOk result (database.new ≡ database.old) }
+{
+    move_rows(database)?;
+    database.run(FOLDER, &[])
+}
+
+/// Takes a ledger of format 1 over: all of it or nothing.
+fn take_over(database: &mut Database, has_folder: bool) -> Result<(), Refusal>
+    ensures { OnOk result (database.new ≡ database.old) }
+{
+    database.run("BEGIN", &[])?;
+    let moved = if has_folder {
+        move_rows(database)
+    } else {
+        move_rows_and_make_folder(database)
+    };
+    database.end(moved)
+}
+
 /// Whether this was made by the given statement.
 fn is_made_by(found: &Found, statement: &str) -> bool {
     matches!(found.get_ref(0), Ok(ValueRef::Text(text)) if text == statement.as_bytes())
 }
 
-/// Makes the tables in a database that holds nothing, and the one of the working folder where it lacks. One that
-/// holds anything but them is refused.
+/// Leaves the table of the rows as it is, or takes the one of format 1 over.
+fn settle_rows(database: &mut Database, found: &Found) -> Result<(), Refusal>
+    ensures { OnOk result (database.new ≡ database.old) }
+{
+    if is_made_by(found, ROWS) {
+        Ok(())
+    } else if is_made_by(found, WRITTEN) {
+        take_over(database, true)
+    } else {
+        Err(Refusal::Failed(Cause::Tables))
+    }
+}
+
+/// Makes the tables in a database that holds nothing, and takes one of format 1 over, in one transaction either way.
+/// One that holds any other tables is refused.
 pub(crate) fn make_tables(database: &mut Database) -> Result<(), Refusal>
     ensures { OnOk result (database.new ≡ database.old) }
 {
@@ -58,12 +109,11 @@ pub(crate) fn make_tables(database: &mut Database) -> Result<(), Refusal>
     match found.as_slice() {
         [] => make(database),
         [first, second] if is_made_by(first, HEADER) && is_made_by(second, WRITTEN) => {
-            database.run(FOLDER, &[])
+            take_over(database, false)
         }
-        [first, second, third]
-            if is_made_by(first, FOLDER)
-                && is_made_by(second, HEADER)
-                && is_made_by(third, WRITTEN) => Ok(()),
+        [first, second, third] if is_made_by(first, FOLDER) && is_made_by(second, HEADER) => {
+            settle_rows(database, third)
+        }
         _ => Err(Refusal::Failed(Cause::Tables)),
     }
 }
@@ -80,14 +130,27 @@ fn text_at(alloc: Global, found: &Found, column: usize) -> Result<Text, Refusal>
     Ok(Text::from_bytes(alloc, bytes_at(found, column)?)?)
 }
 
-fn digest_at(found: &Found, column: usize) -> Result<Digest, Refusal> {
-    let bytes = bytes_at(found, column)?;
+/// The digest that these bytes are.
+fn digest_in(bytes: &[u8]) -> Result<Digest, Refusal> {
     if bytes.len() != 32 {
         return Err(Refusal::Failed(Cause::Unsound));
     }
     let mut digest = [0; 32];
     digest.copy_from_slice(bytes);
     Ok(Digest(digest))
+}
+
+fn digest_at(found: &Found, column: usize) -> Result<Digest, Refusal> {
+    digest_in(bytes_at(found, column)?)
+}
+
+/// The digest in a column that may hold none.
+fn output_at(found: &Found, column: usize) -> Result<Option<Digest>, Refusal> {
+    match found.get_ref(column) {
+        Ok(ValueRef::Null) => Ok(None),
+        Ok(ValueRef::Blob(bytes)) => Ok(Some(digest_in(bytes)?)),
+        _ => Err(Refusal::Failed(Cause::Unsound)),
+    }
 }
 
 fn header_in(alloc: Global, found: &Found) -> Result<Header, Refusal> {
@@ -103,6 +166,7 @@ fn row_in(alloc: Global, found: &Found) -> Result<Row, Refusal> {
         target: text_at(alloc, found, 0)?,
         source: text_at(alloc, found, 1)?,
         digest: digest_at(found, 2)?,
+        output: output_at(found, 3)?,
     })
 }
 
@@ -135,7 +199,7 @@ fn take_row(alloc: Global, found: &Found, contents: &mut Contents) -> Result<(),
 fn read_rows(alloc: Global, database: &mut Database, contents: &mut Contents) -> Result<(), Refusal>
     ensures { OnOk result (database.new ≡ database.old) }
 {
-    for found in database.query("SELECT target, source, digest FROM written")? {
+    for found in database.query("SELECT target, source, digest, output FROM rows2")? {
         take_row(alloc, &found, contents)?;
     }
     Ok(())
@@ -214,11 +278,21 @@ fn insertion_of(alloc: Global, rows: usize, on_conflict: OnConflict) -> Result<S
 {
     let mut text = String::new(alloc);
     text.push_str(on_conflict.verb())?;
-    text.push_str(" INTO written VALUES (?, ?, ?)")?;
+    text.push_str(" INTO rows2 VALUES (?, ?, ?, ?)")?;
     for _further in 0..rows.saturating_sub(1) {
-        text.push_str(", (?, ?, ?)")?;
+        text.push_str(", (?, ?, ?, ?)")?;
     }
     Ok(text)
+}
+
+/// The value of a row's output: none where it has none.
+fn output_value(row: &Row) -> ValueRef<'_>
+    ensures { bound_value (owned result) ≡ output_of row.now.output }
+{
+    match &row.output {
+        Some(digest) => ValueRef::Blob(digest.0.as_slice()),
+        None => ValueRef::Null,
+    }
 }
 
 /// The values of rows, one behind the other.
@@ -230,6 +304,7 @@ fn values_of(alloc: Global, rows: &[Row]) -> Result<Vec<ValueRef<'_>>, AllocErro
         values.push(ValueRef::Blob(row.target.as_bytes()))?;
         values.push(ValueRef::Blob(row.source.as_bytes()))?;
         values.push(ValueRef::Blob(row.digest.0.as_slice()))?;
+        values.push(output_value(row))?;
     }
     Ok(values)
 }
@@ -262,7 +337,7 @@ fn remove(database: &mut Database, target: &Text) -> Result<(), Refusal>
     ensures { OnOk result (database.new ≡ database.old) }
 {
     database.run(
-        "DELETE FROM written WHERE target = ?1",
+        "DELETE FROM rows2 WHERE target = ?1",
         params![target.as_bytes()],
     )
 }

@@ -1,9 +1,9 @@
 -- What roots of words are: their segments are names, and what is written of them are roots and full paths.
-use Rattle.std.proofs.Common.{◌≡◌, ℕ, map, Bool, true, false, List, [], ◌∷◌, ◌++◌, Option, Some, None, refl, sym, ap, ◌∙◌, subst, cond, arith}
+use Rattle.std.proofs.Common.{◌≡◌, ℕ, Bool, true, false, List, [], ◌∷◌, ◌++◌, Option, Some, None, refl, sym, ap, ◌∙◌, subst, cond, arith}
 use Rattle.std.specs.Prelude.{not, ◌&&◌, ◌||◌, ◌==◌, filter, codes, Ok, if◌then◌else◌}
 use Rattle.std.specs.List.{All, list_all, list_any, onto_first}
 use Rattle.std.specs.Option.{option_and_then}
-use Rattle.std.specs.Str.{bytes_eq, is_utf8}
+use Rattle.std.specs.Str.{bytes_eq}
 use Rattle.std.proofs.lemmas.Bool.{and_parts, and_from, not-true, eq-eqb}
 use Rattle.std.proofs.lemmas.List.Elements.{All-nil, All-cons}
 use Rattle.std.proofs.lemmas.List.Splits.{slice_split_none, slice_split_at}
@@ -17,12 +17,11 @@ use Rattle.desk_options.specs.declared.values.GenerateValues.{GenerateValues}
 use Rattle.desk_options.specs.Values.{run_values, generate_values}
 use Rattle.desk_words.specs.Numbers.{workers_of, count_of}
 use Rattle.desk_words.specs.Words.{parts, is_upward, is_dropped, named_parts, is_value, is_absolute, root_of, written as written_of, run_of, run_task, generate_of, generate_task, task_of}
-use Rattle.desk_words.specs.declared.roots.Roots.{Roots}
 use Rattle.desk_words.specs.Words.{overlap, first_nested}
 use Rattle.desk_words.specs.declared.roots.Order.{Order}
 use Rattle.desk_words.specs.declared.roots.Order.TheVariants as order
 use Rattle.desk_words.specs.Roots.{order_apart, order_of_task, order_of_words}
-use Rattle.desk_words.specs.Roots.{AreRoots, AreWorkers, IsSound}
+use Rattle.desk_words.specs.Roots.{AreWorkers, IsSound}
 use Rattle.desk_words.proofs.Digits.{number_bounds}
 use Rattle.desk_words.proofs.Apart.{is_named, before, full_relative, full_absolute, roots_apart as apart_roots}
 
@@ -128,8 +127,9 @@ pub record AreNamed (task : Task) : Type 0 where
   pub to : Root
   pub ledger : Root
   pub workers : ℕ
+  pub verify : Bool
   pub are_workers : AreWorkers workers
-  pub is : task ≡ Run rules from to ledger workers
+  pub is : task ≡ Run rules from to ledger workers verify
   pub rules_named : list_all is_named rules.segments ≡ true
   pub from_named : list_all is_named from.segments ≡ true
   pub to_named : list_all is_named to.segments ≡ true
@@ -139,28 +139,29 @@ some_workers : (value : Option Text) (n : ℕ) → workers_of value ≡ Some n �
 some_workers None n e = let h : 1 ≡ n = cc in subst AreWorkers h (record { some = omega arith; most = omega arith })
 some_workers (Some text) n e = let p = number_bounds 64 text n e in record { some = p.0; most = p.1 }
 
-named_by : (r a b l : Text) (w : Option Text) (or oa ob ol : Option Root) (ow : Option ℕ) (task : Task) → root_of r ≡ or → root_of a ≡ oa → root_of b ≡ ob → workers_of w ≡ ow → run_of or oa ob ol ow ≡ Some task → AreNamed task
-named_by r a b l w (Some rules) (Some from) (Some to) (Some ledger) (Some workers) task er ea eb ew e = record {
+named_by : (r a b l : Text) (w : Option Text) (or oa ob ol : Option Root) (ow : Option ℕ) (v : Bool) (task : Task) → root_of r ≡ or → root_of a ≡ oa → root_of b ≡ ob → workers_of w ≡ ow → run_of or oa ob ol ow v ≡ Some task → AreNamed task
+named_by r a b l w (Some rules) (Some from) (Some to) (Some ledger) (Some workers) v task er ea eb ew e = record {
   rules = rules;
   from = from;
   to = to;
   ledger = ledger;
   workers = workers;
+  verify = v;
   are_workers = some_workers w workers ew;
-  is = let h : Run rules from to ledger workers ≡ task = cc in sym h;
+  is = let h : Run rules from to ledger workers v ≡ task = cc in sym h;
   rules_named = root_named r rules er;
   from_named = root_named a from ea;
   to_named = root_named b to eb;
 }
-named_by r a b l w None oa ob ol ow task er ea eb ew e = cc
-named_by r a b l w (Some rules) None ob ol ow task er ea eb ew e = cc
-named_by r a b l w (Some rules) (Some from) None ol ow task er ea eb ew e = cc
-named_by r a b l w (Some rules) (Some from) (Some to) None ow task er ea eb ew e = cc
-named_by r a b l w (Some rules) (Some from) (Some to) (Some ledger) None task er ea eb ew e = cc
+named_by r a b l w None oa ob ol ow v task er ea eb ew e = cc
+named_by r a b l w (Some rules) None ob ol ow v task er ea eb ew e = cc
+named_by r a b l w (Some rules) (Some from) None ol ow v task er ea eb ew e = cc
+named_by r a b l w (Some rules) (Some from) (Some to) None ow v task er ea eb ew e = cc
+named_by r a b l w (Some rules) (Some from) (Some to) (Some ledger) None v task er ea eb ew e = cc
 
 run_named : (o : Option RunValues) (task : Task) → option_and_then run_task o ≡ Some task → AreNamed task
 run_named None task e = cc
-run_named (Some values) task e = named_by values.rules values.from values.to values.ledger values.workers _ _ _ _ _ task refl refl refl refl e
+run_named (Some values) task e = named_by values.rules values.from values.to values.ledger values.workers _ _ _ _ _ values.verify task refl refl refl refl e
 
 -- the roots that `generate` has are none of words
 pub data Named (task : Task) : Type 0 where
@@ -188,11 +189,11 @@ if_some_no : {X : Type 0} (b : Bool) (x : X) (o : Option X) → (if b then Some 
 if_some_no true x o e = cc
 if_some_no false x o e = (refl, e)
 
-roots_by : (rules from to ledger : Root) (workers : ℕ) (given : Order) (o : Option (Root × Root)) → first_nested rules from to ledger ≡ o → list_all is_named rules.segments ≡ true → list_all is_named from.segments ≡ true
-    → list_all is_named to.segments ≡ true → AreWorkers workers → order_apart rules from to ledger workers o ≡ Ok given → IsSound given
-roots_by rules from to ledger workers given (Some pair) n fr ff ft w e = cc
-roots_by rules from to ledger workers given None n fr ff ft w e =
-    let is : order.Run (record { rules = written_of rules; from = written_of from; to = written_of to; ledger = written_of ledger }) workers ≡ given = cc in
+roots_by : (rules from to ledger : Root) (workers : ℕ) (verify : Bool) (given : Order) (o : Option (Root × Root)) → first_nested rules from to ledger ≡ o → list_all is_named rules.segments ≡ true → list_all is_named from.segments ≡ true
+    → list_all is_named to.segments ≡ true → AreWorkers workers → order_apart rules from to ledger workers verify o ≡ Ok given → IsSound given
+roots_by rules from to ledger workers verify given (Some pair) n fr ff ft w e = cc
+roots_by rules from to ledger workers verify given None n fr ff ft w e =
+    let is : order.Run (record { rules = written_of rules; from = written_of from; to = written_of to; ledger = written_of ledger; verify = verify }) workers ≡ given = cc in
     let not_from = if_some_no (overlap from to) _ _ n in
     subst IsSound is (
       record {
@@ -212,7 +213,7 @@ order_is_sound words given e = by (task_of words) refl e where
   by None f g = cc
   by (Some task) f g = with_order (task_named words task f) where
     with_order : Named task → IsSound given
-    with_order (of_run n) = roots_by n.rules n.from n.to n.ledger n.workers given (first_nested n.rules n.from n.to n.ledger) refl n.rules_named n.from_named n.to_named n.are_workers (ap (λ (t : Task). order_of_task (Some t)) (sym n.is) ∙ g)
+    with_order (of_run n) = roots_by n.rules n.from n.to n.ledger n.workers n.verify given (first_nested n.rules n.from n.to n.ledger) refl n.rules_named n.from_named n.to_named n.are_workers (ap (λ (t : Task). order_of_task (Some t)) (sym n.is) ∙ g)
     with_order (of_generate count workers are is) =
         let h : order_of_task (Some (Generate count workers)) ≡ Ok given = ap (λ (t : Task). order_of_task (Some t)) (sym is) ∙ g in
         let k : order.Generate count workers ≡ given = cc in

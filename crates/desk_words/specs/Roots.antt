@@ -1,5 +1,5 @@
 -- What words ask for, with the roots of a run as they are written, or the fault that stands against them; and what is known of such roots.
-use Rattle.std.specs.Prelude.{◌≡◌, ◌≢◌, ◌<◌, ◌≤◌, ℕ, true, List, Option, Some, None, Result, Ok, Err}
+use Rattle.std.specs.Prelude.{◌≡◌, ◌≢◌, ◌<◌, ◌≤◌, ℕ, Bool, true, List, Option, Some, None, Result, Ok, Err}
 use Rattle.desk_base.specs.Names.{Text}
 use Rattle.desk_base.specs.Paths.{is_root, is_relative_path, is_full_path, full}
 use Rattle.desk_words.specs.declared.roots.Root.{Root}
@@ -17,13 +17,13 @@ abbrev pub nested_fault : Root × Root → RootsFault
 nested_fault pair = Nested (written pair.0) (written pair.1)
 
 -- a run over the written roots, where none lies in another that it may not lie in
-abbrev pub order_apart : Root → Root → Root → Root → ℕ → Option (Root × Root) → Result Order RootsFault
-order_apart rules from to ledger workers None = Ok (order.Run (record { rules = written rules; from = written from; to = written to; ledger = written ledger }) workers)
-order_apart rules from to ledger workers (Some pair) = Err (nested_fault pair)
+abbrev pub order_apart : Root → Root → Root → Root → ℕ → Bool → Option (Root × Root) → Result Order RootsFault
+order_apart rules from to ledger workers verify None = Ok (order.Run (record { rules = written rules; from = written from; to = written to; ledger = written ledger; verify = verify }) workers)
+order_apart rules from to ledger workers verify (Some pair) = Err (nested_fault pair)
 
 abbrev pub order_of_task : Option Task → Result Order RootsFault
 order_of_task None = Err Usage
-order_of_task (Some (Run rules from to ledger workers)) = order_apart rules from to ledger workers (first_nested rules from to ledger)
+order_of_task (Some (Run rules from to ledger workers verify)) = order_apart rules from to ledger workers verify (first_nested rules from to ledger)
 order_of_task (Some (Generate count workers)) = Ok (order.Generate count workers)
 
 -- what words ask for

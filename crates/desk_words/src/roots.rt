@@ -128,7 +128,7 @@ fn joined_behind(text: Text, segments: &[Text]) -> Result<Text, Memory>
     Ok(text)
 }
 
-/// The roots of a run as they are written.
+/// The roots of a run as they are written, and how it looks at what it finds there.
 ///
 /// A root is `.`, `/`, or its segments joined by `/`.
 #[derive(Debug, Drop)]
@@ -137,6 +137,8 @@ pub struct Roots {
     pub from: Text,
     pub to: Text,
     pub ledger: Text,
+    /// Whether the run looks at the targets of the files that it would keep.
+    pub verify: bool,
 }
 
 /// What words ask for.
@@ -211,8 +213,9 @@ fn written_roots(
     from: &Root,
     to: &Root,
     ledger: &Root,
+    verify: bool,
 ) -> Result<Roots, Memory>
-    ensures { IfOk result (λ roots. roots ≡ record { rules = written rules.now; from = written from.now; to = written to.now; ledger = written ledger.now }) }
+    ensures { IfOk result (λ roots. roots ≡ record { rules = written rules.now; from = written from.now; to = written to.now; ledger = written ledger.now; verify = verify }) }
 {
     let rules = rules.written(alloc)?;
     let from = from.written(alloc)?;
@@ -223,6 +226,7 @@ fn written_roots(
         from,
         to,
         ledger,
+        verify,
     })
 }
 
@@ -235,14 +239,15 @@ fn order_apart(
     to: &Root,
     ledger: &Root,
     workers: u32,
+    verify: bool,
 ) -> Result<Order, RootsFault>
-    ensures ok { IfOk result (λ order. order_apart rules.now from.now to.now ledger.now workers (first_nested rules.now from.now to.now ledger.now) ≡ Ok order) }
-    ensures err { IfErr result (RefusedBy (order_apart rules.now from.now to.now ledger.now workers (first_nested rules.now from.now to.now ledger.now))) }
+    ensures ok { IfOk result (λ order. order_apart rules.now from.now to.now ledger.now workers verify (first_nested rules.now from.now to.now ledger.now) ≡ Ok order) }
+    ensures err { IfErr result (RefusedBy (order_apart rules.now from.now to.now ledger.now workers verify (first_nested rules.now from.now to.now ledger.now))) }
 {
     match first_nested(alloc, rules, from, to, ledger)? {
         Some(fault) => Err(fault),
         None => {
-            let roots = written_roots(alloc, rules, from, to, ledger)?;
+            let roots = written_roots(alloc, rules, from, to, ledger, verify)?;
             Ok(Order::Run { roots, workers })
         }
     }
@@ -261,8 +266,9 @@ fn order_of(alloc: Global, words: &[Text]) -> Result<Order, RootsFault>
                 to,
                 ledger,
                 workers,
+                verify,
             },
-        ) => order_apart(alloc, &rules, &from, &to, &ledger, workers),
+        ) => order_apart(alloc, &rules, &from, &to, &ledger, workers, verify),
         Ok(Task::Generate { count, workers }) => Ok(Order::Generate { count, workers }),
         Err(WordsFault::Usage) => Err(RootsFault::Usage),
         Err(WordsFault::Memory) => Err(RootsFault::Memory),

@@ -21,6 +21,8 @@ pub enum Task {
         to: Root,
         ledger: Root,
         workers: u32,
+        /// Whether the run looks at the targets of the files that it would keep.
+        verify: bool,
     },
     /// A run over a generated application of so many classes.
     Generate {
@@ -63,6 +65,7 @@ fn run_task(alloc: Global, values: &RunValues) -> Result<Option<Task>, Memory>
             to,
             ledger,
             workers,
+            verify: values.verify,
         })),
         _ => Ok(None),
     }
@@ -117,9 +120,9 @@ fn task_of(alloc: Global, words: &[Text]) -> Result<Option<Task>, Memory>
 }
 
 /// Reads words: `run`, and behind it the options `--rules R`, `--from A`, `--to B`, `--ledger L` and, if
-/// it is wanted, `--workers N`, in any order; or `generate`, and behind it `--count N` and, if it is
-/// wanted, `--workers N`. An option is two words, `--name value`, whose second doesn't
-/// begin with `-`, or one word, `--name=value`. Each is given at most once.
+/// they are wanted, `--workers N` and `--verify`, in any order; or `generate`, and behind it `--count N` and, if
+/// it is wanted, `--workers N`. An option with a value is two words, `--name value`, whose second doesn't
+/// begin with `-`, or one word, `--name=value`; `--verify` has no value. Each is given at most once.
 ///
 /// A root isn't empty, has at most 1,024 bytes and no part `..`. The number of workers is 1 to 64, and 1
 /// where it isn't given; the count is 1 to 20,000. Numbers are decimal digits without a sign or a leading

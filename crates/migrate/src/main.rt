@@ -12,14 +12,14 @@ mod streams;
 mod telling;
 
 use after::tell_end;
-use before::nested_on_disk;
+use before::guarded;
 use desk_base::{Memory, Text};
 use desk_folders::DiskFolders;
 use desk_notes::Overheard;
 use desk_report::{Status, StdSink, write_fault};
 use desk_run::{FreeGate, desk};
 use desk_sqlite::SqliteKeeper;
-use desk_words::{Order, Roots, read_order};
+use desk_words::{Order, Roots, RootsFault, read_order};
 use std::alloc::Global;
 use std::io::ErrorKind;
 use std::process::ExitCode;
@@ -72,10 +72,11 @@ fn unread(kind: ErrorKind) -> Status
 }
 
 /// The roots of words that ask for a run.
-fn roots_of(alloc: Global, words: &[Text]) -> Option<Roots> {
+fn roots_of(alloc: Global, words: &[Text]) -> Result<Option<Roots>, Memory> {
     match read_order(alloc, words) {
-        Ok(Order::Run { roots, .. }) => Some(roots),
-        _ => None,
+        Ok(Order::Run { roots, .. }) => Ok(Some(roots)),
+        Err(RootsFault::Memory) => Err(Memory),
+        _ => Ok(None),
     }
 }
 
@@ -90,13 +91,10 @@ fn follow<R: Threads + Sync>(
     let mut folders = DiskFolders::new(rt);
     let mut keeper = SqliteKeeper::new(rt);
     if let Some(roots) = roots {
-        if let Some(status) = nested_on_disk(rt, roots) {
+        if let Some(status) = guarded(rt, roots, &mut folders) {
             let _ = write_fault(&status, &mut out);
             tell_end(rt, words, &status, &folders, &keeper, &out.notes, None);
             return status;
-        }
-        if let Ok(target) = roots.to.clone() {
-            folders.keep_within(target);
         }
         folders.show_progress();
     }
@@ -123,18 +121,21 @@ fn follow<R: Threads + Sync>(
     status
 }
 
+/// Ends where there is no task yet.
+fn end_without_task(rt: &HostRuntime, status: Status) -> Status {
+    let _ = write_fault(&status, &mut StdSink::new(rt));
+    tell_unread(rt, &status);
+    status
+}
+
 fn run<R: Threads + Sync>(rt: &HostRuntime, threads: &R) -> Status {
-    match read_words(rt) {
-        Ok(words) => {
-            let roots = roots_of(rt.alloc(), &words);
-            follow(rt, threads, &words, &roots)
-        }
-        Err(error) => {
-            let status = unread(error.kind());
-            let _ = write_fault(&status, &mut StdSink::new(rt));
-            tell_unread(rt, &status);
-            status
-        }
+    let words = match read_words(rt) {
+        Ok(words) => words,
+        Err(error) => return end_without_task(rt, unread(error.kind())),
+    };
+    match roots_of(rt.alloc(), &words) {
+        Ok(roots) => follow(rt, threads, &words, &roots),
+        Err(Memory) => end_without_task(rt, Status::Memory),
     }
 }
 

@@ -1,6 +1,6 @@
 //! The standard streams, where the program is started without them.
 
-ghost use Rattle.std.specs.Prelude.{◌≤◌, IfSome};
+ghost use Rattle.std.specs.Prelude.{◌≤ℤ◌, IfSome, pos};
 ghost use Rattle.std.specs.Fd.{file_raw_fd};
 
 use std::fs::File;
@@ -21,7 +21,7 @@ pub struct Streams {
 
 /// A folder, open to be read, at the least descriptor that is free, where that is one of a standard stream.
 fn in_place_of_stream(rt: &HostRuntime) -> Option<File>
-    ensures place { IfSome result (λ folder. file_raw_fd folder ≤ 2) }
+    ensures place { IfSome result (λ folder. file_raw_fd folder ≤ℤ pos 2) }
 {
     let folder = File::open(rt, "/").ok()?;
     if folder.as_raw_fd() <= GREATEST {

@@ -13,6 +13,37 @@ const WORDS: &[(&[&[u8]], &[u8])] = &[
     (&[b"run", b"--rules", b"-r"], b"`--rules` has no value"),
     (&[b"run", b"r"], b"`r` stands where an option is wanted"),
     (&[b"run", b"--form", b"a"], b"--form"),
+    (
+        &[b"run", b"--verify", b"yes"],
+        b"`yes` stands where an option is wanted",
+    ),
+    (
+        &[b"run", b"--rules", b"--verify"],
+        b"`--rules` has no value",
+    ),
+    (
+        &[
+            b"run",
+            b"--verify=yes",
+            b"--rules=r",
+            b"--from=a",
+            b"--to=b",
+            b"--ledger=l",
+        ],
+        b"unexpected value 'yes' for '--verify'",
+    ),
+    (
+        &[b"run", b"--verify", b"--verify"],
+        b"the argument '--verify' cannot be used multiple times",
+    ),
+    (
+        &[b"run", b"--verify", b"--rules=r", b"--from=a", b"--to=b"],
+        b"--ledger",
+    ),
+    (
+        &[b"generate", b"--count=5", b"--verify"],
+        b"unexpected argument '--verify'",
+    ),
     (&[b"run", b"--rules=r", b"--from=a", b"--to=b"], b"--ledger"),
     (
         &[

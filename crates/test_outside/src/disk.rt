@@ -228,3 +228,49 @@ fn a_folder_of_the_target_that_is_a_link_is_a_fault(rt: HostRuntime) -> Result<(
     assert_eq!(rt; place.refused(b"root/d/new")?, None);
     place.remove(&rt)
 }
+
+/// How many bytes stand at names: none where nothing is, or a link.
+const SIZES: &[(&[u8], Option<u64>)] = &[
+    (b"long", Some(9)),
+    (b"empty", Some(0)),
+    (b"missing", None),
+    (b"no/folder", None),
+    (b"long/below", None),
+    (b"link", None),
+    (b"lost", None),
+];
+
+#[test]
+fn what_is_missing_has_no_size_and_is_no_fault(rt: HostRuntime) -> Result<(), Fail> {
+    let mut place = own_place(&rt, "sizes")?;
+    place.write(b"long", &[b"hello", b" you"])?;
+    place.write(b"empty", &[])?;
+    place.symlink(&rt, "long", b"link")?;
+    place.symlink(&rt, "nowhere", b"lost")?;
+    for (name, size) in SIZES {
+        assert_eq!(rt; place.size(name)?, Ok(*size));
+    }
+    assert!(rt; place.last_fault().is_none());
+    place.remove(&rt)
+}
+
+#[test]
+fn what_is_no_file_is_a_fault_in_place_of_a_size(rt: HostRuntime) -> Result<(), Fail> {
+    let mut place = own_place(&rt, "nosize")?;
+    place.write(b"other/file", &[b"x"])?;
+    place.write(b"to/a/file", &[b"x"])?;
+    place.symlink(&rt, "../other", b"to/link")?;
+    place.keep_within(b"to")?;
+    assert_eq!(rt; place.size(b"to/a")?, Err(FolderFault::Failed));
+    assert!(rt; place.fails_as(Tried::Reading, b"to/a", b"it is a folder")?);
+    assert_eq!(rt; place.size(b"to/link/file")?, Err(FolderFault::Failed));
+    assert!(rt;
+        place.fails_as(
+            Tried::Reading,
+            b"to/link/file",
+            b"it is a symbolic link, which isn't followed"
+        )?
+    );
+    assert_eq!(rt; place.size(b"to/a/file")?, Ok(Some(1)));
+    place.remove(&rt)
+}

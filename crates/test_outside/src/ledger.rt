@@ -3,7 +3,9 @@
 ghost use Rattle.std.specs.Prelude.{IfOk, IsSome};
 
 use desk_base::Text;
-use desk_ledger::{Digest, Digester, Header, Keeper, KeeperFault, MemoryKeeper, Row, digest_of};
+use desk_ledger::{
+    Digest, Digester, Header, Keeper, KeeperFault, MemoryKeeper, OldRow, Row, digest_of,
+};
 use std::alloc::Global;
 use std::test::Fail;
 
@@ -81,7 +83,10 @@ fn has(keeper: &mut MemoryKeeper, row: &Row) -> bool
 {
     match keeper.find(&row.target) {
         Ok(Some(kept)) => {
-            kept.target == row.target && kept.source == row.source && kept.digest == row.digest
+            kept.target == row.target
+                && kept.source == row.source
+                && kept.digest == row.digest
+                && kept.output == row.output
         }
         _ => false,
     }
@@ -92,6 +97,7 @@ fn row(alloc: Global, target: &[u8], source: &[u8], byte: u8) -> Result<Box<Row>
         target: Text::from_bytes(alloc, target)?,
         source: Text::from_bytes(alloc, source)?,
         digest: Digest([byte; 32]),
+        output: Some(Digest([byte ^ 255; 32])),
     };
     Ok(Box::new(alloc, row)?)
 }
@@ -240,5 +246,42 @@ fn a_mended_keeper_fails_no_more(rt: HostRuntime) -> Result<(), Fail> {
         three_calls(&mut keeper, &one, &header)?,
         [false, false, false]
     );
+    Ok(())
+}
+
+/// A row of format 1.
+fn old_row(alloc: Global, target: &[u8], source: &[u8], byte: u8) -> Result<OldRow, Fail> {
+    let target = Text::from_bytes(alloc, target)?;
+    let source = Text::from_bytes(alloc, source)?;
+    let digest = Digest([byte; 32]);
+    Ok(OldRow {
+        target,
+        source,
+        digest,
+    })
+}
+
+/// A row that was taken over from format 1.
+fn taken_over(alloc: Global, target: &[u8], source: &[u8], byte: u8) -> Result<Box<Row>, Fail> {
+    let mut row = row(alloc, target, source, byte)?;
+    row.output = None;
+    Ok(row)
+}
+
+#[test]
+fn rows_of_format_1_are_taken_over_without_output(rt: HostRuntime) -> Result<(), Fail> {
+    let alloc = rt.alloc();
+    let rows = vec![in alloc;
+        old_row(alloc, b"one", b"a", 1)?,
+        old_row(alloc, b"two", b"b", 2)?,
+        old_row(alloc, b"one", b"c", 3)?,
+    ]?;
+    let header = header(alloc)?;
+    let keeper = MemoryKeeper::from_format_1(alloc, Some(header.as_ref().clone()?), rows)?;
+    let mut keeper = Box::new(alloc, keeper)?;
+    keeper.attach(&Text::from_bytes(alloc, b"ledger")?)?;
+    assert!(rt; has(&mut keeper, taken_over(alloc, b"one", b"c", 3)?.as_ref()));
+    assert!(rt; has(&mut keeper, taken_over(alloc, b"two", b"b", 2)?.as_ref()));
+    assert!(rt; has_header(&mut keeper, &header));
     Ok(())
 }

@@ -5,7 +5,7 @@ ghost use Rattle.std.specs.Prelude.{◌≡◌, ◌≤◌, IfOk, IsTrue};
 
 use crate::place::holds;
 use desk_base::{Memory, Text};
-use desk_folders::{FolderFault, Folders, GenFile, MemoryFolders};
+use desk_folders::{FolderFault, Folders, GenFile, MemoryFolders, is_full};
 use std::alloc::Global;
 use std::test::Fail;
 
@@ -213,5 +213,44 @@ fn mended_folders_fail_no_more(rt: HostRuntime) -> Result<(), Fail> {
         [false, false, false, false]
     );
     assert_eq!(rt; folders.content(b"out/y"), Some(b"".as_slice()));
+    Ok(())
+}
+
+/// How many bytes stand at paths of the four files: none where there is no file.
+const SIZES: &[(&[u8], Option<u64>)] = &[
+    (b"in/a", Some(3)),
+    (b"in/b", None),
+    (b"in/b/c", Some(1)),
+    (b"in/b/d", None),
+    (b"out/new", Some(0)),
+];
+
+/// How many bytes stand at a path.
+fn size_of(
+    folders: &mut MemoryFolders,
+    alloc: Global,
+    path: &[u8],
+) -> Result<Result<Option<u64>, FolderFault>, Fail> {
+    let path = Text::from_bytes(alloc, path)?;
+    if !is_full(path.as_bytes()) {
+        return Err(Fail::from("no full path"));
+    }
+    Ok(folders.size(&path))
+}
+
+#[test]
+fn tells_sizes(rt: HostRuntime) -> Result<(), Fail> {
+    let alloc = rt.alloc();
+    let mut folders = four_files(alloc)?;
+    folders.create(&Text::from_bytes(alloc, b"out/new")?)?;
+    for (path, size) in SIZES {
+        assert_eq!(rt; size_of(&mut folders, alloc, path)?, Ok(*size));
+    }
+    folders.stop_at(6);
+    assert_eq!(rt;
+        size_of(&mut folders, alloc, b"in/a")?,
+        Err(FolderFault::Failed)
+    );
+    assert_eq!(rt; folders.content(b"in/a"), Some(b"345".as_slice()));
     Ok(())
 }

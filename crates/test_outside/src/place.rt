@@ -110,6 +110,15 @@ impl Place<'_> {
         Ok(self.part(name, 0, 9)?.err())
     }
 
+    /// How many bytes a file has, as the folders tell.
+    pub fn size(&mut self, name: &[u8]) -> Result<Result<Option<u64>, FolderFault>, Fail> {
+        let path = self.path(name)?;
+        if !is_full(path.as_bytes()) {
+            return Err(Fail::from("no full path"));
+        }
+        Ok(self.folders.size(&path))
+    }
+
     /// Whether a file has these bytes, as the system reads it.
     pub fn has(&self, rt: &HostRuntime, name: &[u8], bytes: &[u8]) -> Result<bool, Fail> {
         let path = self.path(name)?;

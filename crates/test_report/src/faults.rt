@@ -110,7 +110,7 @@ fn statuses_without_texts_are_told(rt: HostRuntime) -> Result<(), Fail> {
     let ledger = b"migrate: 12 ledger fault done=0\n";
     let output = b"migrate: 13 output fault\n";
     let usage =
-        b"migrate: 20 usage: migrate run --rules R --from A --to B --ledger L [--workers N] or migrate generate --count N [--workers N]\n";
+        b"migrate: 20 usage: migrate run --rules R --from A --to B --ledger L [--workers N] [--verify] or migrate generate --count N [--workers N]\n";
     assert!(rt; is_plain(alloc, Status::Done, 0, b"")?);
     assert!(rt; is_plain(alloc, Status::Refusals, 2, b"")?);
     assert!(rt; is_plain(alloc, Status::Memory, 10, memory)?);

@@ -81,6 +81,10 @@ impl Folders for Changing {
         }
     }
 
+    fn size(&mut self, path: &Text) -> Result<Option<u64>, FolderFault> {
+        self.files.size(path)
+    }
+
     fn create(&mut self, path: &Text) -> Result<(), FolderFault> {
         self.files.create(path)
     }

@@ -40,12 +40,10 @@ const TOTALS: &[&str] = &[
 
 /// The line at a place of the report of a run that keeps so many files, where a run that keeps none has this line.
 fn line_behind(done: usize, place: usize, line: &str) -> &str {
-    if place < done {
-        KEPT.get(place).copied().unwrap_or(line)
-    } else if place == KEPT.len() {
-        TOTALS.get(done).copied().unwrap_or(line)
-    } else {
-        line
+    match (KEPT.get(place), TOTALS.get(done)) {
+        (Some(kept), _) if place < done => *kept,
+        (None, Some(totals)) => *totals,
+        _ => line,
     }
 }
 

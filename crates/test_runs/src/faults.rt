@@ -7,7 +7,7 @@ use crate::unwritten::Unwritten;
 use std::test::Fail;
 
 /// Three files of one byte each.
-const THREE_FILES: &[(&[u8], &[u8])] = &[
+pub const THREE_FILES: &[(&[u8], &[u8])] = &[
     (b"r/renames.properties", BELOW),
     (b"in/a", b"1"),
     (b"in/b", b"2"),

@@ -84,17 +84,22 @@ pub fn folders_with(
     Ok(Box::new(alloc, folders)?)
 }
 
+/// Files of these paths and contents.
+pub fn files_of(alloc: Global, rows: &[(&[u8], &[u8])]) -> Result<Vec<GenFile>, Memory> {
+    let mut files = Vec::new(alloc);
+    for (path, content) in rows {
+        files.push(file_of(alloc, path, content)?)?;
+    }
+    Ok(files)
+}
+
 /// Folders with files of these paths and contents, of which these calls fail.
 pub fn folders_of(
     alloc: Global,
     rows: &[(&[u8], &[u8])],
     failing: &[u64],
 ) -> Result<Box<MemoryFolders>, Fail> {
-    let mut files = Vec::new(alloc);
-    for (path, content) in rows {
-        files.push(file_of(alloc, path, content)?)?;
-    }
-    folders_with(alloc, files, failing)
+    folders_with(alloc, files_of(alloc, rows)?, failing)
 }
 
 /// An empty ledger, of which these calls fail.
@@ -180,7 +185,7 @@ pub fn row_of(
 }
 
 /// The header of the ledger.
-fn header_of(alloc: Global, keeper: &mut MemoryKeeper) -> Result<Header, Fail> {
+pub fn header_of(alloc: Global, keeper: &mut MemoryKeeper) -> Result<Header, Fail> {
     let name = Text::from_bytes(alloc, b"l")?;
     keeper.attach(&name)?;
     match keeper.header()? {

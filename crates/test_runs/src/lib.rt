@@ -31,4 +31,6 @@ mod statuses;
 #[cfg(test)]
 mod unwritten;
 #[cfg(test)]
+mod verify;
+#[cfg(test)]
 mod workers;

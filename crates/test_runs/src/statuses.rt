@@ -46,12 +46,12 @@ const BAD_WORDS: &[(&[&[u8]], u8, &str)] = &[
     (
         &[],
         20,
-        "migrate: 20 usage: migrate run --rules R --from A --to B --ledger L [--workers N] or migrate generate --count N [--workers N]\n",
+        "migrate: 20 usage: migrate run --rules R --from A --to B --ledger L [--workers N] [--verify] or migrate generate --count N [--workers N]\n",
     ),
     (
         &[b"run", b"--from", b"a"],
         20,
-        "migrate: 20 usage: migrate run --rules R --from A --to B --ledger L [--workers N] or migrate generate --count N [--workers N]\n",
+        "migrate: 20 usage: migrate run --rules R --from A --to B --ledger L [--workers N] [--verify] or migrate generate --count N [--workers N]\n",
     ),
     (
         &[
@@ -81,7 +81,7 @@ const BAD_WORDS: &[(&[&[u8]], u8, &str)] = &[
             b"l",
         ],
         20,
-        "migrate: 20 usage: migrate run --rules R --from A --to B --ledger L [--workers N] or migrate generate --count N [--workers N]\n",
+        "migrate: 20 usage: migrate run --rules R --from A --to B --ledger L [--workers N] [--verify] or migrate generate --count N [--workers N]\n",
     ),
 ];
 

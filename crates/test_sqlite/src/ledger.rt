@@ -71,7 +71,7 @@ fn set_header(keeper: &mut SqliteKeeper<'_>, header: &Header) -> Option<KeeperFa
 }
 
 /// Whether the keeper answers this header.
-fn has_header(keeper: &mut SqliteKeeper<'_>, header: &Header) -> bool
+pub(crate) fn has_header(keeper: &mut SqliteKeeper<'_>, header: &Header) -> bool
     requires { IsSome (attached_in keeper.old) }
     ensures { IsSome (attached_in keeper.new) }
 {
@@ -84,29 +84,31 @@ fn has_header(keeper: &mut SqliteKeeper<'_>, header: &Header) -> bool
 }
 
 /// Whether the keeper answers this row at its target.
-fn has(keeper: &mut SqliteKeeper<'_>, row: &Row) -> bool
+pub(crate) fn has(keeper: &mut SqliteKeeper<'_>, row: &Row) -> bool
     requires { IsSome (attached_in keeper.old) }
     ensures { IsSome (attached_in keeper.new) }
 {
     match keeper.find(&row.target) {
         Ok(Some(kept)) => kept.target == row.target
             && kept.source == row.source
-            && kept.digest == row.digest,
+            && kept.digest == row.digest
+            && kept.output == row.output,
         _ => false,
     }
 }
 
-fn row(alloc: Global, target: &[u8], source: &[u8], byte: u8) -> Result<Box<Row>, Fail> {
+pub(crate) fn row(alloc: Global, target: &[u8], source: &[u8], byte: u8) -> Result<Box<Row>, Fail> {
     let row = Row {
         target: Text::from_bytes(alloc, target)?,
         source: Text::from_bytes(alloc, source)?,
         digest: Digest([byte; 32]),
+        output: Some(Digest([byte ^ 255; 32])),
     };
     Ok(Box::new(alloc, row)?)
 }
 
 /// The header of a run from `in` to `out`.
-fn header(alloc: Global) -> Result<Box<Header>, Fail> {
+pub(crate) fn header(alloc: Global) -> Result<Box<Header>, Fail> {
     let header = Header {
         from: Text::from_bytes(alloc, b"in")?,
         to: Text::from_bytes(alloc, b"out")?,
@@ -242,7 +244,7 @@ fn a_database_with_other_tables_is_refused(rt: HostRuntime) -> Result<(), Fail> 
 const LARGE: usize = 5_000_000;
 
 /// Writes one row to the ledger at a path.
-fn write_one(rt: &HostRuntime, path: &Text, row: &Row) -> Result<(), Fail> {
+pub(crate) fn write_one(rt: &HostRuntime, path: &Text, row: &Row) -> Result<(), Fail> {
     let mut keeper = attached(rt, path)?;
     keeper.put(row.clone()?)?;
     keeper.commit()?;

@@ -2,6 +2,8 @@
 #![tactic(auto)]
 
 #[cfg(test)]
+mod format_1;
+#[cfg(test)]
 mod ledger;
 #[cfg(test)]
 mod long_names;

@@ -12,7 +12,7 @@ use std::thread::Threads;
 
 /// The line of words without a task.
 const USAGE: &[u8] =
-    b"migrate: 20 usage: migrate run --rules R --from A --to B --ledger L [--workers N] or migrate generate --count N [--workers N]\n";
+    b"migrate: 20 usage: migrate run --rules R --from A --to B --ledger L [--workers N] [--verify] or migrate generate --count N [--workers N]\n";
 
 /// The exit status and the bytes that the desk gives for a line of words, over empty folders and an empty ledger of which each first call fails, with
 /// room for so many bytes.

@@ -39,6 +39,42 @@ const ORDERS: &[(&[u8], &str)] = &[
     ),
 ];
 
+/// The option without a value, at each place.
+const VERIFY: &[(&[u8], &str)] = &[
+    (
+        b"run --verify --rules r --from in --to out --ledger l",
+        "r in out l 1 verify",
+    ),
+    (
+        b"run --rules r --verify --from in --to out --ledger l",
+        "r in out l 1 verify",
+    ),
+    (
+        b"run --rules=r --from=in --verify --to=out --ledger=l",
+        "r in out l 1 verify",
+    ),
+    (
+        b"run --rules r --from in --to out --ledger l --verify",
+        "r in out l 1 verify",
+    ),
+    (
+        b"run --rules r --from in --to out --ledger l --workers 4 --verify",
+        "r in out l 4 verify",
+    ),
+    (
+        b"run --verify --workers=64 --rules r --from in --to out --ledger l",
+        "r in out l 64 verify",
+    ),
+    (
+        b"run --rules=--verify --from in --to verify --ledger l",
+        "--verify in verify l 1",
+    ),
+    (
+        b"run --rules=--verify --verify --from in --to out --ledger l",
+        "--verify in out l 1 verify",
+    ),
+];
+
 /// Values that look like something else.
 const VALUES: &[(&[u8], &str)] = &[
     (
@@ -87,6 +123,11 @@ const GENERATE: &[(&[u8], &str)] = &[
 #[test]
 fn options_stand_in_any_order(rt: HostRuntime) -> Result<(), Fail> {
     expect_told(&rt, rt.alloc(), ORDERS)
+}
+
+#[test]
+fn a_run_verifies_where_the_word_stands(rt: HostRuntime) -> Result<(), Fail> {
+    expect_told(&rt, rt.alloc(), VERIFY)
 }
 
 #[test]

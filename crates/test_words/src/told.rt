@@ -23,17 +23,20 @@ fn push_root(alloc: Global, line: &mut Text, root: &Root) -> Result<(), Memory> 
     line.push(b' ')
 }
 
-/// A run's four roots and its number of workers.
-fn run_line(alloc: Global, roots: [&Root; 4], workers: u32) -> Result<Text, Memory> {
+/// A run's four roots and its number of workers, with `verify` behind them where it verifies.
+fn run_line(alloc: Global, roots: [&Root; 4], workers: u32, verify: bool) -> Result<Text, Memory> {
     let mut line = Text::empty(alloc);
     for root in roots {
         push_root(alloc, &mut line, root)?;
     }
     line.append(format!(in alloc; "{workers}")?.as_bytes())?;
+    if verify {
+        line.append(b" verify")?;
+    }
     Ok(line)
 }
 
-/// A task written out: `run` by its roots and the number of workers, `generate` by its two numbers.
+/// A task written out: `run` by its roots, the number of workers and whether it verifies, `generate` by its two numbers.
 fn line_of(alloc: Global, task: &Task) -> Result<Text, Memory> {
     match task {
         Task::Run {
@@ -42,7 +45,8 @@ fn line_of(alloc: Global, task: &Task) -> Result<Text, Memory> {
             to,
             ledger,
             workers,
-        } => run_line(alloc, [rules, from, to, ledger], *workers),
+            verify,
+        } => run_line(alloc, [rules, from, to, ledger], *workers, *verify),
         Task::Generate { count, workers } => {
             let line = format!(in alloc; "generate {count} {workers}")?;
             Text::from_bytes(alloc, line.as_bytes())

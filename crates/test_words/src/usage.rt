@@ -82,6 +82,36 @@ const NAMES: &[&[u8]] = &[
     b"generate --coun 1",
 ];
 
+/// The option without a value: twice, with a value, in another form, as a value, and behind `generate`.
+const VERIFY: &[&[u8]] = &[
+    b"run --rules r --from in --to out --ledger l --verify --verify",
+    b"run --verify --rules r --from in --to out --ledger l --verify",
+    b"run --rules r --from in --to out --ledger l --verify=",
+    b"run --rules r --from in --to out --ledger l --verify=x",
+    b"run --rules r --from in --to out --ledger l --verify=1",
+    b"run --rules r --from in --to out --ledger l --verify=true",
+    b"run --rules r --from in --to out --ledger l --verify --verify=true",
+    b"run --rules r --from in --to out --ledger l --verify x",
+    b"run --rules r --from in --to out --ledger l --verify true",
+    b"run --verify r --from in --to out --ledger l",
+    b"run --rules r --from in --to out --ledger l -verify",
+    b"run --rules r --from in --to out --ledger l ---verify",
+    b"run --rules r --from in --to out --ledger l --verif",
+    b"run --rules r --from in --to out --ledger l --verifying",
+    b"run --rules r --from in --to out --ledger l --Verify",
+    b"run --rules r --from in --to out --ledger l verify",
+    b"run --rules --verify --from in --to out --ledger l",
+    b"run --rules r --from in --to out --ledger --verify",
+    b"run --rules r --from in --to out --ledger l --workers --verify",
+    b"run --verify",
+    b"--verify run --rules r --from in --to out --ledger l",
+    b"verify --rules r --from in --to out --ledger l",
+    b"generate --count 1 --verify",
+    b"generate --verify --count 1",
+    b"generate --count --verify",
+    b"generate --count 1 --verify=x",
+];
+
 #[test]
 fn other_first_words_mean_no_task(rt: HostRuntime) -> Result<(), Fail> {
     expect_usage(&rt, rt.alloc(), FIRST)
@@ -95,6 +125,11 @@ fn missing_and_repeated_options_mean_no_task(rt: HostRuntime) -> Result<(), Fail
 #[test]
 fn other_names_mean_no_task(rt: HostRuntime) -> Result<(), Fail> {
     expect_usage(&rt, rt.alloc(), NAMES)
+}
+
+#[test]
+fn the_option_without_a_value_has_none_and_stands_once(rt: HostRuntime) -> Result<(), Fail> {
+    expect_usage(&rt, rt.alloc(), VERIFY)
 }
 
 #[test]

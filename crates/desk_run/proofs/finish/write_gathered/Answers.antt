@@ -15,14 +15,14 @@ write_and_commit-requires-clause-routes g c κs within =
 
 pub write_and_commit-requires-clause-notes : goal.write_and_commit-requires-clause-notes
 write_and_commit-requires-clause-notes g c κs within =
-    rw c.deref-3.ensures.value (gathered_notes c.args.names.now c.args.gathered c.in-Ok.prepared.noted.items (g.F.Folders.told c.args.folders.now) c.requires.gathered c.in-Ok.ensures.measured)
+    rw (c.deref-3.ensures.value, c.in-Ok.ensures.told) (gathered_notes c.args.names.now c.args.gathered c.in-Ok.prepared.noted.items (g.F.Folders.told c.args.folders.now) c.requires.gathered c.in-Ok.ensures.measured)
 
 pub returns-in-Err-clause-stopped : goal.returns-in-Err-clause-stopped
 returns-in-Err-clause-stopped g c = λ m l ef ek.
-    let halts : HaltsEarly (asked_roots c.args.names.now) (g.F.Folders.told c.args.folders.now) (g.K.Keeper.told c.args.keeper.now) (g.K.Keeper.told c.plan.new.keeper) 0 0 _ _ c.in-Err.halt
-    = plan_early c.args.names.now c.args.gathered _ _ _ 0 0 _ _ c.in-Err.halt c.requires.roots c.requires.gathered (rw c.deref.ensures at c.in-Err.ensures.err) in
-    let t = early_told (asked_roots c.args.names.now) (g.F.Folders.told c.args.folders.now) (g.F.Folders.told c.args.folders.now) _ _ m l _ _ _ _ c.in-Err.halt ef ek refl halts in
-    subst (λ s. Tells (g.F.Folders.told c.args.folders.now) (g.K.Keeper.told c.plan.new.keeper) (λ m' l'. StandsAfter (asked_roots c.args.names.now) m l m' l' s)) (sym c.status_of_halt.ensures) t
+    let halts : HaltsEarly (asked_roots c.args.names.now) (g.F.Folders.told c.args.folders.now) (g.K.Keeper.told c.args.keeper.now) (g.K.Keeper.told c.plan.new.keeper) _ _ _ _ c.in-Err.halt
+    = plan_early c.args.names.now c.args.gathered _ _ _ _ _ _ _ c.in-Err.halt c.requires.roots c.requires.gathered (rw c.deref.ensures at c.in-Err.ensures.err) in
+    let t = early_told (asked_roots c.args.names.now) (g.F.Folders.told c.args.folders.now) (g.F.Folders.told c.plan.new.folders) _ _ m l _ _ _ _ c.in-Err.halt ef ek c.in-Err.ensures.told halts in
+    subst (λ s. Tells (g.F.Folders.told c.plan.new.folders) (g.K.Keeper.told c.plan.new.keeper) (λ m' l'. StandsAfter (asked_roots c.args.names.now) m l m' l' s)) (sym c.status_of_halt.ensures) t
 
 pub returns-in-Ok-write_and_commit-clause-written : goal.returns-in-Ok-write_and_commit-clause-written
 returns-in-Ok-write_and_commit-clause-written g c =
@@ -30,7 +30,7 @@ returns-in-Ok-write_and_commit-clause-written g c =
     let w = c.in-Ok-write_and_commit.ensures in
     let plan = is_planned c.args.names.now c.args.gathered c.in-Ok.prepared.graph c.in-Ok.prepared.noted.items _ _ _ c.requires.roots c.requires.gathered (rw c.deref.ensures at p.graph) (rw c.deref.ensures at p.clear) p.noted p.ours p.other p.ledger in
     gathered_written c.args.names.now c.args.gathered c.in-Ok.prepared.graph.defined c.in-Ok.prepared.noted.items c.in-Ok-write_and_commit.outcomes.items _ _ _ _ _ plan
-    (rw (c.deref-3.ensures.value, c.deref-2.ensures) at w.folders) (rw (c.deref-3.ensures.value, c.deref-2.ensures) at w.ledger) (rw (c.deref-3.ensures.value, c.deref-2.ensures) at w.outcomes)
+    (rw (c.deref-3.ensures.value, c.deref-2.ensures, p.told) at w.folders) (rw (c.deref-3.ensures.value, c.deref-2.ensures, p.told) at w.ledger) (rw (c.deref-3.ensures.value, c.deref-2.ensures, p.told) at w.outcomes)
 
 pub returns-clause-stopped : goal.returns-clause-stopped
 returns-clause-stopped g c = λ m l ef ek.
@@ -38,5 +38,5 @@ returns-clause-stopped g c = λ m l ef ek.
     let w = c.in-Err-write_and_commit.ensures in
     let stopped = c.in-Err-write_and_commit.stopped in
     let plan = is_planned c.args.names.now c.args.gathered c.in-Ok.prepared.graph c.in-Ok.prepared.noted.items _ _ _ c.requires.roots c.requires.gathered (rw c.deref.ensures at p.graph) (rw c.deref.ensures at p.clear) p.noted p.ours p.other p.ledger in
-    let t = gathered_stopped c.args.names.now c.args.gathered c.in-Ok.prepared.graph.defined c.in-Ok.prepared.noted.items stopped.why stopped.done _ _ _ _ _ plan (rw (c.deref-3.ensures.value, c.deref-2.ensures) at w.err) m l ef ek in
+    let t = gathered_stopped c.args.names.now c.args.gathered c.in-Ok.prepared.graph.defined c.in-Ok.prepared.noted.items stopped.why stopped.done _ _ _ _ _ plan (rw (c.deref-3.ensures.value, c.deref-2.ensures, p.told) at w.err) m l ef ek in
     subst (λ s. Tells (g.F.Folders.told c.write_and_commit.new.folders) (g.K.Keeper.told c.write_and_commit.new.keeper) (λ m' l'. StandsAfter (asked_roots c.args.names.now) m l m' l' s)) (sym c.status_of_stop.ensures) t

@@ -1,11 +1,12 @@
 use Rattle.std.proofs.Common.{rules, ◌≡◌, ◌∙◌, ap, sym, map, map-id, length}
 use Rattle.std.proofs.lemmas.Iterator.Adapters.{YieldsList-from_vec}
 use Rattle.std.proofs.lemmas.Iterator.Consumers.{YieldsList-end, YieldsList-turn}
-use Rattle.desk_batches.proofs.Fronts.{all_pushed, at_some, if_some}
+use Rattle.desk_batches.proofs.Fronts.{all_pushed}
 use Rattle.desk_batches.specs.Notes.{IsSound}
 use Rattle.desk_batches.specs.Noting.{IsWithin}
 use Rattle.desk_batches.specs.declared.measured.Measured.{Measured}
 use Rattle.desk_batches.specs.declared.noted.Noted.{Noted}
+use Rattle.desk_run.specs.Meaning.{finds_in}
 use Rattle.desk_run.proofs.Parts.{item_at, mapped_more}
 use Rattle.desk_run.specs.Notes.{IsRelativeRoute, measured_in, noted_by}
 use Rattle.desk_run.proofs.planning.plan_files.Goals as goal
@@ -26,15 +27,17 @@ pub loop-file-preserved : goal.loop-file-preserved
 loop-file-preserved g c =
     let one = c.in_ok-plan_file.field-0 in
     record {
+      told_f = search rules;
       told = search rules;
       attached = search rules;
+      counts_f = search rules;
       counts = search rules;
       sound = all_pushed IsSound c.loop-file.noted.items c.push.new.self.items one c.loop-file.invariant.sound c.in_ok-plan_file.ensures.sound (search rules);
       measured = mapped_more measured_in (λ (file : Measured). file) c.loop-file.noted.items c.push.new.self.items one c.loop-file.yielded c.in-Some.file
           (c.loop-file.invariant.measured ∙ sym (map-id c.loop-file.yielded)) c.in_ok-plan_file.ensures.measured (search rules) ∙ map-id _;
-      rows = λ ledger e. sym (map-id c.push.new.self.items) ∙ mapped_more (λ (n : Noted). n) (noted_by ledger.rows) c.loop-file.noted.items c.push.new.self.items one c.loop-file.yielded c.in-Some.file
-          (map-id c.loop-file.noted.items ∙ c.loop-file.invariant.rows ledger e)
-          (at_some (λ l. one ≡ noted_by l.rows c.in-Some.file) (g.K.Keeper.told c.loop-file.keeper) ledger (c.loop-file.invariant.told ∙ e) c.in_ok-plan_file.ensures.noted)
+      rows = λ m ledger em e. sym (map-id c.push.new.self.items) ∙ mapped_more (λ (n : Noted). n) (noted_by (finds_in c.args.roots.now m) ledger.rows) c.loop-file.noted.items c.push.new.self.items one c.loop-file.yielded c.in-Some.file
+          (map-id c.loop-file.noted.items ∙ c.loop-file.invariant.rows m ledger em e)
+          (c.in_ok-plan_file.ensures.noted m ledger (c.loop-file.invariant.told_f ∙ em) (c.loop-file.invariant.told ∙ e))
           (search rules);
     }
 
@@ -42,7 +45,7 @@ pub returns-clause-noted : goal.returns-clause-noted
 returns-clause-noted g c =
     let road = YieldsList-from_vec {s = c.into_iter-file-iterator.result} c.args.files.items (cc) (cc) in
     let end = YieldsList-end road c.loop-file.yielded c.loop-file.file-iterator c.loop-file.yielded_by c.next.result c.next.new.self c.in-None.is c.next.ensures.steps in
-    if_some _ (g.K.Keeper.told c.args.keeper.now) (λ l e. c.loop-file.invariant.rows l e ∙ ap (map (noted_by l.rows)) (sym (map-id c.loop-file.yielded) ∙ end.0))
+    λ m l em e. c.loop-file.invariant.rows m l em e ∙ ap (map (noted_by (finds_in c.args.roots.now m) l.rows)) (sym (map-id c.loop-file.yielded) ∙ end.0)
 
 pub returns-clause-measured : goal.returns-clause-measured
 returns-clause-measured g c =

@@ -1,4 +1,4 @@
-use Rattle.std.proofs.Common.{◌≡◌, ℕ, Option, Some, None, Ok, sym, ap, ◌∙◌, option_map}
+use Rattle.std.proofs.Common.{◌≡◌, ℕ, Bool, Option, Some, None, Ok, sym, ap, ◌∙◌, option_map}
 use Rattle.desk_words.specs.declared.roots.Root.{Root}
 use Rattle.desk_words.specs.declared.roots.Roots.{Roots}
 use Rattle.desk_words.specs.declared.roots.Order.TheVariants as order
@@ -6,13 +6,13 @@ use Rattle.desk_words.specs.Words.{first_nested, written}
 use Rattle.desk_words.specs.Roots.{nested_fault, order_apart}
 use Rattle.desk_words.proofs.roots.order_apart.Goals as goal
 
-separate : (rules from to ledger : Root) (workers : ℕ) (o : Option (Root × Root)) (roots : Roots) → None ≡ option_map nested_fault o
-    → roots ≡ record { rules = written rules; from = written from; to = written to; ledger = written ledger } → order_apart rules from to ledger workers o ≡ Ok (order.Run roots workers)
-separate rules from to ledger workers None roots e f = ap (λ r. Ok (order.Run r workers)) (sym f)
-separate rules from to ledger workers (Some pair) roots e f = cc
+separate : (rules from to ledger : Root) (workers : ℕ) (verify : Bool) (o : Option (Root × Root)) (roots : Roots) → None ≡ option_map nested_fault o
+    → roots ≡ record { rules = written rules; from = written from; to = written to; ledger = written ledger; verify = verify } → order_apart rules from to ledger workers verify o ≡ Ok (order.Run roots workers)
+separate rules from to ledger workers verify None roots e f = ap (λ r. Ok (order.Run r workers)) (sym f)
+separate rules from to ledger workers verify (Some pair) roots e f = cc
 
 pub returns-in_ok-roots-in-None-clause-ok : goal.returns-in_ok-roots-in-None-clause-ok
 returns-in_ok-roots-in-None-clause-ok c =
     let o : Option (Root × Root) = first_nested c.args.rules.now c.args.from.now c.args.to.now c.args.ledger.now in
     let e : None ≡ option_map nested_fault o = sym c.in-None.is ∙ c.in_ok-fault.ensures in
-    separate c.args.rules.now c.args.from.now c.args.to.now c.args.ledger.now c.args.workers o _ e c.in_ok-roots-in-None.ensures
+    separate c.args.rules.now c.args.from.now c.args.to.now c.args.ledger.now c.args.workers c.args.verify o _ e c.in_ok-roots-in-None.ensures

@@ -13,5 +13,5 @@ returns-in_ok-grow-clause-err c =
 pub returns-in_err-grow-2-clause-err : goal.returns-in_err-grow-2-clause-err
 returns-in_err-grow-2-clause-err c = on_err _ (ChangesOnly-called c.args.path.now c.args.self.now c.call.new.self c.grow-2.new.self c.in_err-grow-2.ensures.err c.call.ensures.called)
 
-pub returns-else-not-stopped-clause-err : goal.returns-else-not-stopped-clause-err
-returns-else-not-stopped-clause-err c = ChangesOnly-called c.args.path.now c.args.self.now c.call.new.self c.call.new.self refl c.call.ensures.called
+pub returns-else-adds-clause-err : goal.returns-else-adds-clause-err
+returns-else-adds-clause-err c = ChangesOnly-called c.args.path.now c.args.self.now c.call.new.self c.call.new.self refl c.call.ensures.called
