@@ -5,8 +5,8 @@ use Rattle.desk_base.specs.Names.{Text}
 use Rattle.desk_ledger.specs.declared.keeper.Header.{Header}
 use Rattle.desk_properties.specs.declared.PropFault.{PropFault}
 use Rattle.desk_properties.specs.declared.PropFault.TheVariants.{NotUtf8, Escape}
-use Rattle.desk_rules.specs.declared.ChainKind.{ChainKind}
-use Rattle.desk_rules.specs.declared.ChainKind.TheVariants as chain
+use Rattle.desk_chains.specs.declared.ChainKind.{ChainKind}
+use Rattle.desk_chains.specs.declared.ChainKind.TheVariants as chain
 use Rattle.desk_rules.specs.declared.RuleFault.{RuleFault}
 use Rattle.desk_rules.specs.declared.RuleFault.TheVariants as rule
 use Rattle.desk_report.specs.declared.status.LimitKind.{LimitKind}

@@ -4,7 +4,7 @@ use Rattle.desk_base.specs.Names.{Text}
 use Rattle.desk_base.specs.Shown.{shown}
 use Rattle.desk_properties.specs.declared.PropFault.{PropFault}
 use Rattle.desk_properties.specs.declared.PropFault.TheVariants.{NotUtf8, Escape}
-use Rattle.desk_rules.specs.Settled.{chain_number}
+use Rattle.desk_chains.specs.Chains.{chain_number}
 use Rattle.desk_rules.specs.declared.RuleFault.{RuleFault}
 use Rattle.desk_rules.specs.declared.RuleFault.TheVariants.{NoRenames, Properties, BadKey, BadValue, MissingText, Chain}
 use Rattle.desk_report.specs.Joined.{joined, pair_pieces}

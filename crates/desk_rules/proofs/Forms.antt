@@ -1,16 +1,17 @@
 -- Images of names keep their form, and are their own images.
-use Rattle.std.proofs.Common.{◌≡◌, ℕ, Bool, true, false, cond, not, ◌&&◌, List, [], ◌∷◌, ◌++◌, length, drop, Option, Some, None, refl, sym, ap, ◌∙◌}
+use Rattle.std.proofs.Common.{◌≡◌, ℕ, Bool, true, false, cond, not, List, [], ◌∷◌, ◌++◌, length, drop, Option, Some, None, refl, sym, ap, ◌∙◌}
 use Rattle.std.specs.List.{list_all}
 use Rattle.std.proofs.lemmas.Bool.{and_parts, and_from}
 use Rattle.std.proofs.lemmas.List.Folds.{list_all-append}
 use Rattle.desk_base.specs.Names.{Text, Package, segments, written, front, simple, is_empty, is_name, is_identifier}
 use Rattle.desk_packages.specs.Renames.{Renaming, in_scope, pick, renamed_by, pkg, is_rename}
-use Rattle.desk_rules.specs.Settled.{rename_then_rename, first_pair}
+use Rattle.desk_chains.specs.Chains.{rename_then_rename, first_pair}
 use Rattle.desk_rules.specs.Images.{refronted, name_image}
 use Rattle.desk_packages.proofs.Same.{covers_is}
 use Rattle.desk_packages.proofs.Picks.{Found, pick_Some, all_In}
+pub use Rattle.desk_chains.proofs.Fronts.{front_all}
 use Rattle.desk_rules.proofs.Twice.{pkg_twice}
-use Rattle.desk_packages.proofs.Cuts.{Cuts, segments_written, front-push, simple-push, front_simple}
+use Rattle.desk_packages.proofs.Cuts.{Cuts, segments_written, front-push, simple-push}
 
 all_weaker : (test other : Text → Bool) → ((t : Text) → test t ≡ true → other t ≡ true) → (ps : Package) → list_all test ps ≡ true → list_all other ps ≡ true
 all_weaker test other weaker [] h = refl
@@ -21,11 +22,6 @@ both_all test xs ys h k = list_all-append test xs ys ∙ and_from _ _ h k
 
 rest_all : (test : Text → Bool) (xs ys : Package) → list_all test (xs ++ ys) ≡ true → list_all test ys ≡ true
 rest_all test xs ys h = (and_parts _ _ (sym (list_all-append test xs ys) ∙ h)).1
-
-pub front_all : (test : Text → Bool) (ps : Package) → not (is_empty ps) ≡ true → list_all test ps ≡ true → (list_all test (front ps) ≡ true) × (test (simple ps) ≡ true)
-front_all test ps filled h =
-    let both : (list_all test (front ps) && list_all test (simple ps ∷ [])) ≡ true = sym (list_all-append test (front ps) (simple ps ∷ [])) ∙ ap (list_all test) (front_simple ps filled) ∙ h in
-    ((and_parts _ _ both).0, (and_parts _ _ (and_parts _ _ both).1).0)
 
 -- a package whose segments pass a test that identifiers pass: those of its image do too
 pub pkg_all : (part : Text → Bool) → ((t : Text) → is_identifier t ≡ true → part t ≡ true) → (rs : List Renaming) → list_all is_rename rs ≡ true → (p : Package) → list_all part p ≡ true → list_all part (pkg rs p) ≡ true

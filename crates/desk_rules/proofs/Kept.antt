@@ -6,7 +6,9 @@ use Rattle.desk_patterns.specs.Selections.{Choice}
 use Rattle.desk_patterns.specs.PatternTexts.{PatternText}
 use Rattle.desk_packages.specs.Renames.{Renaming}
 use Rattle.desk_rules.specs.Rules.{Rules, Versions}
-use Rattle.desk_rules.specs.Settled.{Exchange, BundleUpdate, first_chain_in, first_chain}
+use Rattle.desk_chains.specs.Chains.{first_chain_in}
+use Rattle.desk_chains.specs.Exchanges.{Exchange, BundleUpdate}
+use Rattle.desk_rules.specs.Settled.{first_chain}
 use Rattle.desk_packages.specs.Keys.{IsTable, RiseBy}
 use Rattle.desk_rules.specs.RuleSets.{IsRuleSet, IsKept, HaveUtf8Targets, HaveUtf8Texts, HaveVersions, HaveUpdates, rules_of}
 use Rattle.desk_rules.proofs.TextMaps.{entries_rising}

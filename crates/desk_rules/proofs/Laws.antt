@@ -10,9 +10,11 @@ use Rattle.desk_base.specs.Names.{Text, Package, segments, written, front, simpl
 use Rattle.std.proofs.lemmas.List.{append-nil, drop_at}
 use Rattle.desk_packages.specs.Renames.{Renaming, has_source, in_scope, in_reach, changes, pick, renamed_by, pkg, is_rename}
 use Rattle.desk_rules.specs.Rules.{Rules, Update, TextMap}
-use Rattle.desk_rules.specs.declared.ChainKind.{ChainKind}
-use Rattle.desk_rules.specs.declared.ChainKind.TheVariants.{RenameThenRename, RenameThenDirect, DirectThenDirect, DirectThenRename, BundleThenBundle, PackageThenName, NameThenPackage, PackageThenDirect, DirectThenPackage}
-use Rattle.desk_rules.specs.Settled.{first_pair, rename_then_rename, rename_then_direct, one_then_another, direct_then_rename, update_then_update, package_then_name, name_then_package, package_then_direct, direct_then_package, alters, renames_bundle, Chain, chain_of, or_chain, front_in_reach, IsSettled}
+use Rattle.desk_chains.specs.declared.ChainKind.{ChainKind}
+use Rattle.desk_chains.specs.declared.ChainKind.TheVariants.{RenameThenRename, RenameThenDirect, DirectThenDirect, DirectThenRename, BundleThenBundle, PackageThenName, NameThenPackage, PackageThenDirect, DirectThenPackage}
+use Rattle.desk_chains.specs.Chains.{first_pair, rename_then_rename, rename_then_direct, one_then_another, direct_then_rename, update_then_update, package_then_name, name_then_package, package_then_direct, direct_then_package, Chain, chain_of, or_chain, front_in_reach}
+use Rattle.desk_chains.specs.Exchanges.{alters, renames_bundle}
+use Rattle.desk_rules.specs.Settled.{IsSettled}
 use Rattle.desk_rules.specs.Images.{refronted, dotted, package_written, renamed_string, str}
 use Rattle.desk_rules.specs.RuleSets.{IsRuleSet, PackagesStay, ClassesStay, ClassesKeepForm, IsClassImage, DottedStay, DottedKeepForm, IsDottedImage, StringsStay, BundlesStay, only_other_name}
 use Rattle.desk_packages.proofs.Same.{covers_is, covers_moved, same_is as bytes_same, same_from}

@@ -1,7 +1,6 @@
 pub mod Twice
 pub mod Forms
 pub mod Entries
-pub mod Fronts
 pub mod TextMaps
 pub mod Laws
 pub mod Ordered
@@ -17,5 +16,4 @@ pub mod TextTurns
 pub mod LoadedTexts
 pub mod TextBuilds
 pub mod Utf8Rules
-pub mod Chains
 pub mod FormedEntries

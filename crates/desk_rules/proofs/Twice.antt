@@ -4,7 +4,7 @@ use Rattle.std.specs.List.{find}
 use Rattle.std.proofs.lemmas.Bool.{cases_Bool, and_from, or_left, or_right, not-false, both_ways}
 use Rattle.desk_base.specs.Names.{Package, same, begins_with}
 use Rattle.desk_packages.specs.Renames.{Renaming, in_scope, in_reach, covers, changes, pick, renamed_by, pkg}
-use Rattle.desk_rules.specs.Settled.{meets, rename_then_rename, first_pair}
+use Rattle.desk_chains.specs.Chains.{meets, rename_then_rename, first_pair}
 use Rattle.desk_packages.proofs.Same.{same_is, same_from, begins_is, begins_from, covers_is, covers_moved, nested}
 use Rattle.desk_packages.proofs.Picks.{In, Found, find_None, pick_Some}
 

@@ -17,7 +17,7 @@ use Rattle.desk_entries.specs.declared.faults.EntryFault.TheVariants.{Key, Value
 use Rattle.desk_entries.specs.declared.renames.Rename.{Rename}
 use Rattle.desk_rules.specs.Files.{Files, renames_name, direct_name}
 use Rattle.desk_packages.specs.Renames.{Renaming}
-use Rattle.desk_rules.specs.Settled.{Exchange}
+use Rattle.desk_chains.specs.Exchanges.{Exchange}
 use Rattle.desk_packages.specs.Keys.{renaming, goes_below}
 use Rattle.desk_rules.specs.RuleSets.{HaveUtf8Targets, HaveUtf8Texts}
 use Rattle.desk_rules.specs.RuleFiles.{◌>>=◌, entries_in, in_order, each, with_first, all_in, renames_in, renames_of, rename_entry, renaming_from, direct_entry, where_ok}

@@ -11,7 +11,9 @@ use Rattle.desk_patterns.specs.PatternTexts.{PatternText}
 use Rattle.desk_packages.specs.Renames.{Renaming, pick, pkg, changes, is_rename}
 use Rattle.desk_rules.specs.Rules.{Rules, Update, Versions, TextMap}
 use Rattle.desk_packages.specs.Keys.{IsTable, RiseBy}
-use Rattle.desk_rules.specs.Settled.{Exchange, BundleUpdate, first_chain_in, IsSettled}
+use Rattle.desk_chains.specs.Chains.{first_chain_in}
+use Rattle.desk_chains.specs.Exchanges.{Exchange, BundleUpdate}
+use Rattle.desk_rules.specs.Settled.{IsSettled}
 use Rattle.desk_rules.specs.Images.{dotted, cls, str}
 
 -- the rules of lists in byte order of their keys

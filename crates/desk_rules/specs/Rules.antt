@@ -1,29 +1,23 @@
 -- Rules as plain data.
-use Rattle.std.specs.Prelude.{List, Option, refl}
-use Rattle.std.specs.Coded.{Coded, code_by, coded×, coded_list, coded_option, coded_ℕ, coded_bool}
+use Rattle.std.specs.Prelude.{List, refl}
+use Rattle.std.specs.Coded.{Coded, code_by, coded×, coded_list, coded_bool}
 use Rattle.std.specs.Cmp.Lexicographic.{slice_cmp}
 use Rattle.std.specs.Ordering.{nat_cmp}
 use Rattle.std.specs.FinMap as finite
 use Rattle.std.specs.FinMap.{FinMap}
 use Rattle.desk_base.specs.Names.{Text}
 pub use Rattle.desk_entries.specs.declared.versions.Versions.{Versions}
-pub use Rattle.desk_entries.specs.declared.bundles.Update.{Update}
 use Rattle.desk_patterns.specs.Selections.{Choice}
 use Rattle.desk_patterns.specs.PatternTexts.{PatternText}
 use Rattle.desk_packages.specs.Renames.{Renaming, renaming_code}
+pub use Rattle.desk_chains.specs.Exchanges.{Update, text_code, update_code}
 
 -- a finite map from texts
 abbrev pub TextMap : Type 0 → Type 0
 TextMap X = FinMap (slice_cmp nat_cmp) X
 
-abbrev pub text_code : Coded Text
-text_code = coded_list coded_ℕ
-
 abbrev pub versions_code : Coded Versions
 versions_code = code_by (Text × Text) (coded× text_code text_code) (λ v. (v.imported, v.exported)) (λ p. record { imported = p.0; exported = p.1 }) (λ _. refl)
-
-abbrev pub update_code : Coded Update
-update_code = code_by (Text × Option Text) (coded× text_code (coded_option text_code)) (λ u. (u.name, u.version)) (λ p. record { name = p.0; version = p.1 }) (λ _. refl)
 
 -- all rules: renames in byte order of their keys, versions by the new package with dots, bundle updates
 -- by the old symbolic name, direct strings by the old text, the patterns of the selection in byte order,

@@ -1,13 +1,12 @@
-//! Rules by a key text: versions, bundle updates, direct strings and patterns of paths.
+//! Rules by a key text: versions and patterns of paths.
 
 ghost use Rattle.std.specs.Prelude.{◌≡◌, if◌then◌else◌};
-ghost use Rattle.desk_rules.specs.Settled.{alters, renames_bundle};
 ghost use Rattle.desk_patterns.specs.Selections.{is_exclude};
 ghost use Rattle.desk_rules.specs.Sides.{exports};
 
 use crate::Side;
 use desk_base::Text;
-use desk_entries::{Update, Versions};
+use desk_entries::Versions;
 use desk_packages::Keyed;
 use desk_patterns::Mark;
 use std::marker::Model;
@@ -39,60 +38,6 @@ impl Keyed for VersionRule {
     }
 }
 
-/// The new name of a bundle, and its new version where it gets one.
-#[derive(Debug, Drop)]
-pub(crate) struct BundleRule {
-    pub(crate) old_name: Text,
-    pub(crate) update: Update,
-}
-
-impl Model for BundleRule {
-    ghost use Rattle.std.specs.Coded.{coded×};
-    ghost use Rattle.desk_base.specs.Names.{Text as Bytes};
-    ghost use Rattle.desk_rules.specs.Rules.{Update, update_code, text_code};
-
-    ghost Value = { Bytes × Update };
-
-    ghost coded = { coded× text_code update_code };
-
-    ghost view = { λ r. (r.old_name, r.update) };
-}
-
-impl Keyed for BundleRule {
-    ghost key_of = { λ r. r.0 };
-
-    fn key(&self) -> &[u8] {
-        self.old_name.as_bytes()
-    }
-}
-
-/// An old string, and the new one.
-#[derive(Debug, Drop)]
-pub(crate) struct DirectRule {
-    pub(crate) source: Text,
-    pub(crate) target: Text,
-}
-
-impl Model for DirectRule {
-    ghost use Rattle.std.specs.Coded.{coded×};
-    ghost use Rattle.desk_rules.specs.Settled.{Exchange};
-    ghost use Rattle.desk_rules.specs.Rules.{text_code};
-
-    ghost Value = { Exchange };
-
-    ghost coded = { coded× text_code text_code };
-
-    ghost view = { λ r. (r.source, r.target) };
-}
-
-impl Keyed for DirectRule {
-    ghost key_of = { λ r. r.0 };
-
-    fn key(&self) -> &[u8] {
-        self.source.as_bytes()
-    }
-}
-
 impl VersionRule {
     /// The version where the package is exported, or where it is imported.
     pub(crate) fn version(&self, side: Side) -> &[u8]
@@ -102,38 +47,6 @@ impl VersionRule {
             Side::Export => self.versions.exported.as_bytes(),
             Side::Import => self.versions.imported.as_bytes(),
         }
-    }
-}
-
-impl DirectRule {
-    /// The new string.
-    pub(crate) fn target(&self) -> &[u8]
-        ensures { result.now ≡ self.now.1 }
-    {
-        self.target.as_bytes()
-    }
-
-    /// Whether the new string differs from the old one.
-    pub(crate) fn changes(&self) -> bool
-        ensures { result ≡ alters self.now }
-    {
-        self.source != self.target
-    }
-}
-
-impl BundleRule {
-    /// The new name.
-    pub(crate) fn name(&self) -> &[u8]
-        ensures { result.now ≡ self.now.1.name }
-    {
-        self.update.name.as_bytes()
-    }
-
-    /// Whether the new name differs from the old one.
-    pub(crate) fn changes(&self) -> bool
-        ensures { result ≡ renames_bundle self.now }
-    {
-        self.old_name != self.update.name
     }
 }
 

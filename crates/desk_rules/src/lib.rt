@@ -10,7 +10,6 @@
 
 ghost use Rattle.std.specs.Prelude.{◌≡◌};
 
-mod chain;
 mod files;
 mod keyed;
 mod reading;
@@ -18,6 +17,7 @@ mod rule_set;
 mod texts;
 
 use desk_base::{Memory, Text};
+pub use desk_chains::ChainKind;
 pub use desk_packages::Separator;
 pub use desk_patterns::{PathTexts, TextHit, TextPlace, TextRules};
 pub use desk_properties::PropFault;
@@ -32,50 +32,6 @@ pub enum Side {
     Import,
     /// A package that is exported.
     Export,
-}
-
-/// Which two rules make a chain: the first, and the second, which changes what the first gives.
-#[derive(Clone, Copy, Debug, PartialEq, Eq)]
-pub enum ChainKind {
-    /// Two renames.
-    RenameThenRename,
-    /// A rename and a direct string.
-    RenameThenDirect,
-    /// Two direct strings.
-    DirectThenDirect,
-    /// A direct string and a rename.
-    DirectThenRename,
-    /// Two bundle updates.
-    BundleThenBundle,
-    /// Two renames: the package that the first gives is changed as a dotted name.
-    PackageThenName,
-    /// Two renames: a dotted name that the first gives is changed as a package.
-    NameThenPackage,
-    /// A rename, and a direct string that is the package that it gives.
-    PackageThenDirect,
-    /// A direct string, and a rename of the package that it gives.
-    DirectThenPackage,
-}
-
-impl ChainKind {
-    ghost use Rattle.desk_rules.specs.Settled.{chain_number};
-
-    /// Its number, from 1 on in the order in which chains are looked for.
-    pub fn number(self) -> u8
-        ensures { result ≡ chain_number self }
-    {
-        match self {
-            ChainKind::RenameThenRename => 1,
-            ChainKind::RenameThenDirect => 2,
-            ChainKind::DirectThenDirect => 3,
-            ChainKind::DirectThenRename => 4,
-            ChainKind::BundleThenBundle => 5,
-            ChainKind::PackageThenName => 6,
-            ChainKind::NameThenPackage => 7,
-            ChainKind::PackageThenDirect => 8,
-            ChainKind::DirectThenPackage => 9,
-        }
-    }
 }
 
 /// Why rule files make no rule set. Files, keys and names are the bytes as they were read.

@@ -8,9 +8,10 @@ ghost use Rattle.desk_rules.specs.Files.{renames_name, selection_name};
 ghost use Rattle.desk_packages.specs.Keys.{IsTable, RiseBy};
 ghost use Rattle.desk_rules.specs.RuleFiles.{entries_in, in_order, each, all_in, renames_in, fault_at, selection_entry};
 
-use crate::keyed::{BundleRule, DirectRule, SelectionRule, VersionRule};
+use crate::keyed::{SelectionRule, VersionRule};
 use crate::{BuildFault, RuleFault, RuleFiles};
 use desk_base::{Memory, Text};
+use desk_chains::{BundleRule, DirectRule};
 use desk_entries::{
     EntryError, EntryFault, check_string, read_mark, read_rename, read_update, read_versions,
 };
@@ -209,7 +210,7 @@ impl FromEntry for BundleRule {
     fn from_entry(alloc: Global, key: &[u8], value: &[u8]) -> Result<BundleRule, EntryError> {
         let update = read_update(alloc, key, value)?;
         let old_name = Text::from_bytes(alloc, key)?;
-        Ok(BundleRule { old_name, update })
+        Ok(BundleRule::new(old_name, update))
     }
 }
 
@@ -222,7 +223,7 @@ impl FromEntry for DirectRule {
         check_string(key, value)?;
         let source = Text::from_bytes(alloc, key)?;
         let target = Text::from_bytes(alloc, value)?;
-        Ok(DirectRule { source, target })
+        Ok(DirectRule::new(source, target))
     }
 }
 

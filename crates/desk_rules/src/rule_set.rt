@@ -14,12 +14,12 @@ ghost use Rattle.desk_rules.specs.RuleFiles.{rules_of_files, settled};
 ghost use Rattle.desk_rules.specs.Sides.{exports};
 ghost use Rattle.desk_rules.specs.RuleSets.{changing_pick, IsFrontOf, IsRuleSet, HaveUtf8Targets, HaveUtf8Texts, HaveVersions, HaveUpdates, PackagesStay, ClassesStay, ClassesKeepForm, DottedStay, DottedKeepForm, StringsStay, BundlesStay, version_of, changing_update, update_of, rules_of};
 
-use crate::chain::first_chain;
-use crate::keyed::{BundleRule, DirectRule, VersionRule};
+use crate::keyed::VersionRule;
 use crate::reading::{read_all, read_renames, read_selection};
 use crate::texts::read_texts;
 use crate::{BuildFault, RuleFault, RuleFiles, Side};
 use desk_base::{Text, TextList};
+use desk_chains::{BundleRule, DirectRule, first_chain};
 use desk_packages::{Rename, Separator, is_source, pick, rule_of};
 use desk_patterns::{PathTexts, PatternTexts, Selection, TextRules};
 use std::alloc::Global;
@@ -52,17 +52,17 @@ pub struct BundleUpdate<'r> {
     pub version: Option<&'r [u8]>,
 }
 
-impl BundleRule {
-    fn update(&self) -> BundleUpdate<'_>
-        ensures { update_of result.name.now (option_copied result.version) ≡ self.now.1 }
-    {
-        BundleUpdate {
-            name: self.update.name.as_bytes(),
-            version: match &self.update.version {
-                None => None,
-                Some(version) => Some(version.as_bytes()),
-            },
-        }
+/// What a rule updates its bundle to.
+fn updated_by(rule: &BundleRule) -> BundleUpdate<'_>
+    ensures { update_of result.name.now (option_copied result.version) ≡ rule.now.1 }
+{
+    let update = rule.update();
+    BundleUpdate {
+        name: update.name.as_bytes(),
+        version: match &update.version {
+            None => None,
+            Some(version) => Some(version.as_bytes()),
+        },
     }
 }
 
@@ -225,7 +225,7 @@ impl RuleSet {
         ensures bundles_stay { BundlesStay self.now.bundles }
     {
         match rule_of(&self.bundles, name) {
-            Some(rule) if rule.changes() => Some(rule.update()),
+            Some(rule) if rule.changes() => Some(updated_by(rule)),
             _ => None,
         }
     }

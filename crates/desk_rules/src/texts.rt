@@ -30,7 +30,7 @@ struct TextRule {
 impl Model for TextRule {
     ghost use Rattle.std.specs.Prelude.{◌≢◌, []};
     ghost use Rattle.std.specs.Coded.{coded×};
-    ghost use Rattle.desk_rules.specs.Settled.{Exchange};
+    ghost use Rattle.desk_chains.specs.Exchanges.{Exchange};
     ghost use Rattle.desk_rules.specs.Rules.{text_code};
 
     ghost Value = { Exchange };

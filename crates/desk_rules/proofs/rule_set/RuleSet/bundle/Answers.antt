@@ -2,7 +2,7 @@ use Rattle.std.proofs.Common.{◌∙◌, ap, sym, Some}
 use Rattle.std.specs.List.{find}
 use Rattle.std.specs.Str.{bytes_eq}
 use Rattle.desk_rules.specs.Rules.{Rules, Update}
-use Rattle.desk_rules.specs.Settled.{BundleUpdate}
+use Rattle.desk_chains.specs.Exchanges.{BundleUpdate}
 use Rattle.desk_rules.specs.RuleSets.{changing_update}
 use Rattle.desk_rules.proofs.Kept.{rule_set_by}
 use Rattle.desk_rules.proofs.Updates.{no_update, some_update, same_update}
@@ -14,7 +14,7 @@ pub returns-in-Some-clause-answer : goal.returns-in-Some-clause-answer
 returns-in-Some-clause-answer c =
     ap (λ (r : Rules). changing_update r.bundles c.args.name.now) (sym c.self.view_is)
     ∙ some_update c.self.inside.bundles.items c.args.name.now c.in-Some.rule.now (c.in-Some.ensures ∙ ap (find (λ (e : BundleUpdate). bytes_eq e.0 c.args.name.now)) c.deref.ensures.value) (sym c.changes.ensures ∙ c.if-changes.true)
-    ∙ ap (λ (u : Update). Some u) (sym c.update.ensures)
+    ∙ ap (λ (u : Update). Some u) (sym c.updated_by.ensures)
 
 pub returns-in-Some-clause-bundles_stay : goal.returns-in-Some-clause-bundles_stay
 returns-in-Some-clause-bundles_stay c = bundles_stay c.args.self.now (rule_set_by c.self.invariant c.args.self.now c.self.view_is)

@@ -1,6 +1,7 @@
 use Rattle.std.proofs.Common.{◌∙◌, ap, sym, List, ℕ, Some}
 use Rattle.desk_packages.specs.Renames.{Renaming}
-use Rattle.desk_rules.specs.Settled.{Exchange, BundleUpdate, first_chain_in, chain_at}
+use Rattle.desk_chains.specs.Chains.{first_chain_in, chain_at}
+use Rattle.desk_chains.specs.Exchanges.{Exchange, BundleUpdate}
 use Rattle.desk_rules.specs.RuleSets.{rules_of}
 use Rattle.desk_rules.specs.RuleFiles.{unless_chain}
 use Rattle.desk_rules.proofs.Kept.{chain_is, settled_by}

@@ -1,7 +1,0 @@
-use Rattle.std.proofs.Common.{◌≡◌, drop}
-use Rattle.desk_rules.specs.Settled.{first_pair}
-use Rattle.desk_rules.proofs.chain.first_between.Given as goal
-
--- the first pair stands in what is left
-abbrev pub invariant-loop-first : goal.invariant-loop-first
-invariant-loop-first g l = first_pair g.A.LeadsTo.leads (drop l.first-index l.firsts) l.seconds ≡ first_pair g.A.LeadsTo.leads l.firsts l.seconds
