@@ -2,5 +2,3 @@ pub mod Below
 pub mod Members
 pub mod Entries
 pub mod FirstPaths
-mod Listings
-mod Outcomes

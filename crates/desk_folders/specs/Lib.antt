@@ -1,4 +1,3 @@
 pub mod Contents
 pub mod ContentsLaws
 pub mod InMemory
-pub mod Disk

@@ -1,6 +1,6 @@
 //! Folders in memory.
 
-ghost use Rattle.std.specs.Prelude.{◌≡◌, ◌≢◌, ◌≤◌, ◌+◌, ◌++◌, ◌↔◌, [], length, take, drop, Some, None, Err, IsTrue, IsFalse, IsSome, IsErr, IfSome, IfOk, OnOk, OnErr};
+ghost use Rattle.std.specs.Prelude.{◌≡◌, ◌≢◌, ◌≤◌, ◌+◌, ◌++◌, ◌↔◌, [], length, take, drop, Some, None, Ok, Err, IsTrue, IsFalse, IsSome, IsErr, IfSome, IfOk, OnOk, OnErr};
 ghost use Rattle.std.specs.Option.{option_copied};
 ghost use Rattle.std.specs.List.{list_all};
 ghost use Rattle.std.specs.List.Sorted.{IsStrictlySortedBy};
@@ -281,11 +281,12 @@ impl Folders for MemoryFolders {
         Ok(self.part(path, at, want)?)
     }
 
-    /// It fails exactly where this call's number is among the failing or a stop is at it or before it. It
-    /// wants no memory.
+    /// It fails exactly where this call's number is among the failing or a stop is at it or before it, and
+    /// answers the size everywhere else. It wants no memory.
     fn size(&mut self, path: &Text) -> Result<Option<u64>, FolderFault>
         requires path { IsTrue (is_full_path path.now) }
         ensures exactly { (result ≡ Err FolderFault.Failed) ↔ IsTrue (fails self.old) }
+        ensures exact { IsFalse (fails self.old) → result ≡ Ok (size_at self.old.contents path.now) }
         ensures is { IfOk result (λ size. size ≡ size_at self.old.contents path.now) }
         ensures called { self.new ≡ called self.old }
         ensures size { IfOk result (λ size. IfSome (Some self.old.contents) (λ m. size ≡ size_at m path.now)) }

@@ -4,14 +4,8 @@ ghost use Rattle.std.specs.Prelude.{◌≡◌, ◌≢◌};
 ghost use Rattle.std.specs.IoError.{error_kind};
 
 use desk_faults::{Cause, Refusal, refusal_of};
-use std::fs::{self, File, OpenOptions};
-use std::io::{self, ErrorKind, Read};
-
-/// How a database file begins.
-const START: [u8; 16] = *b"SQLite format 3\0";
-
-/// How it begins while it is being made: its first byte is written last.
-const HALF_MADE: [u8; 16] = *b"\0QLite format 3\0";
+use std::fs::{self, File};
+use std::io::{self, ErrorKind};
 
 /// The least length of a log that holds a page: its header, and a page of the least size with its own.
 const WITH_PAGE: u64 = 32 + 24 + 512;
@@ -22,42 +16,6 @@ pub(crate) fn fault_of(error: io::Error) -> Refusal
     ensures failed { error_kind error ≢ ErrorKind.OutOfMemory → result ≡ Refusal.Failed (Cause.System error) }
 {
     refusal_of(error)
-}
-
-/// Whether a file is empty or begins as a database, or, where a log stands beside it, as one of which a
-/// killed process wrote the first byte or all but that.
-fn begins_as_database(rt: &HostRuntime, path: &str, has_log: bool) -> io::Result<bool> {
-    let mut file = File::open(rt, path)?;
-    let mut start = [0; 16];
-    let taken = file.read(&mut start)?;
-    let half_made = start == HALF_MADE || taken == 1 && start[0] == 0;
-    Ok(taken == 0 || start == START || has_log && half_made)
-}
-
-/// Whether a file may be read and written, and begins as a database.
-fn sound_file(rt: &HostRuntime, path: &str, has_log: bool) -> Result<(), Refusal> {
-    let _ = OpenOptions::new()
-        .read(true)
-        .write(true)
-        .open(rt, path)
-        .map_err(fault_of)?;
-    if begins_as_database(rt, path, has_log).map_err(fault_of)? {
-        Ok(())
-    } else {
-        Err(Refusal::Failed(Cause::Unsound))
-    }
-}
-
-/// Refuses a path that may not be opened as a database: what is there isn't a file, or one that doesn't begin as a
-/// database. Another file could be taken for one that is half made.
-pub(crate) fn may_be_database(rt: &HostRuntime, path: &str, has_log: bool) -> Result<(), Refusal> {
-    match fs::metadata(rt, path) {
-        Ok(found) if found.is_file() => sound_file(rt, path, has_log),
-        Ok(found) if found.is_dir() => Err(Refusal::Failed(Cause::Folder)),
-        Ok(_) => Err(Refusal::Failed(Cause::Special)),
-        Err(error) if error.kind() == ErrorKind::NotFound => Ok(()),
-        Err(error) => Err(fault_of(error)),
-    }
 }
 
 /// The path at which a database's file is opened. The database takes `:memory:` and what begins with `file:` for no

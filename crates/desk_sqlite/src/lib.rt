@@ -11,7 +11,6 @@
 mod database;
 mod files;
 mod keeper;
-mod long_names;
 mod opened;
 mod tables;
 mod waiting;

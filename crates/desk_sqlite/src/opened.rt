@@ -6,8 +6,7 @@ ghost use Rattle.desk_ledger.specs.Ledger.{row_at, with_header, without_row};
 ghost use Rattle.desk_sqlite.specs.OverFile.{all_written, nothing, with_put, with_room};
 
 use crate::database::Database;
-use crate::files::{Log, fault_of, file_path, has_room_beside, may_be_database};
-use crate::long_names::{Shortened, is_long, real_path, short_path};
+use crate::files::{Log, fault_of, file_path, has_room_beside};
 use crate::tables::{
     make_tables, read_contents, read_folder, write_folder, write_header, write_rows,
     write_then_remove,
@@ -16,6 +15,7 @@ use crate::waiting::Waiting;
 use desk_base::{Memory, Text};
 use desk_faults::{Cause, Fault, Refusal, Tried};
 use desk_ledger::{Contents, Header, Row};
+use desk_long_names::{Shortened, is_long, may_be_database, real_path, short_path};
 use std::alloc::Global;
 use std::marker::Model;
 use std::{env, str};
@@ -82,13 +82,23 @@ fn ledger_at(rt: &HostRuntime, path: &str) -> Result<Ledger, Refusal> {
     ledger_in(rt, database, log)
 }
 
+/// Opens the database of a file that has its short name, and gives the file its own name back at once, also where it can't
+/// be opened.
+fn shortened_database(rt: &HostRuntime, file: &Shortened, log: &Log) -> Result<Database, Refusal> {
+    let opened = Database::open(rt, file.short_path(), log);
+    let named = file.lengthen(rt);
+    let database = opened?;
+    named?;
+    Ok(database)
+}
+
 /// The ledger at a path whose name leaves no room for others beside it, and in which no link stands: its file has a short
 /// name while it is opened.
 fn shortened_ledger_at(rt: &HostRuntime, path: String) -> Result<Ledger, Refusal> {
     let short = short_path(rt.alloc(), path.as_str())?;
     let log = Log::beside(rt, short.as_str())?;
     let file = Shortened::at(rt, path, short, log.was_there())?;
-    let database = file.open(rt, &log)?;
+    let database = shortened_database(rt, &file, &log)?;
     let ledger = ledger_in(rt, database, log)?;
     file.settle(rt)?;
     Ok(ledger)

@@ -2,8 +2,9 @@
 
 use crate::telling::{tell, tell_hint, tell_text};
 use desk_base::{Memory, Text};
+use desk_disk::DiskFolders;
 use desk_faults::{Fault, fault_line};
-use desk_folders::{DiskFolders, Folders, is_full};
+use desk_folders::{Folders, is_full};
 use desk_hints::{release_line, words_hint};
 use desk_notes::{Notes, rule_notes, unshown};
 use desk_report::Status;

@@ -2,7 +2,7 @@
 //! target is guarded against links.
 
 use desk_base::{Memory, Text};
-use desk_folders::DiskFolders;
+use desk_disk::DiskFolders;
 use desk_places::{Pair, Place, Places, first_nested, place_of};
 use desk_report::Status;
 use desk_words::Roots;

@@ -14,7 +14,7 @@ mod telling;
 use after::tell_end;
 use before::guarded;
 use desk_base::{Memory, Text};
-use desk_folders::DiskFolders;
+use desk_disk::DiskFolders;
 use desk_notes::Overheard;
 use desk_report::{Status, StdSink, write_fault};
 use desk_run::{FreeGate, desk};

@@ -2,8 +2,9 @@
 
 use crate::place::{Place, own_place};
 use desk_base::Text;
+use desk_disk::DiskFolders;
 use desk_faults::Tried;
-use desk_folders::{DiskFolders, FolderFault, Folders};
+use desk_folders::{FolderFault, Folders};
 use std::alloc::Global;
 use std::test::Fail;
 

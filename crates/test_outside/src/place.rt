@@ -3,8 +3,9 @@
 ghost use Rattle.std.specs.Prelude.{◌≤◌};
 
 use desk_base::{Text, TextList};
+use desk_disk::DiskFolders;
 use desk_faults::{Fault, Tried};
-use desk_folders::{DiskFolders, FolderFault, Folders, is_full};
+use desk_folders::{FolderFault, Folders, is_full};
 use std::test::Fail;
 use std::{fs, process, str};
 

@@ -5,7 +5,7 @@
 #![tactic(auto)]
 
 use desk_base::{Memory, Text};
-use desk_folders::DiskFolders;
+use desk_disk::DiskFolders;
 use desk_ledger::MemoryKeeper;
 use desk_report::StdSink;
 use desk_run::{FreeGate, desk};

@@ -1,9 +1,0 @@
-use Rattle.std.proofs.Common.{◌≤◌}
-use Rattle.desk_folders.specs.Disk.{IsLonger, entries}
-use Rattle.desk_folders.proofs.walk.Listing.enter.Given as goal
-
-abbrev pub invariant-loop-entry : goal.invariant-loop-entry
-invariant-loop-entry l = record {
-  longer : IsLonger l.fn.self l.self;
-  most : l.fn.self.count ≤ entries → l.self.count ≤ entries;
-}

@@ -1,6 +1,0 @@
-use Rattle.std.proofs.Common.{◌+◌, ◌-◌, length}
-use Rattle.desk_folders.specs.Disk.{entries}
-use Rattle.desk_folders.proofs.walk.Listing.enter_all.Given as goal
-
-abbrev pub decreases-loop-folder : goal.decreases-loop-folder
-decreases-loop-folder l = (entries - l.self.count) + length l.self.folders
