@@ -18,8 +18,8 @@ use Rattle.desk_file.specs.declared.images.Image.{Image}
 use Rattle.desk_rules.specs.Rules.{Rules}
 use Rattle.desk_folders.specs.Contents.{Contents}
 use Rattle.desk_report.specs.declared.lines.Reason.{Reason}
-use Rattle.desk_batches.proofs.Fronts.{at_some, dropped_all}
-use Rattle.desk_batches.proofs.Steps.{files_after-join, ledger_after-join, one_file_more, one_row_more, split_at, stopped_here}
+use Rattle.desk_readings.proofs.Fronts.{at_some, dropped_all, split_at}
+use Rattle.desk_batches.proofs.Steps.{files_after-join, ledger_after-join, one_file_more, one_row_more, stopped_here}
 use Rattle.std.proofs.lemmas.Grind.{common_steps}
 use Rattle.std.proofs.lemmas.List.Sums.{sum_by_push}
 use Rattle.std.specs.List.{sum_by, slice_range}

@@ -11,7 +11,6 @@ ghost use Rattle.desk_batches.specs.Turns.{SourceStays, fitting, image_here, mig
 ghost use Rattle.desk_batches.specs.Works.{files_after, ledger_after};
 ghost use Rattle.desk_words.specs.Roots.{IsPathRoot, RootsApart};
 
-use crate::WHOLE;
 use crate::digested::DigestedImage;
 use crate::inputs::read_batch;
 use crate::migrating::migrate_batch;
@@ -22,6 +21,7 @@ use desk_base::Text;
 use desk_folders::Folders;
 use desk_graph::ClassGraph;
 use desk_ledger::Keeper;
+use desk_readings::WHOLE;
 use desk_report::Reason;
 use desk_rules::RuleSet;
 use desk_workers::Gate;

@@ -9,7 +9,7 @@ use Rattle.desk_ledger.specs.declared.digest.Digest.{Digest}
 use Rattle.desk_ledger.specs.Ledger.{Ledger, held_in}
 use Rattle.desk_base.specs.TextMaps.{get-insert-other, get-remove-other}
 use Rattle.desk_batches.specs.Works.{Plan, Keep, Leave, Write, Work, written_row, wrote, wrote_plan, logged, logged_plan, forgot, cleared_plan, writes, files_after, ledger_after}
-use Rattle.desk_run.specs.Runs.{Misses}
+use Rattle.desk_intake.specs.Apart.{Misses}
 
 pub full_apart : (root p q : List ℕ) → p ≢ q → full root p ≢ full root q
 full_apart root p q apart e = apart (append_cancel_left (folder root) p q e)

@@ -6,8 +6,8 @@ use Rattle.desk_clashes.specs.Clashes.{first_clash}
 use Rattle.desk_clashes.specs.declared.Clash.{Clash}
 use Rattle.desk_report.specs.declared.status.Status.{Status}
 use Rattle.desk_report.specs.declared.status.Status.TheVariants.{PathClash}
-use Rattle.desk_batches.specs.declared.measured.Measured.{Measured}
-use Rattle.desk_run.specs.declared.stops.Halt.TheVariants as halt
+use Rattle.desk_readings.specs.declared.measured.Measured.{Measured}
+use Rattle.desk_intake.specs.declared.halts.Halt.TheVariants as halt
 use Rattle.desk_run.specs.Answers.{clash_status}
 use Rattle.desk_run.specs.Halts.{HaltsClashing}
 

@@ -41,8 +41,8 @@ use Rattle.desk_run.specs.Stands.{Unchanged, Between}
 use Rattle.desk_run.specs.Stops.{StoppedBehind, StopsAt, status_of_halt, status_of_stop}
 use Rattle.desk_run.specs.Truth.{IsOurs}
 use Rattle.desk_run.specs.Works.{work_of, works_of}
-use Rattle.desk_run.specs.declared.stops.Halt.{Halt}
-use Rattle.desk_run.specs.declared.stops.Halt.TheVariants as halt
+use Rattle.desk_intake.specs.declared.halts.Halt.{Halt}
+use Rattle.desk_intake.specs.declared.halts.Halt.TheVariants as halt
 
 -- all is written
 all_written : (asked : Asked) (m0 : Contents) (l0 : Ledger) (to : Text) (header : Header) (works : List Work) (f' : Option Contents) (k' : Option Ledger) → Planned asked m0 l0 to header works

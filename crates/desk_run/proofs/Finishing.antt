@@ -3,7 +3,7 @@ use Rattle.std.proofs.Common.{All, ◌≡◌, ℕ, ◌≤◌, ◌<◌, ◌^◌, 
 use Rattle.std.proofs.lemmas.List.{length-map}
 use Rattle.desk_base.specs.Counts.{Rose-earlier}
 use Rattle.desk_base.specs.Names.{Text}
-use Rattle.desk_batches.proofs.Fronts.{at_some, if_some}
+use Rattle.desk_readings.proofs.Fronts.{at_some, if_some}
 use Rattle.desk_batches.specs.Notes.{IsNoteOf}
 use Rattle.desk_batches.specs.Turns.{outcome_of, works_in}
 use Rattle.desk_batches.specs.Works.{files_after, ledger_after}

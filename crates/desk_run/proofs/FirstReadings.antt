@@ -9,13 +9,13 @@ use Rattle.desk_base.specs.Limits.{file_size}
 use Rattle.desk_base.specs.Names.{Text}
 use Rattle.desk_base.specs.Paths.{full}
 use Rattle.desk_base.specs.declared.faults.Malformed.{Malformed}
-use Rattle.desk_batches.proofs.Fronts.{at_some, if_some}
-use Rattle.desk_batches.specs.Notes.{large_size}
-use Rattle.desk_batches.specs.Noting.{IsWithin, NoteFails, NotedTo}
-use Rattle.desk_batches.specs.Readings.{bytes_here, first_large, is_large, measured_at, most_by, scanned_route, scans_at}
-use Rattle.desk_batches.specs.declared.measured.Measured.{Measured}
-use Rattle.desk_batches.specs.declared.stops.NoteFault.{NoteFault}
-use Rattle.desk_batches.specs.declared.stops.NoteFault.TheVariants as note
+use Rattle.desk_readings.proofs.Fronts.{at_some, if_some}
+use Rattle.desk_readings.specs.Sizes.{large_size}
+use Rattle.desk_readings.specs.Noting.{IsWithin, NoteFails, NotedTo}
+use Rattle.desk_readings.specs.Readings.{bytes_here, first_large, is_large, measured_at, most_by, scanned_route, scans_at}
+use Rattle.desk_readings.specs.declared.measured.Measured.{Measured}
+use Rattle.desk_readings.specs.declared.faults.NoteFault.{NoteFault}
+use Rattle.desk_readings.specs.declared.faults.NoteFault.TheVariants as note
 use Rattle.desk_file.proofs.Treating.{whole_treated}
 use Rattle.desk_file.specs.ClassScans.{is_class_kind, scanned_as, scanned_at}
 use Rattle.desk_file.specs.Images.{target}
@@ -36,11 +36,12 @@ use Rattle.desk_report.specs.declared.status.Status.{Status}
 use Rattle.desk_report.specs.declared.status.Status.TheVariants.{Limit}
 use Rattle.desk_rules.specs.Rules.{Rules}
 use Rattle.desk_second.specs.Applications.{classes_of}
-use Rattle.desk_run.proofs.Truths.{AllThere, files_there}
-use Rattle.desk_run.specs.Halts.{HaltsWith}
-use Rattle.desk_run.specs.Limits.{most_size, size_answer}
-use Rattle.desk_run.specs.Notes.{IsRead, IsRelativeRoute, measured_of}
-use Rattle.desk_run.specs.Stops.{halt_of_note}
+use Rattle.desk_intake.proofs.There.{AllThere, files_there}
+use Rattle.desk_intake.specs.Halts.{HaltsWith}
+use Rattle.desk_intake.specs.Limits.{most_size, size_answer}
+use Rattle.desk_run.specs.Notes.{IsRead, measured_of}
+use Rattle.desk_intake.specs.Routes.{IsRelativeRoute}
+use Rattle.desk_intake.specs.Faults.{halt_of_note}
 
 -- ---- sizes and digests
 

@@ -2,9 +2,9 @@
 use Rattle.std.proofs.Common.{All, ◌≡◌, ℕ, ◌≤◌, ◌<◌, ◌^◌, Bool, true, List, [], ◌∷◌, length, Option, Some, None, refl, sym, ap, ◌∙◌, map, Result, Ok, Err, IfOk, IfErr, IfSome}
 use Rattle.desk_base.specs.Counts.{Rose-earlier}
 use Rattle.desk_base.specs.Names.{Text}
-use Rattle.desk_batches.proofs.Fronts.{at_some, if_some}
-use Rattle.desk_batches.specs.Noting.{NotedTo}
-use Rattle.desk_batches.specs.declared.measured.Measured.{Measured}
+use Rattle.desk_readings.proofs.Fronts.{at_some, if_some}
+use Rattle.desk_readings.specs.Noting.{NotedTo}
+use Rattle.desk_readings.specs.declared.measured.Measured.{Measured}
 use Rattle.desk_clashes.specs.Clashes.{first_clash}
 use Rattle.desk_file.specs.Images.{target}
 use Rattle.desk_file.specs.Routes.{route_of}
@@ -21,16 +21,18 @@ use Rattle.desk_words.specs.declared.roots.Roots.{Roots}
 use Rattle.desk_run.proofs.FirstReadings.{SaysOf, says_of}
 use Rattle.desk_run.specs.Answers.{or_else, other_run, first_of, clash_status, clash_answer, files_answer, names_answer, answer_of_run, AskedCause}
 use Rattle.desk_run.specs.Endings.{AreRead, HasGathered}
-use Rattle.desk_run.specs.Halts.{HaltsAtFiles, HaltsWith, HaltsClashing, HaltsGathering, HaltsReadingAll, clash_of, reading_answer, is_read_status, is_early_answer}
-use Rattle.desk_run.specs.Limits.{paths_answer, size_answer}
-use Rattle.desk_run.specs.Meaning.{header_of, ruled, run_of, run_by_roots, run_by_rules, run_of_asked}
+use Rattle.desk_run.specs.Halts.{HaltsAtFiles, HaltsClashing, HaltsGathering, HaltsReadingAll, clash_of, reading_answer, is_read_status, is_early_answer}
+use Rattle.desk_intake.specs.Halts.{HaltsWith}
+use Rattle.desk_intake.specs.Limits.{paths_answer, size_answer}
+use Rattle.desk_run.specs.Meaning.{header_of, run_of, run_by_roots, run_by_rules, run_of_asked}
+use Rattle.desk_intake.specs.Rulings.{ruled}
 use Rattle.desk_run.specs.Named.{Asked, asked_roots}
 use Rattle.desk_run.specs.Notes.{IsRead, measured_of}
 use Rattle.desk_run.specs.Reports.{ending}
 use Rattle.desk_run.specs.declared.gather.Gathered.{Gathered}
-use Rattle.desk_run.specs.declared.rules.Ruled.{Ruled}
-use Rattle.desk_run.specs.declared.stops.Halt.{Halt}
-use Rattle.desk_run.specs.declared.stops.Halt.TheVariants as halt
+use Rattle.desk_intake.specs.declared.rules.Ruled.{Ruled}
+use Rattle.desk_intake.specs.declared.halts.Halt.{Halt}
+use Rattle.desk_intake.specs.declared.halts.Halt.TheVariants as halt
 
 -- a status of rules or files
 reading_status : (asked : Asked) (status : Status) → is_read_status status ≡ true → (is_early_answer status ≡ true) × AskedCause asked status

@@ -1,12 +1,7 @@
-mod Ruling
 pub mod Splits
 pub mod After
 pub mod Truths
 pub mod Remaining
-pub mod Parts
-pub mod Sizes
-pub mod Taking
-pub mod Routed
 pub mod FirstReadings
 pub mod Measures
 pub mod Clashing

@@ -6,11 +6,12 @@ use Rattle.std.proofs.lemmas.List.Elements.{All-cons, All-head, All-nil, All-tai
 use Rattle.desk_base.specs.Limits.{file_size}
 use Rattle.desk_base.specs.Names.{Text}
 use Rattle.desk_base.specs.Paths.{full}
-use Rattle.desk_batches.specs.Notes.{IsNoteOf, IsSound, large_size, most_of}
-use Rattle.desk_batches.specs.Noting.{IsWithin}
+use Rattle.desk_batches.specs.Notes.{IsNoteOf, IsSound, most_of}
+use Rattle.desk_readings.specs.Sizes.{large_size}
+use Rattle.desk_readings.specs.Noting.{IsWithin}
 use Rattle.desk_batches.specs.Turns.{plan_by, work_in, works_in}
 use Rattle.desk_batches.specs.Works.{Keep, Plan, Work, fresh}
-use Rattle.desk_batches.specs.declared.measured.Measured.{Measured}
+use Rattle.desk_readings.specs.declared.measured.Measured.{Measured}
 use Rattle.desk_batches.specs.declared.noted.Noted.{Noted}
 use Rattle.desk_file.proofs.Treating.{copies, whole_treated}
 use Rattle.desk_file.specs.Images.{copied}
@@ -23,8 +24,9 @@ use Rattle.desk_ledger.specs.Digests.{digest}
 use Rattle.desk_ledger.specs.Ledger.{Rows}
 use Rattle.desk_report.specs.declared.lines.Reason.{Reason}
 use Rattle.desk_rules.specs.Rules.{Rules}
-use Rattle.desk_run.proofs.Truths.{AllThere, files_there}
-use Rattle.desk_run.specs.Notes.{IsRead, IsRelativeRoute, measured_in, measured_of, noted_by, way_by}
+use Rattle.desk_intake.proofs.There.{AllThere, files_there}
+use Rattle.desk_run.specs.Notes.{IsRead, measured_in, measured_of, noted_by, way_by}
+use Rattle.desk_intake.specs.Routes.{IsRelativeRoute}
 use Rattle.desk_run.specs.Runs.{Run, is_kept}
 use Rattle.desk_run.specs.Works.{work_of, works_of}
 

@@ -2,7 +2,7 @@
 use Rattle.std.proofs.Common.{All, ◌≡◌, inl, inr, ℕ, true, List, [], ◌∷◌, Option, Some, None, refl, sym, ap, ◌∙◌, subst, map, Result, Ok, Err, IfSome}
 use Rattle.std.proofs.lemmas.List.Elements.{All-head, All-tail}
 use Rattle.desk_base.specs.Names.{Text}
-use Rattle.desk_batches.proofs.Fronts.{at_some, if_some}
+use Rattle.desk_readings.proofs.Fronts.{at_some, if_some}
 use Rattle.desk_batches.specs.Turns.{works_in}
 use Rattle.desk_batches.specs.declared.noted.Noted.{Noted}
 use Rattle.desk_clashes.specs.ClashLaws.{ApartFromAll, AllApart, all_apart}
@@ -29,13 +29,14 @@ use Rattle.desk_run.specs.Meaning.{defined_in, finds_in, header_of, run_of, run_
 use Rattle.desk_run.specs.Named.{Asked, asked_roots}
 use Rattle.desk_run.specs.Notes.{IsRead, measured_of, noted_by}
 use Rattle.desk_run.specs.Reports.{ending}
-use Rattle.desk_run.specs.Runs.{Run, AllRelative, AllApart as Distinct, Misses, targets_of}
+use Rattle.desk_run.specs.Runs.{Run, AllRelative, targets_of}
+use Rattle.desk_intake.specs.Apart.{AllApart as Distinct, Misses}
 use Rattle.desk_run.specs.Stops.{status_of_halt}
 use Rattle.desk_run.specs.Truth.{IsOurs}
 use Rattle.desk_run.specs.declared.gather.Gathered.{Gathered}
-use Rattle.desk_run.specs.declared.rules.Ruled.{Ruled}
-use Rattle.desk_run.specs.declared.stops.Halt.{Halt}
-use Rattle.desk_run.specs.declared.stops.Halt.TheVariants as halt
+use Rattle.desk_intake.specs.declared.rules.Ruled.{Ruled}
+use Rattle.desk_intake.specs.declared.halts.Halt.{Halt}
+use Rattle.desk_intake.specs.declared.halts.Halt.TheVariants as halt
 
 misses_apart : (t : Text) (ts : List Text) → ApartFromAll t ts → Misses t ts
 misses_apart t [] h = tt

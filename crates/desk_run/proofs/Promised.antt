@@ -13,7 +13,7 @@ use Rattle.desk_report.specs.Texts.{fault_text}
 use Rattle.desk_report.specs.Written.{WritesFront, writing}
 use Rattle.desk_run.specs.Named.{Asked}
 use Rattle.desk_batches.specs.Works.{Work}
-use Rattle.desk_run.specs.declared.stops.Halt.{Halt}
+use Rattle.desk_intake.specs.declared.halts.Halt.{Halt}
 use Rattle.std.proofs.lemmas.Bool.{and_parts}
 use Rattle.std.proofs.lemmas.List.Elements.{All-head, All-tail}
 use Rattle.desk_format.specs.Laws.{IsBytes}

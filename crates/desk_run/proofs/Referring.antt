@@ -19,7 +19,7 @@ use Rattle.desk_second.specs.Applications.{classes_of, targets_of, AreBytes}
 use Rattle.desk_second.specs.Second.{AreRules, Follows}
 use Rattle.desk_second.proofs.Second.{references, definitions, second}
 use Rattle.desk_words.specs.declared.roots.Roots.{Roots}
-use Rattle.desk_run.specs.declared.rules.Ruled.{Ruled}
+use Rattle.desk_intake.specs.declared.rules.Ruled.{Ruled}
 use Rattle.desk_run.specs.Answers.{first_of, files_answer, name_clash_status, names_answer, stranded_status}
 use Rattle.desk_run.specs.Endings.{IsDone, StandsAfter, Tells}
 use Rattle.desk_run.specs.Follows.{FollowOver, ReferencesFollow, Follow}

@@ -17,7 +17,8 @@ use Rattle.desk_base.specs.TextMaps.{get-insert-same, get-remove-same}
 use Rattle.desk_folders.specs.ContentsLaws.{get-setting-other}
 use Rattle.desk_file.specs.declared.images.Image.{Image}
 use Rattle.desk_report.specs.declared.lines.Reason.{Reason}
-use Rattle.desk_run.specs.Runs.{Run, FindsIn, TargetsApart, AllRelative, Misses, AllApart, written_of, row_of, has_output, is_candidate, is_kept, is_kept_file, is_fresh, targets_of}
+use Rattle.desk_run.specs.Runs.{Run, FindsIn, TargetsApart, AllRelative, written_of, row_of, has_output, is_candidate, is_kept, is_kept_file, is_fresh, targets_of}
+use Rattle.desk_intake.specs.Apart.{Misses, AllApart}
 use Rattle.desk_batches.specs.Works.{Keep, Work, fresh, wrote_plan, logged_plan, cleared_plan, writes, files_after, ledger_after}
 use Rattle.desk_run.specs.Works.{work_of, works_of}
 use Rattle.desk_batches.proofs.Steps.{files_after-join, ledger_after-join}
@@ -25,7 +26,8 @@ use Rattle.desk_run.specs.Truth.{TrueRows, SoundRows, TargetsTell, TrueLedger, I
 use Rattle.desk_run.specs.Stands.{Unchanged, Between, Within, Stands, Remains}
 use Rattle.desk_run.proofs.Splits.{covered, same_route, apart_before, apart_behind, misses_front, misses_back, relative_at, relative_front}
 use Rattle.desk_run.proofs.After.{Off, Spares, full_apart, files_spare, rows_spare, off_from_misses, spares_from_misses, header_after, header_cleared, cleared_spares}
-use Rattle.desk_run.proofs.Truths.{AllThere, IsThere, there_at, files_there, true_after, true_broken}
+use Rattle.desk_intake.proofs.There.{AllThere, IsThere, there_at, files_there}
+use Rattle.desk_run.proofs.Truths.{true_after, true_broken}
 
 pub and_both : (a b : Bool) → a && b ≡ true → (a ≡ true) × (b ≡ true)
 and_both true b e = (refl, e)

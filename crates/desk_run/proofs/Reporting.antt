@@ -1,7 +1,7 @@
 -- Fronts of what is to be written.
 use Rattle.std.proofs.Common.{◌≡◌, ◌<◌, ℕ, suc, subst, List, [], ◌∷◌, ◌++◌, Option, Some, None, refl, sym, ap, ◌∙◌, take, drop, length, get_or, append_assoc, append-nil, map, map-id, arith}
 use Rattle.desk_base.specs.Names.{Text}
-use Rattle.desk_batches.proofs.Steps.{split_at}
+use Rattle.desk_readings.proofs.Fronts.{split_at}
 use Rattle.desk_batches.specs.declared.noted.Noted.{Noted}
 use Rattle.desk_batches.specs.declared.noted.Outcome.{Outcome}
 use Rattle.desk_batches.specs.declared.noted.Outcome.TheVariants.{Kept}

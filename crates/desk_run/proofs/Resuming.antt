@@ -16,11 +16,12 @@ use Rattle.desk_report.specs.declared.status.Status.{Status}
 use Rattle.desk_report.specs.declared.status.Status.TheVariants.{Done, Refusals, Memory, FolderFault, LedgerFault, OutputFault, Usage, NestedRoots, BadRules, Limit, PathClash, NameClash, Stranded, OtherRun, Moved}
 use Rattle.desk_second.specs.Applications.{classes_of}
 use Rattle.desk_words.specs.declared.roots.Roots.{Roots}
-use Rattle.desk_run.specs.declared.rules.Ruled.{Ruled}
+use Rattle.desk_intake.specs.declared.rules.Ruled.{Ruled}
 use Rattle.desk_run.specs.Named.{Asked}
 use Rattle.desk_run.specs.Runs.{Run, has_output, is_kept, is_kept_file, is_fresh}
 use Rattle.desk_run.specs.Truth.{TrueLedger}
-use Rattle.desk_run.specs.Meaning.{finds_in, ruled, run_of, run_over, run_by_rules, run_of_asked}
+use Rattle.desk_run.specs.Meaning.{finds_in, run_of, run_over, run_by_rules, run_of_asked}
+use Rattle.desk_intake.specs.Rulings.{ruled}
 use Rattle.desk_run.specs.Stands.{Unchanged, Remains}
 use Rattle.desk_run.specs.Endings.{Tells, StandsAfter}
 use Rattle.desk_run.specs.Clauses.{HoldsFiles, HoldsRows, Files, RemainsAt, Left}

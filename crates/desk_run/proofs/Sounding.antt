@@ -7,7 +7,7 @@ use Rattle.sha2.specs.Sha256.{sha256}
 use Rattle.desk_base.specs.Names.{Text}
 use Rattle.desk_base.specs.Paths.{full, is_relative_path}
 use Rattle.desk_base.specs.TextMaps.{get-insert-same, get-insert-other, get-remove-same, get-remove-other}
-use Rattle.desk_batches.proofs.Steps.{split_at}
+use Rattle.desk_readings.proofs.Fronts.{split_at}
 use Rattle.desk_batches.specs.Works.{Plan, Keep, Leave, Write, Work, fresh, forgot, cleared_plan, logged, logged_plan, ledger_after}
 use Rattle.desk_file.specs.declared.images.Image.{Image}
 use Rattle.desk_folders.proofs.Members.{path_below-of}
@@ -24,7 +24,8 @@ use Rattle.desk_run.specs.Stands.{Unchanged, Between, Within, Stands}
 use Rattle.desk_run.proofs.Remaining.{remains_of}
 use Rattle.desk_run.proofs.Sparing.{TellSame, spared}
 use Rattle.desk_run.proofs.Splits.{shorter_than}
-use Rattle.desk_run.proofs.Truths.{AllThere, IsThere, files_there, there_at, text_case}
+use Rattle.desk_intake.proofs.There.{AllThere, IsThere, files_there, there_at}
+use Rattle.desk_run.proofs.Truths.{text_case}
 
 -- ---- where a row comes from
 

@@ -1,9 +1,9 @@
 -- Lists in two parts, and texts that differ.
 use Rattle.std.proofs.Common.{◌≡◌, ℕ, ◌<◌, List, [], ◌∷◌, ◌++◌, length, length-append, refl, sym, ap, ◌∙◌, arith}
-use Rattle.std.specs.Prelude.{map}
-use Rattle.std.specs.Prelude.{true}
+use Rattle.std.specs.Prelude.{map, true}
 use Rattle.desk_base.specs.Paths.{is_relative_path}
-use Rattle.desk_run.specs.Runs.{Misses, AllApart, AllRelative}
+use Rattle.desk_intake.specs.Apart.{Misses, AllApart}
+use Rattle.desk_run.specs.Runs.{AllRelative}
 
 -- where a part ends that a longer front covers
 pub record Covered {X : Type 0} (before rest a : List X) (x : X) (b : List X) : Type 0 where

@@ -1,18 +1,13 @@
 -- A true ledger stays true, whatever is done or left undone.
-use Rattle.std.proofs.Common.{◌≡◌, ◌≢◌, ◌⊎◌, inl, inr, List, [], ◌∷◌, ◌++◌, Option, Some, None, refl, sym, ap, ◌∙◌, subst, true, false, Bool, cond, unwrap_or, append_assoc, is_some, map, eqb, arith, Result, Ok, Err}
-use Rattle.std.specs.Prelude.{option_and_then, if◌then◌else◌, IfSome}
+use Rattle.std.proofs.Common.{◌≡◌, ◌≢◌, ◌⊎◌, inl, inr, List, [], ◌∷◌, Option, Some, None, refl, sym, ap, ◌∙◌, subst, true, false, Bool, cond, Result, Ok, Err}
+use Rattle.std.specs.Prelude.{IfSome}
 use Rattle.std.specs.FinMap as fin
-use Rattle.std.specs.Ordering.{nat_cmp, eq_by_cmp}
-use Rattle.std.specs.Cmp.{eq_by_cmp_equiv}
-use Rattle.std.specs.Cmp.Lexicographic.{slice_cmp}
-use Rattle.std.proofs.lemmas.Cmp.{nat_list_cmp_total}
-use Rattle.std.specs.List.{filter_map, list_any}
 use Rattle.std.specs.Str.{bytes_eq}
 use Rattle.std.proofs.lemmas.Slice.Eq.{bytes_eq-Decides}
-use Rattle.std.proofs.lemmas.Bool.Decides.{not_from_Decides, Decides-eqb}
+use Rattle.std.proofs.lemmas.Bool.Decides.{not_from_Decides}
 use Rattle.desk_base.specs.Names.{Text}
-use Rattle.desk_base.specs.Paths.{full, folder, is_relative_path}
-use Rattle.desk_folders.specs.Contents.{Contents, File, behind, below, relative, setting, file_at, files_below}
+use Rattle.desk_base.specs.Paths.{full, is_relative_path}
+use Rattle.desk_folders.specs.Contents.{Contents, File, setting}
 use Rattle.desk_base.specs.TextMaps.{get-insert-same, get-insert-other}
 use Rattle.desk_folders.specs.ContentsLaws.{get-setting-other}
 use Rattle.desk_ledger.specs.declared.keeper.Held.{Held}
@@ -21,6 +16,7 @@ use Rattle.desk_ledger.specs.Ledger.{Ledger, Rows}
 use Rattle.desk_file.specs.declared.images.Image.{Image}
 use Rattle.desk_report.specs.declared.lines.Reason.{Reason}
 use Rattle.desk_words.specs.Roots.{RootsApart}
+use Rattle.desk_intake.proofs.There.{IsThere, AllThere}
 use Rattle.desk_run.specs.Runs.{Run, AllRelative, written_of, targets_of}
 use Rattle.desk_batches.specs.Works.{Plan, Keep, fresh, wrote, wrote_plan, logged, logged_plan, files_after, ledger_after}
 use Rattle.desk_run.specs.Works.{work_of, works_of}
@@ -34,72 +30,6 @@ text_case p q =
       | true ↦ λ e. inl (d.0 e)
       | false ↦ λ e. inr (not_from_Decides _ d e)
     ] refl
-
--- the files are there with these bytes, at relative paths
-pub record IsThere (root : Text) (m : Contents) (file : File) : Type 0 where
-  pub held : fin.get m (full root file.path) ≡ Some file.bytes
-  pub relative : is_relative_path file.path ≡ true
-
-abbrev pub AllThere : Text → Contents → List File → Type 0
-AllThere root m [] = Unit {0}
-AllThere root m (file ∷ files) = IsThere root m file × AllThere root m files
-
-pub there_at : (root : Text) (m : Contents) (a : List File) (file : File) (b : List File) → AllThere root m (a ++ file ∷ b) → IsThere root m file
-there_at root m [] file b h = h.0
-there_at root m (x ∷ a) file b h = there_at root m a file b h.1
-
-behind_is : (front text rest : Text) → behind front text ≡ Some rest → front ++ rest ≡ text
-behind_is [] text rest e = cc
-behind_is (b ∷ front) [] rest e = cc
-behind_is (b ∷ front) (c ∷ text) rest e = at (eqb b c) refl (behind_is front text rest) e where
-  at : (same : Bool) → eqb b c ≡ same → (behind front text ≡ Some rest → front ++ rest ≡ text) → cond same (behind front text) None ≡ Some rest → b ∷ (front ++ rest) ≡ c ∷ text
-  at true s more e = let h = (Decides-eqb b c).0 s in let t = more e in cc
-  at false s more e = cc
-
--- a relative path below a root, of a full path
-record IsBelow (root path p : Text) : Type 0 where
-  is : full root p ≡ path
-  relative : is_relative_path p ≡ true
-
-below_is : (root path p : Text) → below root path ≡ Some p → IsBelow root path p
-below_is root path p e = by (behind (folder root) path) refl e where
-  relative_is : (q : Text) (x : Bool) → is_relative_path q ≡ x → (if x then Some q else None) ≡ Some p → (q ≡ p) × (is_relative_path q ≡ true)
-  relative_is q true f g = (cc, f)
-  relative_is q false f g = cc
-
-  by : (o : Option Text) → behind (folder root) path ≡ o → option_and_then relative o ≡ Some p → IsBelow root path p
-  by None f g = cc
-  by (Some q) f g =
-      let r = relative_is q (is_relative_path q) refl g in
-      record { is = ap (full root) (sym r.0) ∙ behind_is (folder root) path q f; relative = ap is_relative_path (sym r.0) ∙ r.1 }
-
--- each of these paths is in the map
-abbrev Held' : Contents → List Text → Type 0
-Held' m [] = Unit {0}
-Held' m (k ∷ ks) = (is_some (fin.get m k) ≡ true) × Held' m ks
-
-some_held : (o : Option Text) → is_some o ≡ true → o ≡ Some (unwrap_or o [])
-some_held None e = cc
-some_held (Some x) e = refl
-
-there_from : (root : Text) (m : Contents) (ks : List Text) → Held' m ks → AllThere root m (map (file_at root m) (filter_map (below root) ks))
-there_from root m [] h = tt
-there_from root m (k ∷ ks) h = elim (below root k) as (λ o. below root k ≡ o → AllThere root m (map (file_at root m) (filter_map (below root) (k ∷ ks)))) [
-  | None ↦ λ e. rw e (there_from root m ks h.1)
-  | Some p ↦ λ e. let b = below_is root k p e in rw e (record { held = some_held _ (ap (λ q. is_some (fin.get m q)) b.is ∙ h.0); relative = b.relative }, there_from root m ks h.1)
-] refl
-
-any_at : (q : Text) (a : List Text) (b : List Text) → list_any (eq_by_cmp (slice_cmp nat_cmp) q) (a ++ q ∷ b) ≡ true
-any_at q [] b = let e = (eq_by_cmp_equiv nat_list_cmp_total).refl q in grind (arith, e)
-any_at q (x ∷ a) b = let e = any_at q a b in grind (arith, e)
-
-held_from : (m : Contents) (a ks : List Text) → fin.keys m ≡ a ++ ks → Held' m ks
-held_from m a [] e = tt
-held_from m a (k ∷ ks) e = (fin.contains_key-keys m k ∙ ap (list_any (eq_by_cmp (slice_cmp nat_cmp) k)) e ∙ any_at k a ks, held_from m (a ++ k ∷ []) ks (e ∙ sym (append_assoc a (k ∷ []) ks)))
-
--- the files below a root are there
-pub files_there : (root : Text) (m : Contents) → AllThere root m (files_below root m)
-files_there root m = there_from root m (fin.keys m) (held_from m [] (fin.keys m) refl)
 
 there_after : (from to target : Text) (plan : Plan) (m : Contents) (files : List File) → RootsApart from to → is_relative_path target ≡ true → AllThere from m files → AllThere from (wrote_plan (full to target) plan m) files
 there_after from to target plan m [] apart rel h = tt

@@ -11,7 +11,7 @@ use Rattle.desk_ledger.specs.declared.keeper.Header.{Header}
 use Rattle.desk_ledger.specs.Ledger.{Ledger}
 use Rattle.desk_report.specs.declared.status.Status.{Status}
 use Rattle.desk_report.specs.declared.status.Status.TheVariants.{Usage, NestedRoots, BadRules, Limit, PathClash, NameClash, Stranded, OtherRun}
-use Rattle.desk_run.specs.Limits.{paths_answer, size_answer}
+use Rattle.desk_intake.specs.Limits.{paths_answer, size_answer}
 use Rattle.desk_run.specs.Reports.{ending}
 use Rattle.desk_run.specs.Runs.{Run}
 use Rattle.desk_run.specs.Named.{Asked}

@@ -17,14 +17,14 @@ use Rattle.desk_report.specs.declared.status.Status.{Status}
 use Rattle.desk_report.specs.declared.status.Status.TheVariants.{Done, Refusals, Memory, FolderFault, LedgerFault, OutputFault, OtherRun, Moved}
 use Rattle.desk_report.specs.Written.{WritesFront, writing}
 use Rattle.desk_batches.specs.Works.{Work, files_after, ledger_after}
-use Rattle.desk_batches.specs.declared.measured.Measured.{Measured}
+use Rattle.desk_readings.specs.declared.measured.Measured.{Measured}
 use Rattle.desk_batches.specs.declared.noted.Noted.{Noted}
 use Rattle.desk_batches.specs.declared.noted.Outcome.{Outcome}
 use Rattle.desk_batches.specs.declared.stops.Stop.TheVariants as stop
 use Rattle.desk_words.specs.declared.roots.Roots.{Roots}
-use Rattle.desk_run.specs.declared.rules.Ruled.{Ruled}
-use Rattle.desk_run.specs.declared.stops.Halt.{Halt}
-use Rattle.desk_run.specs.declared.stops.Halt.TheVariants as halt
+use Rattle.desk_intake.specs.declared.rules.Ruled.{Ruled}
+use Rattle.desk_intake.specs.declared.halts.Halt.{Halt}
+use Rattle.desk_intake.specs.declared.halts.Halt.TheVariants as halt
 use Rattle.desk_run.specs.Runs.{Run, FindsIn, TargetsApart}
 use Rattle.desk_run.specs.Works.{works_of}
 use Rattle.desk_run.specs.Truth.{IsOurs}

@@ -12,7 +12,7 @@ use Rattle.desk_report.specs.declared.status.Status.TheVariants.{Done, Refusals}
 use Rattle.desk_rules.specs.Rules.{Rules}
 use Rattle.desk_second.specs.Second.{Follows, AreImages, IsMigrated}
 use Rattle.desk_words.specs.declared.roots.Roots.{Roots}
-use Rattle.desk_run.specs.declared.rules.Ruled.{Ruled}
+use Rattle.desk_intake.specs.declared.rules.Ruled.{Ruled}
 use Rattle.desk_run.specs.Classes.{is_selected_class}
 use Rattle.desk_run.specs.Meaning.{run_of, run_of_asked}
 use Rattle.desk_run.specs.Named.{Asked}

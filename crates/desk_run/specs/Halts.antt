@@ -1,84 +1,29 @@
 -- Where the steps before the first write may halt.
-use Rattle.std.specs.Prelude.{◌≡◌, ◌⊎◌, ℕ, List, ◌∷◌, Option, Some, None, Bool, true, false, Result, Ok, Err, IfSome, option_map, map}
+use Rattle.std.specs.Prelude.{◌≡◌, ◌⊎◌, ℕ, List, Option, Some, None, Bool, true, false, Result, Ok, Err, IfSome, option_map, map}
 use Rattle.desk_base.specs.Names.{Text}
 use Rattle.desk_clashes.specs.Clashes.{first_clash}
 use Rattle.desk_base.specs.Counts.{Rose}
 use Rattle.desk_file.specs.Images.{target}
 use Rattle.desk_file.specs.Treatments.{is_whole}
-use Rattle.desk_folders.specs.Contents.{Contents, File, file_at, files_below}
+use Rattle.desk_folders.specs.Contents.{Contents, files_below}
 use Rattle.desk_ledger.specs.declared.keeper.Header.{Header}
 use Rattle.desk_ledger.specs.Ledger.{Ledger, with_header}
 use Rattle.desk_report.specs.declared.status.Status.{Status}
 use Rattle.desk_report.specs.declared.status.Status.TheVariants.{Usage, NestedRoots, BadRules, Limit, PathClash, NameClash, Stranded, OtherRun}
-use Rattle.desk_rules.specs.Rules.{Rules}
-use Rattle.desk_rules.specs.declared.RuleFault.{RuleFault}
 use Rattle.desk_words.specs.declared.roots.Roots.{Roots}
 use Rattle.desk_run.specs.Named.{Asked}
-use Rattle.desk_batches.specs.declared.measured.Measured.{Measured}
-use Rattle.desk_run.specs.declared.stops.Halt.{Halt}
-use Rattle.desk_run.specs.declared.stops.Halt.TheVariants.{Memory, Folders, Ledger as LedgerHalt, Answer}
-use Rattle.desk_run.specs.declared.rules.Ruled.{Ruled}
-use Rattle.desk_run.specs.Limits.{first_long, long_answer, rule_size_answer}
-use Rattle.desk_run.specs.Meaning.{ruled}
+use Rattle.desk_readings.specs.declared.measured.Measured.{Measured}
+use Rattle.desk_intake.specs.Halts.{HaltsWith, is_files_status}
+use Rattle.desk_intake.specs.declared.halts.Halt.{Halt}
+use Rattle.desk_intake.specs.declared.halts.Halt.TheVariants.{Memory, Folders, Ledger as LedgerHalt, Answer}
+use Rattle.desk_intake.specs.declared.rules.Ruled.{Ruled}
+use Rattle.desk_intake.specs.Rulings.{ruled}
 use Rattle.desk_run.specs.Answers.{clash_status, files_answer, first_answer, other_run, AskedCause}
 use Rattle.desk_run.specs.Truth.{IsOurs}
-
--- a status of the rule folder
-abbrev pub is_rules_status : Status → Bool
-is_rules_status (BadRules fault) = true
-is_rules_status (Limit kind path) = true
-is_rules_status _ = false
-
--- at the rules below a root
-abbrev pub HaltsAtRules : Text → Option Contents → ℕ → ℕ → Halt → Type 0
-HaltsAtRules root told f f' Memory = Unit {0}
-HaltsAtRules root told f f' Folders = Rose f f'
-HaltsAtRules root told f f' (Answer status) = (is_rules_status status ≡ true) × IfSome told (λ m. ruled root (files_below root m) ≡ Err status)
-HaltsAtRules root told f f' _ = ⊥
-
--- where rule files are read: one of them has too many bytes
-abbrev pub HaltsTaking : Text → Option Contents → ℕ → ℕ → Halt → Type 0
-HaltsTaking root told f f' Memory = Unit {0}
-HaltsTaking root told f f' Folders = Rose f f'
-HaltsTaking root told f f' (Answer status) = (is_rules_status status ≡ true) × IfSome told (λ m. rule_size_answer (files_below root m) ≡ Some status)
-HaltsTaking root told f f' _ = ⊥
-
--- where one rule file is read
-abbrev pub HaltsTakingOne : Text → Text → Option Contents → ℕ → ℕ → Halt → Type 0
-HaltsTakingOne root path told f f' Memory = Unit {0}
-HaltsTakingOne root path told f f' Folders = Rose f f'
-HaltsTakingOne root path told f f' (Answer status) = (is_rules_status status ≡ true)
-    × IfSome told (λ m. (more : List File) → rule_size_answer (file_at root m path ∷ more) ≡ Some status)
-HaltsTakingOne root path told f f' _ = ⊥
-
--- where the rules of files are built
-abbrev pub HaltsBuilding : Result Rules RuleFault → Halt → Type 0
-HaltsBuilding rules Memory = Unit {0}
-HaltsBuilding rules (Answer (BadRules fault)) = rules ≡ Err fault
-HaltsBuilding rules _ = ⊥
-
--- a status of the files
-abbrev pub is_files_status : Status → Bool
-is_files_status (Limit kind path) = true
-is_files_status (PathClash first second) = true
-is_files_status _ = false
-
--- at what stands against the files, as an answer tells
-abbrev pub HaltsWith : (Contents → Option Status) → Option Contents → ℕ → ℕ → Halt → Type 0
-HaltsWith answer told f f' Memory = Unit {0}
-HaltsWith answer told f f' Folders = Rose f f'
-HaltsWith answer told f f' (Answer status) = (is_files_status status ≡ true) × IfSome told (λ m. answer m ≡ Some status)
-HaltsWith answer told f f' _ = ⊥
 
 -- at the files below a root
 abbrev pub HaltsAtFiles : Text → (Text → Text) → (Text → Bool) → Option Contents → ℕ → ℕ → Halt → Type 0
 HaltsAtFiles from target whole = HaltsWith (files_answer from target whole)
-
--- at the first path that is too long
-abbrev pub HaltsRouting : (Text → Text) → List Text → Halt → Type 0
-HaltsRouting target paths Memory = Unit {0}
-HaltsRouting target paths (Answer status) = (is_files_status status ≡ true) × (long_answer (first_long target paths) ≡ Some status)
-HaltsRouting target paths _ = ⊥
 
 -- what stands against files that were read, by their targets
 abbrev pub clash_of : List Measured → Option Status

@@ -1,7 +1,6 @@
 pub mod Runs
 pub mod Works
 pub mod Notes
-pub mod Limits
 pub mod Truth
 pub mod Stands
 pub mod Stops
@@ -10,7 +9,6 @@ pub mod Named
 pub mod Meaning
 pub mod Answers
 pub mod Halts
-pub mod RuleFolders
 pub mod Endings
 pub mod Classes
 pub mod Follows

@@ -1,17 +1,16 @@
 -- Files as the first reading finds them, and what is done with each by the rows of the ledger.
-use Rattle.std.specs.Prelude.{◌≡◌, ◌≤◌, true, ℕ, Bool, length, not, Option, cond, is_some}
+use Rattle.std.specs.Prelude.{Bool, length, not, cond, is_some}
 use Rattle.std.specs.FinMap as fin
 use Rattle.desk_base.specs.Names.{Text}
-use Rattle.desk_base.specs.Paths.{is_relative_path}
-use Rattle.desk_batches.specs.Noting.{IsWithin}
-use Rattle.desk_batches.specs.declared.measured.Measured.{Measured}
+use Rattle.desk_readings.specs.Noting.{IsWithin}
+use Rattle.desk_readings.specs.declared.measured.Measured.{Measured}
 use Rattle.desk_batches.specs.declared.noted.Noted.{Noted}
 use Rattle.desk_batches.specs.declared.noted.Way.{Way}
 use Rattle.desk_batches.specs.declared.noted.Way.TheVariants.{Keep, Migrate, Copy}
 use Rattle.desk_file.specs.Routes.{IsRouteBy, route_of}
 use Rattle.desk_file.specs.Treatments.{is_copy}
-use Rattle.desk_file.specs.declared.routes.Route.{Route}
 use Rattle.desk_folders.specs.Contents.{File}
+use Rattle.desk_intake.specs.Routes.{IsRelativeRoute}
 use Rattle.desk_ledger.specs.declared.keeper.Held.{Held}
 use Rattle.desk_ledger.specs.Digests.{digest}
 use Rattle.desk_ledger.specs.Ledger.{Rows}
@@ -37,11 +36,6 @@ measured_in noted = record { route = noted.route; size = noted.size; digest = no
 -- a file of the source as the first reading finds it
 abbrev pub measured_of : Rules → File → Measured
 measured_of rules file = record { route = route_of rules file.path; size = length file.bytes; digest = digest file.bytes }
-
--- from a relative path to a relative path
-pub record IsRelativeRoute (route : Route) : Type 0 where
-  pub path : is_relative_path route.path ≡ true
-  pub target : is_relative_path route.target ≡ true
 
 -- what is known of a file that was read, whatever the folders tell: its route is that of its path, and it has no more bytes than
 -- it may have

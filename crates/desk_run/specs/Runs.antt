@@ -1,5 +1,5 @@
 -- What a run goes by, and what is said of its files one by one.
-use Rattle.std.specs.Prelude.{◌≡◌, ◌≢◌, Bool, true, false, not, ◌&&◌, ◌==◌, List, [], ◌∷◌, Option, Some, None, Result, is_ok, is_err, map, cond}
+use Rattle.std.specs.Prelude.{◌≡◌, Bool, true, false, not, ◌&&◌, ◌==◌, List, [], ◌∷◌, Option, Some, None, Result, is_ok, is_err, map, cond}
 use Rattle.std.specs.Cmp.Lexicographic.{pointwise}
 use Rattle.std.specs.FinMap as fin
 use Rattle.sha2.specs.Sha256.{sha256}
@@ -8,6 +8,7 @@ use Rattle.desk_base.specs.Paths.{full, is_relative_path}
 use Rattle.desk_batches.specs.Turns.{same_digest}
 use Rattle.desk_folders.specs.Contents.{Contents, File, files_below}
 use Rattle.desk_graph.specs.declared.scanned.Scanned.{Scanned}
+use Rattle.desk_intake.specs.Apart.{AllApart}
 use Rattle.desk_ledger.specs.declared.digest.Digest.{Digest}
 use Rattle.desk_ledger.specs.declared.keeper.Header.{Header}
 use Rattle.desk_ledger.specs.declared.keeper.Held.{Held}
@@ -73,16 +74,6 @@ row_of run rows file image = cond (is_kept_file run rows file) (fin.get rows (ru
 
 abbrev pub targets_of : Run → List File → List Text
 targets_of run = map (λ file. run.target file.path)
-
--- a text isn't in the list
-abbrev pub Misses : Text → List Text → Type 0
-Misses t [] = Unit {0}
-Misses t (u ∷ us) = (t ≢ u) × Misses t us
-
--- no text stands in the list twice
-abbrev pub AllApart : List Text → Type 0
-AllApart [] = Unit {0}
-AllApart (t ∷ ts) = Misses t ts × AllApart ts
 
 -- each of these is a relative path
 abbrev pub AllRelative : List Text → Type 0

@@ -3,24 +3,15 @@ use Rattle.std.specs.Prelude.{◌≡◌, ◌⊎◌, ℕ, List, length, Option, o
 use Rattle.desk_base.specs.Names.{Text}
 use Rattle.desk_batches.specs.Stops.{StoppedAt}
 use Rattle.desk_batches.specs.Works.{Work, files_after, ledger_after}
-use Rattle.desk_batches.specs.declared.stops.NoteFault.{NoteFault}
-use Rattle.desk_batches.specs.declared.stops.NoteFault.TheVariants as note
 use Rattle.desk_batches.specs.declared.stops.Stop.{Stop}
 use Rattle.desk_batches.specs.declared.stops.Stop.TheVariants.{Memory, Folders, Ledger as LedgerStop, Moved}
-use Rattle.desk_folders.specs.declared.folders.FolderFault.{FolderFault}
-use Rattle.desk_folders.specs.declared.folders.FolderFault.TheVariants as folder
 use Rattle.desk_folders.specs.Contents.{Contents}
-use Rattle.desk_graph.specs.declared.graph.GraphFault.{GraphFault}
-use Rattle.desk_graph.specs.declared.graph.GraphFault.TheVariants as graph
-use Rattle.desk_ledger.specs.declared.keeper.KeeperFault.{KeeperFault}
-use Rattle.desk_ledger.specs.declared.keeper.KeeperFault.TheVariants as keeper
 use Rattle.desk_ledger.specs.declared.keeper.Row.{Row}
 use Rattle.desk_ledger.specs.Ledger.{Ledger, NoneWaits}
-use Rattle.desk_report.specs.declared.status.LimitKind.TheVariants.{FileSize}
 use Rattle.desk_report.specs.declared.status.Status.{Status}
 use Rattle.desk_report.specs.declared.status.Status.TheVariants as status
-use Rattle.desk_run.specs.declared.stops.Halt.{Halt}
-use Rattle.desk_run.specs.declared.stops.Halt.TheVariants as halt
+use Rattle.desk_intake.specs.declared.halts.Halt.{Halt}
+use Rattle.desk_intake.specs.declared.halts.Halt.TheVariants as halt
 
 -- all works were done, so many
 pub record StoppedBehind (to : Text) (works : List Work) (done : ℕ) (f f' : Option Contents) (k k' : Option Ledger) : Type 0 where
@@ -47,24 +38,6 @@ status_of_stop Memory done = status.Memory
 status_of_stop Folders done = status.FolderFault done
 status_of_stop LedgerStop done = status.LedgerFault done
 status_of_stop (Moved moved) done = status.Moved moved.path moved.first moved.second
-
-abbrev pub halt_of_folders : FolderFault → Halt
-halt_of_folders folder.Failed = halt.Folders
-halt_of_folders folder.Memory = halt.Memory
-
-abbrev pub halt_of_note : NoteFault → Halt
-halt_of_note note.Memory = halt.Memory
-halt_of_note note.Folders = halt.Folders
-halt_of_note (note.TooLarge path) = halt.Answer (status.Limit FileSize path)
-
-abbrev pub halt_of_graph : GraphFault → Halt
-halt_of_graph (graph.NameClash defined other image) = halt.Answer (status.NameClash defined other image)
-halt_of_graph (graph.Stranded path name) = halt.Answer (status.Stranded path name)
-halt_of_graph graph.Memory = halt.Memory
-
-abbrev pub halt_of_keeper : KeeperFault → Halt
-halt_of_keeper keeper.Failed = halt.Ledger
-halt_of_keeper keeper.Memory = halt.Memory
 
 abbrev pub status_of_halt : Halt → Status
 status_of_halt halt.Memory = status.Memory

@@ -5,10 +5,10 @@ ghost use Rattle.desk_clashes.specs.Clashes.{first_clash};
 ghost use Rattle.desk_run.specs.Answers.{clash_status};
 ghost use Rattle.desk_run.specs.Halts.{HaltsClashing, clash_of};
 
-use crate::stops::Halt;
 use desk_base::{Memory, Text};
-use desk_batches::Measured;
 use desk_clashes::{Clash, Targets};
+use desk_intake::Halt;
+use desk_readings::Measured;
 use desk_report::Status;
 use std::alloc::Global;
 

@@ -6,33 +6,10 @@ ghost use Rattle.desk_rename.specs.Images.{cls};
 ghost use Rattle.desk_run.specs.Answers.{names_answer};
 ghost use Rattle.desk_run.specs.Halts.{HaltsAtNames};
 
-use crate::stops::Halt;
-use desk_graph::{ClassGraph, GraphFault, Scanned};
-use desk_report::Status;
+use desk_graph::{ClassGraph, Scanned};
+use desk_intake::Halt;
 use desk_rules::RuleSet;
 use std::alloc::Global;
-
-impl From<GraphFault> for Halt {
-    ghost use Rattle.desk_run.specs.Stops.{halt_of_graph};
-
-    ghost from_gives = { λ fault halt. halt ≡ halt_of_graph fault };
-
-    fn from(fault: GraphFault) -> Halt {
-        match fault {
-            GraphFault::NameClash {
-                defined,
-                other,
-                image,
-            } => Halt::Answer(Status::NameClash {
-                defined,
-                other,
-                image,
-            }),
-            GraphFault::Stranded { path, name } => Halt::Answer(Status::Stranded { path, name }),
-            GraphFault::Memory => Halt::Memory,
-        }
-    }
-}
 
 /// The graph of classes, or what stands against their names: two that would become one, or a class that would be left behind.
 pub(crate) fn build_graph<'r>(

@@ -10,10 +10,10 @@ ghost use Rattle.desk_run.specs.Generated.{TellsTotals, generated_files, generat
 
 use crate::finish::totals_of_run;
 use desk_base::{Memory, Text};
-use desk_batches::full_path;
 use desk_folders::{GenFile, MemoryFolders};
 use desk_gen::{generate, rule_file};
 use desk_ledger::MemoryKeeper;
+use desk_readings::full_path;
 use desk_report::{Sink, Status, Summary, write_summary};
 use desk_words::Roots;
 use desk_workers::Gate;

@@ -24,12 +24,9 @@ mod classes;
 mod finish;
 mod gather;
 mod generate;
-mod listing;
 mod opening;
 mod planning;
 mod report;
-mod rules;
-mod sources;
 mod stops;
 
 use desk_base::Text;
@@ -45,18 +42,6 @@ use generate::run_generated;
 use std::alloc::Global;
 use std::thread::Threads;
 use stops::status_of_words;
-
-/// How many files of the source a run takes.
-pub const FILES: u32 = 200_000;
-
-/// How many bytes a relative path or its target may have.
-pub const LENGTH: usize = 1024;
-
-/// How many files the rule folder may have.
-pub const RULE_FILES: u32 = 1000;
-
-/// How many bytes a rule file may have.
-pub const RULE_SIZE: usize = 1_048_576;
 
 /// Does what words ask for, without the line of a fault.
 fn follow<R: Threads + Sync, F: Folders, K: Keeper, O: Sink, G: Gate + Sync>(

@@ -6,8 +6,8 @@ ghost use Rattle.desk_run.specs.Answers.{other_run, same_header};
 ghost use Rattle.desk_run.specs.Halts.{HaltsAtLedger, NamedAtHalt};
 ghost use Rattle.desk_run.specs.Truth.{IsOurs};
 
-use crate::stops::Halt;
 use desk_base::Text;
+use desk_intake::Halt;
 use desk_ledger::{Header, Keeper};
 use desk_report::Status;
 

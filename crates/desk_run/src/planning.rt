@@ -5,21 +5,23 @@ ghost use Rattle.std.specs.FinMap as fin;
 ghost use Rattle.desk_base.specs.Counts.{Rose};
 ghost use Rattle.desk_base.specs.Paths.{full, is_relative_path};
 ghost use Rattle.desk_batches.specs.Notes.{IsSound};
-ghost use Rattle.desk_batches.specs.Noting.{IsWithin};
+ghost use Rattle.desk_readings.specs.Noting.{IsWithin};
 ghost use Rattle.desk_file.specs.Treatments.{is_copy};
 ghost use Rattle.desk_ledger.specs.Ledger.{held_in};
 ghost use Rattle.desk_run.specs.Endings.{WhereTold};
 ghost use Rattle.desk_run.specs.Halts.{HaltsPlanning};
 ghost use Rattle.desk_run.specs.Meaning.{finds_in};
-ghost use Rattle.desk_run.specs.Notes.{IsRelativeRoute, measured_in, noted_by, way_by};
+ghost use Rattle.desk_intake.specs.Routes.{IsRelativeRoute};
+ghost use Rattle.desk_run.specs.Notes.{measured_in, noted_by, way_by};
 ghost use Rattle.desk_run.specs.Runs.{has_output, is_candidate, is_kept};
 ghost use Rattle.desk_words.specs.Roots.{AreRoots, IsPathRoot};
 
-use crate::stops::Halt;
 use desk_base::Text;
-use desk_batches::{Measured, Noted, Way, digest_of_front, full_path};
+use desk_batches::{Noted, Way};
 use desk_folders::{FolderFault, Folders};
+use desk_intake::Halt;
 use desk_ledger::{Digest, Keeper, Row};
+use desk_readings::{Measured, digest_of_front, full_path};
 use desk_words::Roots;
 use std::alloc::Global;
 

@@ -11,25 +11,13 @@
 #[cfg(test)]
 mod applications;
 #[cfg(test)]
-mod changing;
-#[cfg(test)]
-mod classes;
-#[cfg(test)]
-mod failing;
-#[cfg(test)]
-mod faults;
-#[cfg(test)]
-mod fixture;
+mod expecting;
 #[cfg(test)]
 mod limits;
-#[cfg(test)]
-mod readings;
 #[cfg(test)]
 mod reports;
 #[cfg(test)]
 mod statuses;
-#[cfg(test)]
-mod unwritten;
 #[cfg(test)]
 mod verify;
 #[cfg(test)]

@@ -1,10 +1,11 @@
 //! Runs at each limit, and one past it.
 
-use crate::fixture::{
-    BELOW, Ended, ROOM, RULE, WORDS, expect, file_of, first_run, folders_with, keeper_of, run,
-};
+use crate::expecting::expect;
 use desk_base::Text;
 use desk_folders::{GenFile, MemoryFolders};
+use run_fixtures::{
+    BELOW, Ended, ROOM, RULE, WORDS, file_of, first_run, folders_with, keeper_of, run,
+};
 use std::alloc::Global;
 use std::test::Fail;
 use std::thread::Threads;

@@ -1,8 +1,7 @@
 //! What a run that completes writes, and where.
 
-use crate::fixture::{
-    BELOW, ROOM, RULE, WORDS, expect, expect_files, first_run, folders_of, keeper_of, run,
-};
+use crate::expecting::{expect, expect_files};
+use run_fixtures::{BELOW, ROOM, RULE, WORDS, first_run, folders_of, keeper_of, run};
 use std::test::Fail;
 
 #[test]

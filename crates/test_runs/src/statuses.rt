@@ -1,6 +1,7 @@
 //! What stands against a run before its first file.
 
-use crate::fixture::{ROOM, WORDS, expect, first_run, folders_of, keeper_of, run};
+use crate::expecting::expect;
+use run_fixtures::{ROOM, WORDS, first_run, folders_of, keeper_of, run};
 use std::alloc::Global;
 use std::test::Fail;
 use std::thread::Threads;

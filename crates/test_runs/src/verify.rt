@@ -1,11 +1,10 @@
 //! Runs that look at the targets of the files that they would keep.
 
-use crate::faults::THREE_FILES;
-use crate::fixture::{
-    ROOM, WORDS, expect, expect_files, files_of, folders_of, folders_with, header_of, keeper_of,
-    row_of, run,
-};
+use crate::expecting::{expect, expect_files};
 use desk_ledger::{MemoryKeeper, OldRow, digest_of};
+use run_fixtures::{
+    ROOM, THREE_FILES, WORDS, files_of, folders_of, folders_with, header_of, keeper_of, row_of, run,
+};
 use std::alloc::Global;
 use std::test::Fail;
 use std::thread::Threads;

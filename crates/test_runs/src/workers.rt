@@ -1,43 +1,14 @@
 //! Runs by several workers.
 
-use crate::applications::{SHOP, SHOP_REPORT, have_same_rows, holds_shop};
-use crate::classes::{A, B};
-use crate::fixture::{
-    BELOW, Ended, ROOM, WORDS, expect, folders_of, have_same_header, keeper_of, run, run_through,
-};
-use desk_folders::MemoryFolders;
-use desk_ledger::MemoryKeeper;
+use crate::expecting::expect;
 use desk_run::FreeGate;
 use desk_workers::Gate;
-use std::alloc::Global;
+use run_fixtures::{
+    A, B, BELOW, ROOM, SHOP, SHOP_REPORT, WORDS, folders_of, have_same_header, have_same_rows,
+    holds_shop, keeper_of, run, run_by,
+};
 use std::sync::atomic::{AtomicU64, Ordering};
 use std::test::Fail;
-use std::thread::Threads;
-
-/// How a run by so many workers ends, through a gate.
-pub fn run_by<R: Threads + Sync, G: Gate + Sync>(
-    rt: &R,
-    alloc: Global,
-    workers: &[u8],
-    folders: &mut MemoryFolders,
-    keeper: &mut MemoryKeeper,
-    gate: &G,
-) -> Result<Ended, Fail> {
-    let words: &[&[u8]] = &[
-        b"run",
-        b"--rules",
-        b"r",
-        b"--from",
-        b"in",
-        b"--to",
-        b"out",
-        b"--ledger",
-        b"l",
-        b"--workers",
-        workers,
-    ];
-    run_through(rt, alloc, words, folders, keeper, ROOM, gate)
-}
 
 /// Numbers of workers.
 const WORKERS: &[&[u8]] = &[b"1", b"2", b"8", b"64"];

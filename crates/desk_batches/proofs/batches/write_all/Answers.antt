@@ -2,7 +2,7 @@ use Rattle.std.proofs.Common.{rules, ◌≡◌, ◌≢◌, ◌≤◌, ◌+◌, �
 use Rattle.std.specs.Prelude.{option_map, ◌++◌}
 use Rattle.std.specs.List.{slice_range}
 use Rattle.std.proofs.lemmas.List.{map-append}
-use Rattle.desk_batches.proofs.Fronts.{if_some, taken_all}
+use Rattle.desk_readings.proofs.Fronts.{if_some, taken_all}
 use Rattle.desk_batches.specs.Stops.{StoppedAt}
 use Rattle.desk_batches.specs.Works.{files_after, ledger_after}
 use Rattle.desk_file.specs.Linked.{image_in}

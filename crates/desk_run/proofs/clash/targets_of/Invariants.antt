@@ -1,5 +1,5 @@
 use Rattle.std.proofs.Common.{◌≡◌, take, map}
-use Rattle.desk_batches.specs.declared.measured.Measured.{Measured}
+use Rattle.desk_readings.specs.declared.measured.Measured.{Measured}
 use Rattle.desk_run.proofs.clash.targets_of.Given as goal
 
 abbrev pub invariant-loop-file : goal.invariant-loop-file

@@ -5,7 +5,7 @@ use Rattle.desk_file.specs.Treatments.{is_whole}
 use Rattle.desk_run.proofs.FirstReadings.{all_read, all_there, halts_large}
 use Rattle.desk_run.proofs.Gathering.{are_read, halts_clash, halts_sizes, says_told}
 use Rattle.desk_run.specs.Halts.{HaltsAtFiles, HaltsClashing, clash_of}
-use Rattle.desk_run.specs.Stops.{halt_of_note}
+use Rattle.desk_intake.specs.Faults.{halt_of_note}
 use Rattle.desk_run.proofs.gather.read_files.Goals as goal
 
 pub note_all-requires-clause-there : goal.note_all-requires-clause-there

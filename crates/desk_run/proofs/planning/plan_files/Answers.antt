@@ -1,14 +1,15 @@
 use Rattle.std.proofs.Common.{rules, ◌≡◌, ◌∙◌, ap, sym, map, map-id, length}
 use Rattle.std.proofs.lemmas.Iterator.Adapters.{YieldsList-from_vec}
 use Rattle.std.proofs.lemmas.Iterator.Consumers.{YieldsList-end, YieldsList-turn}
-use Rattle.desk_batches.proofs.Fronts.{all_pushed}
+use Rattle.desk_readings.proofs.Fronts.{all_pushed}
 use Rattle.desk_batches.specs.Notes.{IsSound}
-use Rattle.desk_batches.specs.Noting.{IsWithin}
-use Rattle.desk_batches.specs.declared.measured.Measured.{Measured}
+use Rattle.desk_readings.specs.Noting.{IsWithin}
+use Rattle.desk_readings.specs.declared.measured.Measured.{Measured}
 use Rattle.desk_batches.specs.declared.noted.Noted.{Noted}
 use Rattle.desk_run.specs.Meaning.{finds_in}
-use Rattle.desk_run.proofs.Parts.{item_at, mapped_more}
-use Rattle.desk_run.specs.Notes.{IsRelativeRoute, measured_in, noted_by}
+use Rattle.desk_intake.proofs.Parts.{item_at, mapped_more}
+use Rattle.desk_intake.specs.Routes.{IsRelativeRoute}
+use Rattle.desk_run.specs.Notes.{measured_in, noted_by}
 use Rattle.desk_run.proofs.planning.plan_files.Goals as goal
 
 pub plan_file-requires-clause-relative : goal.plan_file-requires-clause-relative

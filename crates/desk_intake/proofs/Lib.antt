@@ -1,0 +1,6 @@
+mod Ruling
+pub mod There
+pub mod Parts
+pub mod Sizes
+pub mod Taking
+pub mod Routed

@@ -1,0 +1,239 @@
+-- Rule files that are taken in, one after another.
+use Rattle.std.proofs.Common.{◌≡◌, ◌≢◌, inl, inr, ℕ, zero, suc, ◌+◌, ◌<◌, ◌≤◌, true, false, List, [], ◌∷◌, ◌++◌, length, Option, Some, None, refl, sym, ap, ◌∙◌, subst, take, drop, get_or, map, arith, IfSome, IfErr, IfOk, Result, Ok, Err, append-nil, drop-cons, Box, Global}
+use Rattle.std.specs.Prelude.{if◌then◌else◌, nat_lt}
+use Rattle.std.specs.Cmp.Lexicographic.{slice_cmp}
+use Rattle.std.specs.FinMap as fin
+use Rattle.std.specs.FinMap.{get-empty}
+use Rattle.std.specs.List.{AllByRecursion, flat_map}
+use Rattle.std.specs.List.Sorted.{IsStrictlySortedBy}
+use Rattle.std.specs.Ordering.{nat_cmp, is_eq}
+use Rattle.std.specs.declared.cmp.Ordering.TheVariants.{Less}
+use Rattle.std.proofs.lemmas.Grind.{flat_map-append}
+use Rattle.std.proofs.lemmas.List.{length-map, map-append, take_more}
+use Rattle.std.proofs.lemmas.Map.Text.{is_eq-slice_cmp}
+use Rattle.std.proofs.lemmas.Slice.Eq.{bytes_eq-Decides}
+use Rattle.desk_base.specs.Names.{Text}
+use Rattle.desk_base.specs.Paths.{full}
+use Rattle.desk_folders.specs.Contents.{Contents, File, IsListing, bytes_at, file_at, files_below, paths_below}
+use Rattle.desk_base.specs.Counts.{Rose-earlier}
+use Rattle.desk_ledger.specs.Digests.{HasTaken}
+use Rattle.desk_report.specs.declared.status.Status.{Status}
+use Rattle.desk_report.specs.declared.status.LimitKind.TheVariants.{RuleFiles, RuleSize}
+use Rattle.desk_report.specs.declared.status.Status.TheVariants.{Done, Refusals, Memory, FolderFault, LedgerFault, OutputFault, Usage, NestedRoots, BadRules, Limit, PathClash, NameClash, Stranded, OtherRun, Moved}
+use Rattle.desk_rules.specs.Files.{Files}
+use Rattle.desk_rules.specs.RuleFiles.{rules_of_files}
+use Rattle.desk_rules.specs.declared.RuleFault.{RuleFault}
+use Rattle.desk_intake.specs.declared.rules.Ruled.{Ruled}
+use Rattle.desk_intake.specs.declared.rules.Taken.{Taken}
+use Rattle.desk_intake.specs.declared.halts.Halt.{Halt}
+use Rattle.desk_intake.specs.declared.halts.Halt.TheVariants as halt
+use Rattle.desk_readings.specs.Sizes.{within}
+use Rattle.desk_intake.specs.Limits.{most_rule_files, rule_size, rule_size_answer}
+use Rattle.desk_intake.specs.Rulings.{adding_files, named_files, digest_entry, with_digest, ruled, ruled_by}
+use Rattle.desk_intake.specs.RuleFolders.{Takes, HasTakenAll, Free}
+use Rattle.desk_intake.specs.Apart.{AllApart, Misses}
+use Rattle.desk_intake.specs.Halts.{HaltsTakingOne, HaltsTaking, HaltsAtRules, HaltsBuilding}
+use Rattle.desk_readings.proofs.Fronts.{at_some, if_some, dropped_all, taken_all}
+use Rattle.desk_intake.proofs.Sizes.{within_none, rule_large, rule_fits, is_more, not_more}
+
+-- names in order differ
+less_differs : (x y : Text) → slice_cmp nat_cmp x y ≡ Less → x ≢ y
+less_differs x y e same =
+    let eq : is_eq (slice_cmp nat_cmp x y) ≡ true = is_eq-slice_cmp x y ∙ (bytes_eq-Decides x y).1 same in
+    let not_eq : is_eq (slice_cmp nat_cmp x y) ≡ false = ap is_eq e in
+    let h : true ≡ false = sym eq ∙ not_eq in cc
+
+sorted_misses : (x : Text) (xs : List Text) → AllByRecursion (λ y. slice_cmp nat_cmp x y ≡ Less) xs → Misses x xs
+sorted_misses x [] h = tt
+sorted_misses x (y ∷ ys) h = (less_differs x y h.0, sorted_misses x ys h.1)
+
+pub sorted_apart : (xs : List Text) → IsStrictlySortedBy (slice_cmp nat_cmp) xs → AllApart xs
+unfolding IsStrictlySortedBy
+sorted_apart [] h = tt
+sorted_apart (x ∷ xs) h = (sorted_misses x xs h.0, sorted_apart xs h.1)
+
+-- no file has a name at first
+pub none_free : (files : Files) (names : List Text) → files ≡ fin.empty → Free files names
+none_free files [] e = tt
+none_free files (name ∷ names) e = (ap (λ (m : Files). fin.get m name) e ∙ get-empty _ name, none_free files names e)
+
+-- and the names behind one that is taken stay free
+still_free : (old new : Files) (name : Text) (names : List Text) → ((q : Text) → q ≢ name → fin.get new q ≡ fin.get old q) → Misses name names → Free old names → Free new names
+still_free old new name [] others m f = tt
+still_free old new name (q ∷ names) others m f = (others q (λ e. m.0 (sym e)) ∙ f.0, still_free old new name names others m.1 f.1)
+
+apart_from : (names : List Text) (i : ℕ) → AllApart names → AllApart (drop i names)
+apart_from names zero h = h
+apart_from [] (suc i) h = tt
+apart_from (name ∷ names) (suc i) h = apart_from names i h.1
+
+-- what is left, at one name
+pub left_at : {X : Type 0} (xs : List X) (i : ℕ) (x : X) → i < length xs → x ≡ get_or xs i x → drop i xs ≡ x ∷ drop (i + 1) xs
+left_at xs i x lt is = let next : suc i ≡ i + 1 = omega arith in drop-cons xs i x lt ∙ ap (λ y. y ∷ drop (suc i) xs) (sym is) ∙ ap (λ n. x ∷ drop n xs) next
+
+pub name_free : (files : Files) (names : List Text) (i : ℕ) (name : Text) → i < length names → name ≡ get_or names i name → Free files (drop i names) → fin.get files name ≡ None
+name_free files names i name lt is f = (subst (Free files) (left_at names i name lt is) f).0
+
+pub free_more : (old new : Files) (names : List Text) (i : ℕ) (name : Text) → i < length names → name ≡ get_or names i name → AllApart names → ((q : Text) → q ≢ name → fin.get new q ≡ fin.get old q)
+    → Free old (drop i names) → Free new (drop (i + 1) names)
+free_more old new names i name lt is apart others f =
+    let split = left_at names i name lt is in
+    still_free old new name (drop (i + 1) names) others (subst AllApart split (apart_from names i apart)).0 (subst (Free old) split f).1
+
+-- one more file is taken in
+pub files_more : (root : Text) (m : Contents) (names : List Text) (i : ℕ) (name : Text) (old new : Taken) (all : Files) → i < length names → name ≡ get_or names i name → Takes (file_at root m name) old new
+    → adding_files old.files (map (file_at root m) (drop i names)) ≡ all → adding_files new.files (map (file_at root m) (drop (i + 1) names)) ≡ all
+files_more root m names i name old new all lt is t e =
+    ap (λ f. adding_files f (map (file_at root m) (drop (i + 1) names))) t.files
+    ∙ sym (ap (λ ns. adding_files old.files (map (file_at root m) ns)) (left_at names i name lt is)) ∙ e
+
+pub small_more : (root : Text) (m : Contents) (names : List Text) (i : ℕ) (name : Text) (old new : Taken) (all : Option Status) → i < length names → name ≡ get_or names i name → Takes (file_at root m name) old new
+    → rule_size_answer (map (file_at root m) (drop i names)) ≡ all → rule_size_answer (map (file_at root m) (drop (i + 1) names)) ≡ all
+small_more root m names i name old new all lt is t e =
+    sym (rule_fits (file_at root m name) (map (file_at root m) (drop (i + 1) names)) t.small)
+    ∙ sym (ap (λ ns. rule_size_answer (map (file_at root m) ns)) (left_at names i name lt is)) ∙ e
+
+pub digest_more : (root : Text) (m : Contents) (names : List Text) (i : ℕ) (name : Text) (old new : Taken) → i < length names → name ≡ get_or names i name → Takes (file_at root m name) old new
+    → HasTaken old.digester (flat_map digest_entry (map (file_at root m) (take i names))) → HasTaken new.digester (flat_map digest_entry (map (file_at root m) (take (i + 1) names)))
+digest_more root m names i name old new lt is t h =
+    subst (HasTaken new.digester)
+    (sym (ap (λ ns. flat_map digest_entry (map (file_at root m) ns)) (take_more names i name lt ∙ ap (λ p. take i names ++ p ∷ []) (sym is))
+    ∙ ap (flat_map digest_entry) (map-append (file_at root m) (take i names) (name ∷ []))
+    ∙ flat_map-append digest_entry (map (file_at root m) (take i names)) (file_at root m name ∷ [])
+    ∙ ap (λ e. flat_map digest_entry (map (file_at root m) (take i names)) ++ e) (append-nil (digest_entry (file_at root m name)))))
+    (t.digest _ h)
+
+-- a rule file that is too large
+pub halts_large : (root path : Text) (told now : Option Contents) (f f' : ℕ) (text : Option Text) (h : Halt) → now ≡ told → IfSome told (λ m. text ≡ within rule_size (bytes_at m (full root path))) → text ≡ None
+    → h ≡ halt.Answer (Limit RuleSize path) → HaltsTakingOne root path told f f' h
+halts_large root path told now f f' text h same whole none e = subst (HaltsTakingOne root path told f f') (sym e) (
+  refl,
+  if_some _ told (λ m t more. rule_large (file_at root m path) more
+      (within_none rule_size (bytes_at m (full root path)) (sym none ∙ at_some (λ m. text ≡ within rule_size (bytes_at m (full root path))) told m t whole))),
+)
+
+-- where one of them halts
+pub halts_taking : (root : Text) (names : List Text) (i : ℕ) (name : Text) (told now : Option Contents) (f f1 f' : ℕ) (h : Halt) → f ≤ f1 → now ≡ told → i < length names → name ≡ get_or names i name
+    → ((m : Contents) → told ≡ Some m → rule_size_answer (map (file_at root m) (drop i names)) ≡ rule_size_answer (files_below root m))
+    → HaltsTakingOne root name now f1 f' h → HaltsTaking root told f f' h
+halts_taking root names i name told now f f1 f' halt.Memory le same lt is before g = tt
+halts_taking root names i name told now f f1 f' halt.Folders le same lt is before g = Rose-earlier f f1 f' le g
+halts_taking root names i name told now f f1 f' halt.Ledger le same lt is before g = absurd g
+halts_taking root names i name told now f f1 f' (halt.Answer status) le same lt is before g = (
+  g.0,
+  if_some _ told (λ m t. sym (before m t) ∙ ap (λ ns. rule_size_answer (map (file_at root m) ns)) (left_at names i name lt is)
+      ∙ at_some (λ m. (more : List File) → rule_size_answer (file_at root m name ∷ more) ≡ Some status) now m (same ∙ t) g.1 (map (file_at root m) (drop (i + 1) names))),
+)
+
+-- the rules of all
+ruled_taken : (root : Text) (m : Contents) (taken : Taken) → HasTakenAll root m taken → length (paths_below root m) ≤ most_rule_files
+    → ruled root (files_below root m) ≡ with_digest (flat_map digest_entry (files_below root m)) (rules_of_files taken.files)
+ruled_taken root m taken t few =
+    let count : nat_lt most_rule_files (length (files_below root m)) ≡ false = not_more most_rule_files _ (subst (λ n. n ≤ most_rule_files) (sym (length-map (paths_below root m) (file_at root m))) few) in
+    ap (λ o. ruled_by o (files_below root m)) (ap (λ b. if b then Some (Limit RuleFiles root) else rule_size_answer (files_below root m)) count ∙ t.small)
+    ∙ ap (λ f. with_digest (flat_map digest_entry (files_below root m)) (rules_of_files f)) (sym t.files)
+
+listed_few : (root : Text) (m : Contents) (paths : List Text) → IsListing most_rule_files (paths_below root m) paths → length paths ≤ most_rule_files → (paths ≡ paths_below root m) × (length (paths_below root m) ≤ most_rule_files)
+listed_few root m paths (inl all) few = (all.1, all.0)
+listed_few root m paths (inr many) few = absurd (let k = many.1 in omega arith)
+
+listed_many : (root : Text) (m : Contents) (paths : List Text) → IsListing most_rule_files (paths_below root m) paths → most_rule_files < length paths → most_rule_files < length (paths_below root m)
+listed_many root m paths (inl all) many = absurd (let k = ap length all.1 in let n = all.0 in omega arith)
+listed_many root m paths (inr more) many = more.0
+
+pub rules_listed : (root : Text) (told : Option Contents) (paths : List Text) → IfSome told (λ m. IsListing most_rule_files (paths_below root m) paths) → length paths ≤ most_rule_files → IfSome told (λ m. paths ≡ paths_below root m)
+rules_listed root told paths listed few = if_some _ told (λ m t. (listed_few root m paths (at_some (λ m. IsListing most_rule_files (paths_below root m) paths) told m t listed) few).0)
+
+-- too many rule files
+pub halts_many : (root : Text) (told : Option Contents) (paths : List Text) (f f' : ℕ) (h : Halt) → IfSome told (λ m. IsListing most_rule_files (paths_below root m) paths) → most_rule_files < length paths
+    → h ≡ halt.Answer (Limit RuleFiles root) → HaltsAtRules root told f f' h
+halts_many root told paths f f' h listed many e = subst (HaltsAtRules root told f f') (sym e) (
+  refl,
+  if_some _ told (λ m t.
+      let over = listed_many root m paths (at_some (λ m. IsListing most_rule_files (paths_below root m) paths) told m t listed) many in
+      let count : nat_lt most_rule_files (length (files_below root m)) ≡ true = is_more most_rule_files _ (subst (λ n. most_rule_files < n) (sym (length-map (paths_below root m) (file_at root m))) over) in
+      ap (λ o. ruled_by o (files_below root m)) (ap (λ b. if b then Some (Limit RuleFiles root) else rule_size_answer (files_below root m)) count)),
+)
+
+-- one that is too large
+pub halts_taken : (root : Text) (told now : Option Contents) (paths : List Text) (f f1 f' : ℕ) (h : Halt) → f ≤ f1 → now ≡ told → IfSome told (λ m. IsListing most_rule_files (paths_below root m) paths) → length paths ≤ most_rule_files
+    → HaltsTaking root now f1 f' h → HaltsAtRules root told f f' h
+halts_taken root told now paths f f1 f' halt.Memory le same listed few g = tt
+halts_taken root told now paths f f1 f' halt.Folders le same listed few g = Rose-earlier f f1 f' le g
+halts_taken root told now paths f f1 f' halt.Ledger le same listed few g = absurd g
+halts_taken root told now paths f f1 f' (halt.Answer status) le same listed few g = (
+  g.0,
+  if_some _ told (λ m t.
+      let below = listed_few root m paths (at_some (λ m. IsListing most_rule_files (paths_below root m) paths) told m t listed) few in
+      let count : nat_lt most_rule_files (length (files_below root m)) ≡ false = not_more most_rule_files _ (subst (λ n. n ≤ most_rule_files) (sym (length-map (paths_below root m) (file_at root m))) below.1) in
+      ap (λ o. ruled_by o (files_below root m)) (ap (λ b. if b then Some (Limit RuleFiles root) else rule_size_answer (files_below root m)) count
+      ∙ at_some (λ m. rule_size_answer (files_below root m) ≡ Some status) now m (same ∙ t) g.1)),
+)
+
+-- the rules that are built of what was taken in
+pub built_ok : (root : Text) (told now : Option Contents) (paths : List Text) (taken : Taken) (r : Result (Box Ruled Global) Halt) → now ≡ told → IfSome told (λ m. IsListing most_rule_files (paths_below root m) paths) → length paths ≤ most_rule_files
+    → IfSome now (λ m. HasTakenAll root m taken) → IfOk r (λ read. (text : Text) → HasTaken taken.digester text → with_digest text (rules_of_files taken.files) ≡ Ok read.value)
+    → IfOk r (λ read. IfSome told (λ m. ruled root (files_below root m) ≡ Ok read.value))
+built_ok root told now paths taken (Err h) same listed few all g = tt
+built_ok root told now paths taken (Ok read) same listed few all g = if_some _ told (λ m t.
+    let have = at_some (λ m. HasTakenAll root m taken) now m (same ∙ t) all in
+    ruled_taken root m taken have (listed_few root m paths (at_some (λ m. IsListing most_rule_files (paths_below root m) paths) told m t listed) few).1
+    ∙ g (flat_map digest_entry (files_below root m)) have.digest)
+
+pub built_err : (root : Text) (told now : Option Contents) (paths : List Text) (taken : Taken) (f f' : ℕ) (r : Result (Box Ruled Global) Halt) → now ≡ told → IfSome told (λ m. IsListing most_rule_files (paths_below root m) paths) → length paths ≤ most_rule_files
+    → IfSome now (λ m. HasTakenAll root m taken) → IfErr r (HaltsBuilding (rules_of_files taken.files)) → IfErr r (HaltsAtRules root told f f')
+built_err root told now paths taken f f' (Ok read) same listed few all g = tt
+built_err root told now paths taken f f' (Err h) same listed few all g = by h g where
+  bad : (fault : RuleFault) → rules_of_files taken.files ≡ Err fault → HaltsAtRules root told f f' (halt.Answer (BadRules fault))
+  bad fault e = (
+    refl,
+    if_some _ told (λ m t.
+        let have = at_some (λ m. HasTakenAll root m taken) now m (same ∙ t) all in
+        ruled_taken root m taken have (listed_few root m paths (at_some (λ m. IsListing most_rule_files (paths_below root m) paths) told m t listed) few).1
+        ∙ ap (with_digest (flat_map digest_entry (files_below root m))) e),
+  )
+
+  by : (h : Halt) → HaltsBuilding (rules_of_files taken.files) h → HaltsAtRules root told f f' h
+  by halt.Memory g = tt
+  by halt.Folders g = absurd g
+  by halt.Ledger g = absurd g
+  by (halt.Answer (BadRules fault)) g = bad fault g
+  by (halt.Answer Done) g = absurd g
+  by (halt.Answer Refusals) g = absurd g
+  by (halt.Answer Memory) g = absurd g
+  by (halt.Answer (FolderFault done)) g = absurd g
+  by (halt.Answer (LedgerFault done)) g = absurd g
+  by (halt.Answer OutputFault) g = absurd g
+  by (halt.Answer Usage) g = absurd g
+  by (halt.Answer (NestedRoots first second)) g = absurd g
+  by (halt.Answer (Limit kind path)) g = absurd g
+  by (halt.Answer (PathClash first second)) g = absurd g
+  by (halt.Answer (NameClash defined other image)) g = absurd g
+  by (halt.Answer (Stranded path held)) g = absurd g
+  by (halt.Answer (Moved path one other)) g = absurd g
+  by (halt.Answer (OtherRun kept wanted)) g = absurd g
+
+-- before the first is taken in
+pub files_first : (root : Text) (told : Option Contents) (names : List Text) (files : Files) → files ≡ fin.empty → IfSome told (λ m. names ≡ paths_below root m)
+    → (m : Contents) → told ≡ Some m → adding_files files (map (file_at root m) names) ≡ named_files (files_below root m)
+files_first root told names files e listed m t =
+    ap (λ f. adding_files f (map (file_at root m) names)) e ∙ ap (λ ns. named_files (map (file_at root m) ns)) (at_some (λ m. names ≡ paths_below root m) told m t listed)
+
+pub small_first : (root : Text) (told : Option Contents) (names : List Text) → IfSome told (λ m. names ≡ paths_below root m)
+    → (m : Contents) → told ≡ Some m → rule_size_answer (map (file_at root m) names) ≡ rule_size_answer (files_below root m)
+small_first root told names listed m t = ap (λ ns. rule_size_answer (map (file_at root m) ns)) (at_some (λ m. names ≡ paths_below root m) told m t listed)
+
+-- once all are taken in
+pub all_taken : (root : Text) (told : Option Contents) (names : List Text) (i : ℕ) (taken : Taken) → length names ≤ i → IfSome told (λ m. names ≡ paths_below root m)
+    → ((m : Contents) → told ≡ Some m → adding_files taken.files (map (file_at root m) (drop i names)) ≡ named_files (files_below root m))
+    → ((m : Contents) → told ≡ Some m → HasTaken taken.digester (flat_map digest_entry (map (file_at root m) (take i names))))
+    → ((m : Contents) → told ≡ Some m → rule_size_answer (map (file_at root m) (drop i names)) ≡ rule_size_answer (files_below root m))
+    → IfSome told (λ m. HasTakenAll root m taken)
+all_taken root told names i taken end listed files digest small = if_some _ told (λ m t.
+    let none = dropped_all names i end in
+    record {
+      small = sym (small m t) ∙ ap (λ ns. rule_size_answer (map (file_at root m) ns)) none;
+      files = sym (ap (λ ns. adding_files taken.files (map (file_at root m) ns)) none) ∙ files m t;
+      digest = subst (λ ns. HasTaken taken.digester (flat_map digest_entry (map (file_at root m) ns)))
+          (taken_all names i end ∙ at_some (λ m. names ≡ paths_below root m) told m t listed) (digest m t);
+    })

@@ -1,0 +1,7 @@
+pub mod Limits
+pub mod Apart
+pub mod Routes
+pub mod Rulings
+pub mod RuleFolders
+pub mod Faults
+pub mod Halts

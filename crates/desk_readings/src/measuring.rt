@@ -1,0 +1,160 @@
+//! Takes the digests of classes that were read whole, and scans them, on the workers.
+
+ghost use Rattle.std.specs.Prelude.{◌≡◌, ◌≤◌, ◌<◌, ◌+◌, ◌++◌, ◌^◌, IfOk, OnOk, length, map};
+ghost use Rattle.desk_readings.specs.Sizes.{found_of};
+ghost use Rattle.desk_readings.specs.Readings.{all_scanned, first_scanned, kept_in, measured_by, measured_with, measures_of, scans_of};
+ghost use Rattle.desk_readings.specs.declared.waiting.FirstRead.TheVariants.{Class};
+ghost use Rattle.desk_file.specs.Treatments.{is_selected_class};
+
+use crate::contents::Content;
+use crate::measured::Measured;
+use crate::reading::Found;
+use crate::waiting::{FirstRead, Waiting};
+use desk_base::Memory;
+use desk_file::{Route, Treatment, scan_class};
+use desk_graph::Scanned;
+use desk_ledger::digest_of;
+use desk_workers::{Gate, Job, map_batch};
+use std::alloc::Global;
+use std::thread::Threads;
+
+/// What a worker finds of a file: how many bytes it has and their digest, and what is kept of a class.
+#[derive(Debug, Drop)]
+pub struct Measures {
+    pub found: Found,
+    pub class: Option<Scanned>,
+}
+
+/// Whether a file is a selected class.
+fn is_selected(treatment: Treatment) -> bool
+    ensures { result ≡ is_selected_class treatment }
+{
+    matches!(treatment, Treatment::Class)
+}
+
+/// What is kept of a class; nothing of bytes that are none.
+#[tactic(auto, using(crate::proofs::Scans::first_of_one))]
+fn scan_read(alloc: Global, route: &Route, bytes: &Content) -> Result<Option<Scanned>, Memory>
+    ensures { IfOk result (λ found. found ≡ first_scanned (kept_in route.now (Class bytes.now))) }
+{
+    let selected = is_selected(route.treatment);
+    let found = scan_class(alloc, &route.path, selected, bytes.as_bytes())?;
+    Ok(found)
+}
+
+/// How many bytes there are, and their digest.
+fn found_of(bytes: &Content) -> Found
+    ensures { result ≡ found_of bytes.now }
+{
+    Found {
+        size: bytes.as_bytes().len() as u64,
+        digest: digest_of(bytes.as_bytes()),
+    }
+}
+
+/// What a worker finds of a file.
+fn measure(alloc: Global, waiting: &Waiting) -> Result<Measures, Memory>
+    ensures { IfOk result (λ measures. measures ≡ measures_of waiting.now) }
+{
+    match &waiting.read {
+        FirstRead::Class(bytes) => {
+            let class = scan_read(alloc, &waiting.route, bytes)?;
+            Ok(Measures {
+                found: found_of(bytes),
+                class,
+            })
+        }
+        FirstRead::Parts(found) => Ok(Measures {
+            found: *found,
+            class: None,
+        }),
+    }
+}
+
+/// Takes digests and scans classes.
+#[derive(Drop)]
+struct Measuring {
+    alloc: Global,
+}
+
+impl Job for Measuring {
+    ghost use Rattle.desk_readings.specs.Readings.{measures_of, weight_in};
+
+    type Item = Waiting;
+
+    type Out = Measures;
+
+    ghost value = { λ _ waiting. measures_of waiting };
+
+    ghost weighs = { λ _ waiting. weight_in waiting.read };
+
+    fn weight(&self, waiting: &Waiting) -> u64 {
+        waiting.read.weight()
+    }
+
+    fn run(&self, waiting: &Waiting) -> Result<Measures, Memory> {
+        measure(self.alloc, waiting)
+    }
+}
+
+/// A file with what was found of it.
+fn measured_with(waiting: Waiting, found: Found) -> Measured
+    ensures { result ≡ measured_with waiting.route found }
+{
+    Measured {
+        route: waiting.route,
+        size: found.size,
+        digest: found.digest,
+    }
+}
+
+/// Adds the files of a batch, as its workers measured them.
+fn add_files(
+    files: &mut Vec<Measured>,
+    batch: Vec<Waiting>,
+    found: &[Measures],
+) -> Result<(), Memory>
+    requires { found.now ≡ map measures_of batch.items }
+    ensures files { OnOk result (files.new.items ≡ files.old.items ++ map measured_by batch.items) }
+{
+    for (i, waiting) in batch.into_iter().enumerate() {
+        files.push(measured_with(waiting, found[i].found))?;
+    }
+    Ok(())
+}
+
+/// Adds what is kept of classes.
+#[tactic(auto, using(crate::proofs::Scans::added_none))]
+fn add_scanned(scanned: &mut Vec<Scanned>, found: Vec<Measures>) -> Result<(), Memory>
+    ensures classes { OnOk result (scanned.new.items ≡ scanned.old.items ++ all_scanned found.items) }
+    ensures few { OnOk result (length scanned.new.items ≤ length scanned.old.items + length found.items) }
+{
+    for one in found {
+        if let Some(class) = one.class {
+            scanned.push(class)?;
+        }
+    }
+    Ok(())
+}
+
+/// Measures the files of a batch by so many workers, and adds them and what is kept of the classes among them.
+pub(crate) fn measure_batch<R: Threads + Sync, G: Gate + Sync>(
+    rt: &R,
+    alloc: Global,
+    gate: &G,
+    workers: u32,
+    batch: Vec<Waiting>,
+    files: &mut Vec<Measured>,
+    scanned: &mut Vec<Scanned>,
+) -> Result<(), Memory>
+    requires some { 0 < workers }
+    requires workers { workers ≤ 64 }
+    requires few { length batch.items < 2 ^ 32 }
+    ensures files { OnOk result (files.new.items ≡ files.old.items ++ map measured_by batch.items) }
+    ensures classes { OnOk result (scanned.new.items ≡ scanned.old.items ++ scans_of batch.items) }
+    ensures few { OnOk result (length scanned.new.items ≤ length scanned.old.items + length batch.items) }
+{
+    let found = map_batch(rt, alloc, &batch, &Measuring { alloc }, gate, workers)?;
+    add_files(files, batch, &found)?;
+    add_scanned(scanned, found)
+}

@@ -1,0 +1,168 @@
+//! The first reading of all files: each in parts, none of which is kept, but the classes, which are gathered in batches and
+//! measured on the workers.
+
+ghost use Rattle.std.specs.Prelude.{All, ◌≡◌, ◌≤◌, ◌<◌, ◌^◌, [], ◌∷◌, None, Err, IfErr, IfOk, IfSome, IsSome, length, map, option_map};
+ghost use Rattle.std.specs.FinMap as fin;
+ghost use Rattle.desk_base.specs.Counts.{Rose};
+ghost use Rattle.desk_base.specs.Paths.{full};
+ghost use Rattle.desk_folders.specs.Contents.{bytes_at};
+ghost use Rattle.desk_format.specs.Laws.{IsBytes};
+ghost use Rattle.desk_base.specs.Limits.{file_size};
+ghost use Rattle.desk_readings.specs.Sizes.{found_within, large_size, within};
+ghost use Rattle.desk_readings.specs.declared.waiting.FirstRead.TheVariants.{Class, Parts};
+ghost use Rattle.desk_readings.specs.Noting.{IsWithin, NoteFails, NotedTo, NotesOne, first_read};
+ghost use Rattle.desk_readings.specs.Readings.{first_large, found_in, measured_by, most_by};
+
+use crate::contents::Content;
+use crate::faults::NoteFault;
+use crate::gathering::{Gathering, Notes};
+use crate::paths::full_path;
+use crate::reading::{read_first, read_whole};
+use crate::waiting::{FirstRead, Waiting};
+use crate::{LARGE, WHOLE};
+use desk_base::{FILE_SIZE, Text};
+use desk_file::{Route, Treatment};
+use desk_folders::{FolderFault, Folders};
+use desk_workers::Gate;
+use std::alloc::Global;
+use std::thread::Threads;
+
+/// How many bytes a file may have.
+fn most_of(treatment: Treatment) -> u64
+    ensures most { result ≡ most_by treatment }
+    ensures within { result ≤ large_size }
+{
+    if treatment.is_whole() { WHOLE } else { LARGE }
+}
+
+/// A class that was read whole.
+fn class_of(text: Text) -> FirstRead
+    requires { length text ≤ file_size }
+    ensures class { result ≡ Class text }
+    ensures each { IsBytes text }
+{
+    let bytes = Content::new(text);
+    // `as_bytes` says that they are bytes.
+    let _all = bytes.as_bytes();
+    FirstRead::Class(bytes)
+}
+
+/// Reads a class whole; none where it has too many bytes.
+fn read_class<F: Folders>(
+    alloc: Global,
+    folders: &mut F,
+    source: &Text,
+) -> Result<Option<FirstRead>, FolderFault>
+    requires there { IfSome (F.told folders.old) (λ m. IsSome (fin.get m source.now)) }
+    ensures told { F.told folders.new ≡ F.told folders.old }
+    ensures read { IfOk result (λ read. IfSome (F.told folders.old) (λ m. read ≡ option_map Class (within file_size (bytes_at m source.now)))) }
+    ensures small { IfOk result (λ read. IfSome read (λ r. (found_in r).size ≤ file_size)) }
+    ensures each { IfOk result (λ read. IfSome read (λ _. IfSome (F.told folders.old) (λ m. IsBytes (bytes_at m source.now)))) }
+    ensures counts { F.faults folders.old ≤ F.faults folders.new }
+    ensures failed { result ≡ Err FolderFault.Failed → Rose (F.faults folders.old) (F.faults folders.new) }
+{
+    match read_whole(alloc, folders, source, FILE_SIZE)? {
+        Some(text) => Ok(Some(class_of(text))),
+        None => Ok(None),
+    }
+}
+
+/// Reads any other file in parts; none where it has too many bytes.
+fn read_parts<F: Folders>(
+    folders: &mut F,
+    source: &Text,
+    most: u64,
+) -> Result<Option<FirstRead>, FolderFault>
+    requires most { most ≤ large_size }
+    requires there { IfSome (F.told folders.old) (λ m. IsSome (fin.get m source.now)) }
+    ensures told { F.told folders.new ≡ F.told folders.old }
+    ensures read { IfOk result (λ read. IfSome (F.told folders.old) (λ m. read ≡ option_map Parts (found_within most (bytes_at m source.now)))) }
+    ensures small { IfOk result (λ read. IfSome read (λ r. (found_in r).size ≤ most)) }
+    ensures each { IfOk result (λ read. IfSome read (λ _. IfSome (F.told folders.old) (λ m. IsBytes (bytes_at m source.now)))) }
+    ensures counts { F.faults folders.old ≤ F.faults folders.new }
+    ensures failed { result ≡ Err FolderFault.Failed → Rose (F.faults folders.old) (F.faults folders.new) }
+{
+    match read_first(folders, source, most)? {
+        Some(found) => Ok(Some(FirstRead::Parts(found))),
+        None => Ok(None),
+    }
+}
+
+/// Reads one file for the first time; none where it has too many bytes.
+fn read_route<F: Folders>(
+    alloc: Global,
+    folders: &mut F,
+    from: &Text,
+    route: &Route,
+) -> Result<Option<FirstRead>, NoteFault>
+    requires there { IfSome (F.told folders.old) (λ m. IsSome (fin.get m (full from.now route.now.path))) }
+    ensures told { F.told folders.new ≡ F.told folders.old }
+    ensures read { IfOk result (λ read. IfSome (F.told folders.old) (λ m. read ≡ first_read route.now (bytes_at m (full from.now route.now.path)))) }
+    ensures small { IfOk result (λ read. IfSome read (λ r. (found_in r).size ≤ most_by route.now.treatment)) }
+    ensures each { IfOk result (λ read. IfSome read (λ _. IfSome (F.told folders.old) (λ m. IsBytes (bytes_at m (full from.now route.now.path))))) }
+    ensures counts { F.faults folders.old ≤ F.faults folders.new }
+    ensures err { IfErr result (NoteFails (λ _. None) (F.told folders.old) (F.faults folders.old) (F.faults folders.new)) }
+{
+    let source = full_path(alloc, from, &route.path)?;
+    let read = if route.treatment.is_class() {
+        read_class(alloc, folders, &source)?
+    } else {
+        read_parts(folders, &source, most_of(route.treatment))?
+    };
+    Ok(read)
+}
+
+/// Reads one file for the first time.
+fn note_one<F: Folders>(
+    alloc: Global,
+    folders: &mut F,
+    from: &Text,
+    route: Route,
+) -> Result<Waiting, NoteFault>
+    requires there { IfSome (F.told folders.old) (λ m. IsSome (fin.get m (full from.now route.path))) }
+    ensures told { F.told folders.new ≡ F.told folders.old }
+    ensures one { IfOk result (λ waiting. IfSome (F.told folders.old) (λ m. NotesOne from.now m route waiting)) }
+    ensures route { IfOk result (λ waiting. waiting.route ≡ route) }
+    ensures within { IfOk result (λ waiting. IsWithin (measured_by waiting)) }
+    ensures counts { F.faults folders.old ≤ F.faults folders.new }
+    ensures err { IfErr result (NoteFails (λ m. first_large from.now m (route ∷ [])) (F.told folders.old) (F.faults folders.old) (F.faults folders.new)) }
+{
+    match read_route(alloc, folders, from, &route)? {
+        Some(read) => Ok(Waiting { route, read }),
+        None => Err(NoteFault::TooLarge { path: route.path }),
+    }
+}
+
+/// Reads all files in their order: how many bytes each has and their digest, and what is kept of the classes among them. A file
+/// that is read whole has at most 67,108,864 bytes, any other at most 1,099,511,627,776: the answer is `TooLarge` with the first
+/// that has more. The classes are gathered into batches of at most 67,108,864 bytes; those of each full batch, and of the last,
+/// are measured by so many workers and then dropped. No other file is kept. The other errors are a fault of the folders and want
+/// of memory.
+pub fn note_all<R: Threads + Sync, F: Folders, G: Gate + Sync>(
+    rt: &R,
+    alloc: Global,
+    folders: &mut F,
+    gate: &G,
+    from: &Text,
+    workers: u32,
+    routes: Vec<Route>,
+) -> Result<Notes, NoteFault>
+    requires some { 0 < workers }
+    requires workers { workers ≤ 64 }
+    requires few { length routes.items < 2 ^ 32 }
+    requires there { IfSome (F.told folders.old) (λ m. All (λ route. IsSome (fin.get m (full from.now route.path))) routes.items) }
+    ensures told { F.told folders.new ≡ F.told folders.old }
+    ensures noted { IfOk result (λ notes. IfSome (F.told folders.old) (λ m. NotedTo from.now m routes.items notes.files.items notes.scanned.items)) }
+    ensures routes { IfOk result (λ notes. map (λ file. file.route) notes.files.items ≡ routes.items) }
+    ensures within { IfOk result (λ notes. All IsWithin notes.files.items) }
+    ensures few { IfOk result (λ notes. length notes.scanned.items ≤ length routes.items) }
+    ensures counts { F.faults folders.old ≤ F.faults folders.new }
+    ensures err { IfErr result (NoteFails (λ m. first_large from.now m routes.items) (F.told folders.old) (F.faults folders.old) (F.faults folders.new)) }
+{
+    let mut gathering = Gathering::new(alloc);
+    for route in routes {
+        let waiting = note_one(alloc, folders, from, route)?;
+        gathering.add(rt, alloc, gate, workers, waiting)?;
+    }
+    Ok(gathering.finish(rt, alloc, gate, workers)?)
+}
