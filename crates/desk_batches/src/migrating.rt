@@ -3,6 +3,7 @@
 ghost use Rattle.std.specs.Prelude.{All, ◌≡◌, ◌≢◌, ◌≤◌, ◌<◌, ◌^◌, IfErr, IfOk, length, map};
 ghost use Rattle.std.specs.Coded.{Coded-set, coded_list};
 ghost use Rattle.desk_file.specs.Routes.{image_along};
+ghost use Rattle.desk_ledger.specs.Digests.{digest as digest_by};
 ghost use Rattle.desk_packages.specs.Renames.{renaming_code};
 ghost use Rattle.desk_batches.specs.Turns.{HasItsDigest, MovedIn, again_by, image_of_input};
 
@@ -38,18 +39,21 @@ struct Migration<'r> {
     ghost linked: { graph.now.renames ≡ rules.now.renames } by { Coded-set (coded_list renaming_code) graph.now.renames rules.now.renames },
 }
 
-/// The image of a file along its route, or why it has none.
+/// The image of a file with this digest along its route, or why it has none.
 fn image_under(
     alloc: Global,
     rules: &RuleSet,
     graph: &ClassGraph<'_>,
     input: &Input,
+    digest: Digest,
 ) -> Result<Result<DigestedImage, Reason>, Memory>
-    requires { graph.now.renames ≡ rules.now.renames }
+    requires linked { graph.now.renames ≡ rules.now.renames }
+    requires digest { digest ≡ digest_by input.now.bytes }
     ensures { IfOk result (λ fate. fate ≡ image_of_input rules.now graph.now.defined input.now) }
 {
-    match migrate_file(alloc, rules, graph, &input.route, input.bytes.as_bytes()) {
-        Ok(image) => Ok(Ok(DigestedImage::of(image))),
+    let bytes = input.bytes.as_bytes();
+    match migrate_file(alloc, rules, graph, &input.route, bytes) {
+        Ok(image) => Ok(Ok(DigestedImage::of(image, bytes, digest))),
         Err(FileFault::Refused(reason)) => Ok(Err(reason)),
         Err(FileFault::Memory) => Err(Memory),
     }
@@ -67,7 +71,7 @@ fn again_under(
 {
     let second = digest_of(input.bytes.as_bytes());
     if second == input.digest {
-        Ok(Again::Same(image_under(alloc, rules, graph, input)?))
+        Ok(Again::Same(image_under(alloc, rules, graph, input, second)?))
     } else {
         Ok(Again::Other(second))
     }

@@ -79,7 +79,8 @@ fn follow<R: Threads + Sync, F: Folders, K: Keeper, O: Sink, G: Gate + Sync>(
 /// Migrates the application that words name: reads the rules and, for the first time, the files of the source, opens the ledger,
 /// reads each file again that isn't kept from an earlier run and writes its image, if it has one, commits the rows, and writes
 /// the report; or the line of what stands against it. Digests, scans and images are made by as many workers as the words ask
-/// for; `gate` is told of each item that a worker begins and ends.
+/// for; `gate` is told of each item that a worker begins and ends. Of words with `--verify` it reads the target of each file
+/// that it would keep, and keeps the file only where the target has the digest of what was written.
 ///
 /// Of the words `generate` it makes an application of its own in memory, runs over it, and writes the line of
 /// the totals alone: the folders and the keeper stay as they are, and the status is `Done`, `OutputFault` or

@@ -34,6 +34,11 @@ fn each_hint_is_two_lines_and_no_two_are_alike(rt: HostRuntime) {
     assert_eq!(rt; HINTS.len(), 39);
 }
 
+/// The hint of a status that nothing else asks for.
+fn hint_behind(status: Status) -> Option<Hint> {
+    hint_of(&status)
+}
+
 fn header(alloc: Global, from: &[u8], to: &[u8], rules: u8) -> Result<Header, Fail> {
     Ok(Header {
         from: Text::from_bytes(alloc, from)?,
@@ -59,34 +64,34 @@ fn the_hint_of_another_run_says_what_differs(rt: HostRuntime) -> Result<(), Fail
         let kept = header(rt.alloc(), b"in", b"out", 7)?;
         let wanted = header(rt.alloc(), from, to, *rules)?;
         let status = Status::OtherRun { kept, wanted };
-        assert_eq!(rt; hint_of(&status), Some(*hint));
+        assert_eq!(rt; hint_behind(status), Some(*hint));
     }
     Ok(())
 }
 
 #[test]
 fn each_status_has_its_hint(rt: HostRuntime) -> Result<(), Fail> {
-    assert_eq!(rt; hint_of(&Status::Done), None);
-    assert_eq!(rt; hint_of(&Status::Refusals), Some(Hint::Refusals));
-    assert_eq!(rt; hint_of(&Status::Memory), Some(Hint::Memory));
+    assert_eq!(rt; hint_behind(Status::Done), None);
+    assert_eq!(rt; hint_behind(Status::Refusals), Some(Hint::Refusals));
+    assert_eq!(rt; hint_behind(Status::Memory), Some(Hint::Memory));
     assert_eq!(rt;
-        hint_of(&Status::FolderFault { done: 3 }),
+        hint_behind(Status::FolderFault { done: 3 }),
         Some(Hint::Folders)
     );
     assert_eq!(rt;
-        hint_of(&Status::LedgerFault { done: 0 }),
+        hint_behind(Status::LedgerFault { done: 0 }),
         Some(Hint::Ledger)
     );
-    assert_eq!(rt; hint_of(&Status::OutputFault), Some(Hint::Output));
-    assert_eq!(rt; hint_of(&Status::Usage), Some(Hint::Usage));
+    assert_eq!(rt; hint_behind(Status::OutputFault), Some(Hint::Output));
+    assert_eq!(rt; hint_behind(Status::Usage), Some(Hint::Usage));
     assert_eq!(rt;
-        hint_of(&Status::BadRules(RuleFault::NoRenames)),
+        hint_behind(Status::BadRules(RuleFault::NoRenames)),
         Some(Hint::NoRenames)
     );
     let path = Text::from_bytes(rt.alloc(), b"a")?;
     let kind = LimitKind::FileSize;
     assert_eq!(rt;
-        hint_of(&Status::Limit { kind, path }),
+        hint_behind(Status::Limit { kind, path }),
         Some(Hint::FileSize)
     );
     let (first, second) = (
@@ -94,7 +99,7 @@ fn each_status_has_its_hint(rt: HostRuntime) -> Result<(), Fail> {
         Text::from_bytes(rt.alloc(), b"b")?,
     );
     assert_eq!(rt;
-        hint_of(&Status::PathClash { first, second }),
+        hint_behind(Status::PathClash { first, second }),
         Some(Hint::Clash)
     );
     Ok(())
@@ -107,12 +112,12 @@ fn what_stands_against_the_names_has_its_hint(rt: HostRuntime) -> Result<(), Fai
         other: Text::from_bytes(rt.alloc(), b"b")?,
         image: Text::from_bytes(rt.alloc(), b"a")?,
     };
-    assert_eq!(rt; hint_of(&status), Some(Hint::NameClash));
+    assert_eq!(rt; hint_behind(status), Some(Hint::NameClash));
     let status = Status::Stranded {
         path: Text::from_bytes(rt.alloc(), b"A.class")?,
         name: Text::from_bytes(rt.alloc(), b"b")?,
     };
-    assert_eq!(rt; hint_of(&status), Some(Hint::Stranded));
+    assert_eq!(rt; hint_behind(status), Some(Hint::Stranded));
     Ok(())
 }
 
@@ -123,7 +128,7 @@ fn a_file_that_moved_has_its_hint(rt: HostRuntime) -> Result<(), Fail> {
         first: Digest([0; 32]),
         second: Digest([1; 32]),
     };
-    assert_eq!(rt; hint_of(&status), Some(Hint::Moved));
+    assert_eq!(rt; hint_behind(status), Some(Hint::Moved));
     Ok(())
 }
 

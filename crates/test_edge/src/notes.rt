@@ -131,8 +131,8 @@ fn an_overheard_sink_writes_all_and_notes_ten_of_each(rt: HostRuntime) -> Result
     let mut plain = MemorySink::with_room(rt.alloc(), 100_000)?;
     write_lines(rt.alloc(), &mut plain)?;
     let sink = MemorySink::with_room(rt.alloc(), 100_000)?;
-    let mut heard = Overheard::new(&rt, sink);
-    write_lines(rt.alloc(), &mut heard)?;
+    let mut heard = Box::new(rt.alloc(), Overheard::new(&rt, sink))?;
+    write_lines(rt.alloc(), &mut *heard)?;
     assert!(rt; heard.out.written() == plain.written());
     let notes = &heard.notes;
     assert_eq!(rt; notes.archives.count, 12);

@@ -64,7 +64,7 @@ fn found(rt: &HostRuntime, root: &str, name: &str) -> Result<Place, Fail> {
 }
 
 /// The first pair of roots of these names that is nested.
-fn nested(rt: &HostRuntime, root: &str, names: [&str; 4]) -> Result<Option<Pair>, Fail> {
+fn nested(rt: &HostRuntime, root: &str, names: &[&str; 4]) -> Result<Option<Pair>, Fail> {
     let [rules, from, to, ledger] = names;
     let places = Places {
         rules: found(rt, root, rules)?,
@@ -75,43 +75,40 @@ fn nested(rt: &HostRuntime, root: &str, names: [&str; 4]) -> Result<Option<Pair>
     Ok(first_nested(&places))
 }
 
+/// Rules, source, target and ledger below the folder of a test, in which `link` is a link to `app`; and the first pair of them of
+/// which one lies in the other where it may not.
+const ROOTS: &[([&str; 4], Option<Pair>)] = &[
+    (["rules", "app", "to", "ledger"], None),
+    (["rules", "app", "link", "ledger"], Some(Pair::FromTo)),
+    (["rules", "app", "link/new/x", "ledger"], Some(Pair::FromTo)),
+    (
+        ["rules", "link/WEB-INF", "app", "ledger"],
+        Some(Pair::FromTo),
+    ),
+    (["link", "to", "app/x", "ledger"], Some(Pair::RulesTo)),
+    (["rules", "app", "to", "link/l"], Some(Pair::LedgerFrom)),
+    (["rules", "app", "to", "to/l"], Some(Pair::LedgerTo)),
+    (["link", "rules", "to", "app/l"], Some(Pair::LedgerRules)),
+    (["rules", "app", "to", "tol"], None),
+];
+
+/// Makes the folders of a test, and the link in them.
+fn make_folders(rt: &HostRuntime, root: &str) -> Result<(), Fail> {
+    for folder in ["app/WEB-INF", "rules"] {
+        fs::create_dir_all(rt, format!(in rt.alloc(); "{root}/{folder}")?.as_str())?;
+    }
+    let link = format!(in rt.alloc(); "{root}/link")?;
+    std::os::unix::fs::symlink(rt, "app", link.as_str())?;
+    Ok(())
+}
+
 #[test]
 fn links_are_followed(rt: HostRuntime) -> Result<(), Fail> {
     let root = format!(in rt.alloc(); "places-{}", process::id(rt.process()))?;
-    let root = root.as_str();
-    fs::create_dir_all(&rt, format!(in rt.alloc(); "{root}/app/WEB-INF")?.as_str())?;
-    fs::create_dir_all(&rt, format!(in rt.alloc(); "{root}/rules")?.as_str())?;
-    std::os::unix::fs::symlink(&rt, "app", format!(in rt.alloc(); "{root}/link")?.as_str())?;
-    assert_eq!(rt; nested(&rt, root, ["rules", "app", "to", "ledger"])?, None);
-    assert_eq!(rt;
-        nested(&rt, root, ["rules", "app", "link", "ledger"])?,
-        Some(Pair::FromTo)
-    );
-    assert_eq!(rt;
-        nested(&rt, root, ["rules", "app", "link/new/x", "ledger"])?,
-        Some(Pair::FromTo)
-    );
-    assert_eq!(rt;
-        nested(&rt, root, ["rules", "link/WEB-INF", "app", "ledger"])?,
-        Some(Pair::FromTo)
-    );
-    assert_eq!(rt;
-        nested(&rt, root, ["link", "to", "app/x", "ledger"])?,
-        Some(Pair::RulesTo)
-    );
-    assert_eq!(rt;
-        nested(&rt, root, ["rules", "app", "to", "link/l"])?,
-        Some(Pair::LedgerFrom)
-    );
-    assert_eq!(rt;
-        nested(&rt, root, ["rules", "app", "to", "to/l"])?,
-        Some(Pair::LedgerTo)
-    );
-    assert_eq!(rt;
-        nested(&rt, root, ["link", "rules", "to", "app/l"])?,
-        Some(Pair::LedgerRules)
-    );
-    assert_eq!(rt; nested(&rt, root, ["rules", "app", "to", "tol"])?, None);
-    fs::remove_dir_all(&rt, root)?;
+    make_folders(&rt, root.as_str())?;
+    for (names, pair) in ROOTS {
+        assert_eq!(rt; nested(&rt, root.as_str(), names)?, *pair);
+    }
+    fs::remove_dir_all(&rt, root.as_str())?;
     Ok(())
 }
