@@ -105,6 +105,18 @@ impl<'a> Iterator for DescParts<'a> {
     }
 }
 
+/// The parts of a text that is known to be a descriptor, which isn't checked again. They are those that [`read_descriptor`]
+/// answers where it answers any; a text that is no descriptor is cut in the same way. It takes no memory.
+pub fn descriptor_parts(text: &[u8]) -> DescParts<'_>
+    ensures parts { result ≡ pieces text.now }
+    ensures cut { AreCut result }
+{
+    DescParts {
+        rest: text,
+        inside: false,
+    }
+}
+
 /// The parts of a descriptor; none exactly where the text is no descriptor of the wanted kind (JVMS 4.3), with at most 255
 /// dimensions in each type and parameters of at most 255 units, J and D counting two and `this` not counted. It takes no
 /// memory.
@@ -117,10 +129,7 @@ pub fn read_descriptor(text: &[u8], want: Want) -> Option<DescParts<'_>>
     ensures cut { IfSome result AreCut }
 {
     if is_descriptor(text, want) {
-        Some(DescParts {
-            rest: text,
-            inside: false,
-        })
+        Some(descriptor_parts(text))
     } else {
         None
     }
