@@ -1,5 +1,5 @@
-"""Prints scan and build as a ratio to reading the same classes, how building grows with the number of classes, and its peak
-memory. What only makes the classes up, or reads their files, is taken off each time.
+"""Prints scan and build as a ratio to reading the same classes, how they and building alone grow with the number of classes,
+and the peak memory. What only makes the classes up, or reads their files, is taken off each time.
 
     graph.py PROGRAM [LIST]     LIST names class files, one a line
 """
@@ -7,9 +7,11 @@ memory. What only makes the classes up, or reads their files, is taken off each 
 import resource
 import subprocess
 import sys
+import tempfile
 
 program, *lists = sys.argv[1:]
-ROUNDS = 5
+ROUNDS = 10
+FEW = 3_000
 
 
 def once(mode, what):
@@ -26,10 +28,20 @@ def best(modes, what):
 
 
 def compare(what, said):
-    """Scan and build beside reading."""
+    """Scan and build beside reading; the seconds that scan and build take."""
     make, read, graph = best(["make", "read", "graph"], what)
     print(f"{said}: read in {read - make:.2f} s, scanned and built in {graph - read:.2f} s, "
           f"ratio {(graph - read) / (read - make):.2f} (aim: at most 0.5)")
+    return graph - read
+
+
+def some_of(paths, count):
+    """A list of so many of these paths, evenly spread, and of the class whose node the program asks for."""
+    file = tempfile.NamedTemporaryFile("w", encoding="utf-8")
+    file.writelines(path for path in paths if path.endswith("/java/lang/String.class\n"))
+    file.writelines(paths[place * len(paths) // count] for place in range(count))
+    file.flush()
+    return file
 
 
 # The memory comes first, since the system tells the greatest of all runs so far.
@@ -39,13 +51,17 @@ print(f"200,000 classes with 3,200,000 held names: {peak:.0f} MB at the peak (ai
 
 compare(20_000, "20,000 generated classes")
 for file in lists:
-    with open(file, encoding="utf-8") as paths:
-        count = sum(1 for _ in paths)
-    compare(file, f"{count:,} classes of a JDK")
+    with open(file, encoding="utf-8") as lines:
+        paths = lines.readlines()
+    all_of_them = compare(file, f"{len(paths):,} classes of a JDK") / len(paths) * 1e6
+    with some_of(paths, FEW) as few:
+        some = compare(few.name, f"{FEW:,} of them") / FEW * 1e6
+    print(f"scanning and building take {some:.1f} microseconds a class of {FEW:,} and {all_of_them:.1f} of {len(paths):,}, "
+          f"ratio {all_of_them / some:.2f} (aim: at most 1.2)")
 
 each = {}
 for count in (3_000, 30_000):
     names, build = best(["names", "build"], count)
     each[count] = (build - names) / count * 1e6
-print(f"building takes {each[3_000]:.1f} microseconds a class of 3,000 and {each[30_000]:.1f} of 30,000, "
-      f"ratio {each[30_000] / each[3_000]:.2f} (aim: at most 1.2)")
+print(f"building alone, of made-up classes, takes {each[3_000]:.1f} microseconds a class of 3,000 and {each[30_000]:.1f} of 30,000, "
+      f"ratio {each[30_000] / each[3_000]:.2f}")

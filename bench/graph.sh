@@ -1,6 +1,6 @@
 #!/bin/sh
 # Times the scan of classes and the building of their graph against reading the same classes, generated ones and those of a JDK;
-# how building grows from 3,000 to 30,000 classes; and the memory over 200,000 classes with 3,200,000 held names.
+# how they grow with the number of classes, and building alone; and the memory over 200,000 classes with 3,200,000 held names.
 #
 # Usage: bench/graph.sh [JDK], the home of a JDK; by default that which `javac` belongs to. Without one it says so, and ends.
 # It needs python3 and `rt` on the path, and writes into a temporary folder.

@@ -1,7 +1,9 @@
 //! Classes as a scan keeps them, made up.
 
 use desk_base::{Memory, Text, TextList};
-use desk_graph::{HeldNames, Scanned};
+use desk_class::HeldNames;
+use desk_graph::Scanned;
+use desk_names::cut_name;
 use std::alloc::Global;
 
 /// How many names a class holds beside its own.
@@ -27,6 +29,15 @@ fn name_of(alloc: Global, front: &[u8], number: u32) -> Result<Text, Memory> {
     Ok(name)
 }
 
+/// Names as a scan packs them.
+fn packed(alloc: Global, names: &[Text]) -> Result<HeldNames, Memory> {
+    let mut cut = Vec::with_capacity(alloc, names.len())?;
+    for name in names {
+        cut.push(cut_name(name.as_bytes()))?;
+    }
+    HeldNames::of(alloc, cut.as_slice())
+}
+
 /// The class of a number among so many: of the names that it holds three are of the rename, three of libraries that no class
 /// defines, and all others of the application.
 pub fn class_of(alloc: Global, number: u32, count: u32) -> Result<Scanned, Memory> {
@@ -49,11 +60,10 @@ pub fn class_of(alloc: Global, number: u32, count: u32) -> Result<Scanned, Memor
         };
         held.push(name)?;
     }
-    held.sort()?;
     Ok(Scanned {
         path: name_of(alloc, b"WEB-INF/classes/org/shop/orders/part", number)?,
         selected: number % 10 > 0,
         name: name_of(alloc, b"org/shop/orders/part", number)?,
-        held: HeldNames::of(alloc, held.as_slice())?,
+        held: packed(alloc, held.as_slice())?,
     })
 }

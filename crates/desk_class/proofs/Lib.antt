@@ -6,6 +6,9 @@ mod Bodies
 mod Pairs
 pub mod Ascending
 pub mod Named
+mod Formed
+pub mod Once
+mod Packing
 mod Sets
 mod Wholes
 mod Views

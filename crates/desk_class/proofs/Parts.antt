@@ -1,77 +1,112 @@
 -- The parts of class names that were found.
-use Rattle.std.proofs.Common.{◌≡◌, Bool, true, false, ◌||◌, List, [], ◌∷◌, refl, sym, ap, ap₂, ◌∙◌}
+use Rattle.std.proofs.Common.{◌≡◌, ℕ, Bool, true, false, cond, not, ◌||◌, List, [], ◌∷◌, ◌++◌, refl, sym, ap, ap₂, subst, ◌∙◌, Result, Ok, Err, is_ok, is_err, map, if◌then◌else◌}
 use Rattle.std.specs.List.{list_any}
 use Rattle.std.specs.declared.cmp.Ordering.{Ordering}
 use Rattle.std.specs.declared.cmp.Ordering.TheVariants.{Less, Equal, Greater}
-use Rattle.std.specs.Ordering.{nat_cmp, eq_by_cmp, is_eq, ordering_then, match_ordering}
+use Rattle.std.specs.Ordering.{nat_cmp, eq_by_cmp, is_eq, ordering_then}
 use Rattle.std.specs.Cmp.Lexicographic.{slice_cmp}
-use Rattle.std.specs.BTreeSet.{BTreeSet, Updates, insert_key}
+use Rattle.std.specs.BTreeSet.{BTreeSet, Updates, contains}
+use Rattle.std.proofs.lemmas.Cmp.{nat_cmp_total, nat_list_cmp_total, tied_itself}
 use Rattle.std.proofs.lemmas.Map.Lookups.{exact_bytes}
 use Rattle.std.proofs.lemmas.Map.Views.{tells_apart}
 use Rattle.desk_base.specs.Names.{Text}
-use Rattle.desk_names.specs.ClassNames.{class_name}
-use Rattle.desk_class.specs.Held.{is_held}
-use Rattle.desk_class.specs.Found.{Parts, IsFound, AreFound}
-use Rattle.desk_class.proofs.Sets.{or-false, added, absorbed}
-
-abbrev pub parts_order : Parts → Parts → Ordering
-parts_order x y = ordering_then (slice_cmp nat_cmp x.0.now y.0.now) (slice_cmp nat_cmp x.1.now y.1.now)
+use Rattle.desk_names.specs.declared.names.ClassName.{ClassName}
+use Rattle.desk_names.specs.ClassNames.{class_name, package_of, simple_of}
+use Rattle.desk_class.specs.Held.{found_all}
+use Rattle.desk_class.specs.Found.{Parts, parts_order, named, spelled, AreParts, AreFound}
+use Rattle.desk_class.specs.Marks.{mark}
+use Rattle.desk_class.proofs.Sets.{or-false, is_held-append}
+use Rattle.desk_class.proofs.Once.{found_there, found_new}
 
 both_equal : (a b : Ordering) → is_eq (ordering_then a b) ≡ true → (is_eq a ≡ true) × (is_eq b ≡ true)
 both_equal Less b e = absurd cc
 both_equal Equal b e = (refl, e)
 both_equal Greater b e = absurd cc
 
+same_text : (s t : Text) → is_eq (slice_cmp nat_cmp s t) ≡ true → s ≡ t
+same_text s t e = tells_apart exact_bytes s t e
+
+tied : (t : Text) → slice_cmp nat_cmp t t ≡ Equal
+tied t = tied_itself nat_list_cmp_total t
+
 -- equal parts are those of one name
-same_parts : (names : List Text) (k p : Parts) → is_eq (parts_order k p) ≡ true → IsFound names p → IsFound names k
-same_parts names k p e h =
-    let b = both_equal (slice_cmp nat_cmp k.0.now p.0.now) (slice_cmp nat_cmp k.1.now p.1.now) e in
-    ap₂ (λ (last before : Text). is_held names (class_name before last)) (tells_apart exact_bytes k.0.now p.0.now b.0) (tells_apart exact_bytes k.1.now p.1.now b.1) ∙ h
+same_named : (j k : Parts) → is_eq (parts_order j k) ≡ true → named j ≡ named k
+same_named j k e =
+    let front : Ordering = ordering_then (nat_cmp j.0 k.0) (slice_cmp nat_cmp j.1.now k.1.now) in
+    let b = both_equal front (slice_cmp nat_cmp j.2.now k.2.now) e in
+    let c = both_equal (nat_cmp j.0 k.0) (slice_cmp nat_cmp j.1.now k.1.now) b.0 in
+    ap₂ (λ (last before : Text). class_name before last) (same_text j.1.now k.1.now c.1) (same_text j.2.now k.2.now b.1)
 
-found_by : (names : List Text) (k p : Parts) (ps : List Parts) (x : Bool) → is_eq (parts_order k p) ≡ x → IsFound names p → (list_any (λ r. is_eq (parts_order k r)) ps ≡ true → IsFound names k) → (x || list_any (λ r. is_eq (parts_order k r)) ps) ≡ true → IsFound names k
-found_by names k p ps true e h later any = same_parts names k p e h
-found_by names k p ps false e h later any = later any
+-- and the parts of one name, cut at its last `/`, are equal
+same_parts : (j k : Parts) → AreParts j → AreParts k → named j ≡ named k → is_eq (parts_order j k) ≡ true
+same_parts j k p q e =
+    let last : j.1.now ≡ k.1.now = sym p.cut.simple_is ∙ ap simple_of e ∙ q.cut.simple_is in
+    let before : j.2.now ≡ k.2.now = sym p.cut.package_is ∙ ap package_of e ∙ q.cut.package_is in
+    let marks : j.0 ≡ k.0 = p.marked ∙ ap mark last ∙ sym q.marked in
+    let one : nat_cmp j.0 k.0 ≡ Equal = ap (λ (n : ℕ). nat_cmp n k.0) marks ∙ tied_itself nat_cmp_total k.0 in
+    let two : slice_cmp nat_cmp j.1.now k.1.now ≡ Equal = ap (λ (t : Text). slice_cmp nat_cmp t k.1.now) last ∙ tied k.1.now in
+    let three : slice_cmp nat_cmp j.2.now k.2.now ≡ Equal = ap (λ (t : Text). slice_cmp nat_cmp t k.2.now) before ∙ tied k.2.now in
+    ap₂ (λ (a b : Ordering). is_eq (ordering_then a b)) (ap₂ ordering_then one two) three
 
--- parts that are there are those of a name that is there
-is_found : (names : List Text) (k : Parts) (ps : List Parts) → AreFound names ps → list_any (λ r. is_eq (parts_order k r)) ps ≡ true → IsFound names k
-is_found names k [] h any = absurd cc
-is_found names k (p ∷ ps) h any = found_by names k p ps (is_eq (parts_order k p)) refl h.0 (is_found names k ps h.1) any
+agree : (a b : Bool) → (a ≡ true → b ≡ true) → (b ≡ true → a ≡ true) → a ≡ b
+agree true b f g = sym (f refl)
+agree false true f g = g refl
+agree false false f g = refl
 
--- the one name of a list
-only : (k q : Text) → is_held (k ∷ []) q ≡ true → q ≡ k
-only k q h = tells_apart exact_bytes q k (sym (or-false (eq_by_cmp (slice_cmp nat_cmp) q k)) ∙ h)
+alike : (j k : Parts) → AreParts j → AreParts k → eq_by_cmp parts_order j k ≡ eq_by_cmp (slice_cmp nat_cmp) (named k) (named j)
+alike j k p q =
+    agree (is_eq (parts_order j k)) (is_eq (slice_cmp nat_cmp (named k) (named j)))
+    (λ e. ap is_eq (ap (slice_cmp nat_cmp (named k)) (same_named j k e) ∙ tied (named k)))
+    (λ e. same_parts j k p q (sym (same_text (named k) (named j) e)))
 
--- no name comes with parts that are there
-pub found_again : (keys names : List Text) (k : Parts) (ps : List Parts) → keys ≡ names → AreFound keys ps → list_any (λ r. is_eq (parts_order k r)) ps ≡ true
-    → (q : Text) → is_held names q ≡ (is_held names q || is_held (class_name k.1.now k.0.now ∷ []) q)
-found_again keys names k ps e h any q =
-    absorbed names (class_name k.1.now k.0.now ∷ [])
-    (λ r held. ap₂ (λ (xs : List Text) (t : Text). is_held xs t) (sym e) (only (class_name k.1.now k.0.now) r held) ∙ is_found keys k ps h any) q
+cond-or : (a x : Bool) → cond a true x ≡ (x || a)
+cond-or true true = refl
+cond-or true false = refl
+cond-or false true = refl
+cond-or false false = refl
 
--- names stay where names are added
-found_stay : (names more : List Text) (ps : List Parts) → ((q : Text) → is_held names q ≡ true → is_held more q ≡ true) → AreFound names ps → AreFound more ps
-found_stay names more [] keeps h = tt
-found_stay names more (p ∷ ps) keeps h = (keeps _ h.0, found_stay names more ps keeps h.1)
+-- ---- a name that is added
 
-found_put : (cmp : Parts → Parts → Ordering) (names : List Text) (ps : List Parts) (k : Parts) → AreFound names ps → IsFound names k → AreFound names (insert_key cmp ps k)
-found_put cmp names [] k h one = (one, tt)
-found_put cmp names (p ∷ ps) k h one = elim (cmp k p) as (λ (o : Ordering). AreFound names (match_ordering o (k ∷ p ∷ ps) (p ∷ ps) (p ∷ insert_key cmp ps k))) [
-  | Less ↦ (one, h)
-  | Equal ↦ h
-  | Greater ↦ (h.0, found_put cmp names ps k h.1 one)
-]
+-- the parts of no name
+pub none_found : (set : BTreeSet Parts) → set.keys ≡ [] → AreFound [] set
+none_found set e k cut = ap (list_any (λ p. is_eq (parts_order k p))) e
 
-keeps : (s n : BTreeSet Text) (k : Text) → Updates (slice_cmp nat_cmp) s n k true → (q : Text) → is_held s.keys q ≡ true → is_held n.keys q ≡ true
-keeps s n k u q h = added s n k u q ∙ ap (λ (b : Bool). b || is_held (k ∷ []) q) h
+-- parts that were there
+pub parts_stay : (names : List Text) (s n : BTreeSet Parts) → n.keys ≡ s.keys → AreFound names s → AreFound names n
+parts_stay names s n e h k cut = ap (list_any (λ p. is_eq (parts_order k p))) e ∙ h k cut
 
--- a set with one more name
-pub found_before : (s n : BTreeSet Text) (k : Text) (ps new : List Parts) → Updates (slice_cmp nat_cmp) s n k true → new ≡ ps → AreFound s.keys ps → AreFound n.keys new
-found_before s n k ps new u e h = rw e (found_stay s.keys n.keys ps (keeps s n k u) h)
+-- parts that are new
+parts_added : (names : List Text) (j : Parts) (s n : BTreeSet Parts) → AreParts j → Updates parts_order s n j true → AreFound names s → AreFound (names ++ named j ∷ []) n
+parts_added names j s n cut_j u h k cut =
+    u.0 k ∙ cond-or (eq_by_cmp parts_order j k) (contains parts_order s k)
+    ∙ ap₂ (λ (a b : Bool). a || b) (h k cut) (alike j k cut_j cut ∙ sym (or-false (eq_by_cmp (slice_cmp nat_cmp) (named k) (named j))))
+    ∙ sym (is_held-append names (named j ∷ []) (named k))
 
--- and with its parts
-pub found_more : (cmp : Parts → Parts → Ordering) (s n : BTreeSet Text) (text : Text) (k : Parts) (ps new : List Parts) → Updates (slice_cmp nat_cmp) s n text true → text ≡ class_name k.1.now k.0.now → new ≡ insert_key cmp ps k → AreFound s.keys ps → AreFound n.keys new
-found_more cmp s n text k ps new u is e h =
-    rw e (found_put cmp n.keys ps k (found_stay s.keys n.keys ps (keeps s n text u) h) (ap (is_held n.keys) (sym is) ∙ u.1))
+turned : (a b : Bool) → not a ≡ b → a ≡ not b
+turned true b e = ap not e
+turned false b e = ap not e
 
-pub name_added : (s n : BTreeSet Text) (names : List Text) (text name : Text) → s.keys ≡ names → Updates (slice_cmp nat_cmp) s n text true → text ≡ name → (q : Text) → is_held n.keys q ≡ (is_held names q || is_held (name ∷ []) q)
-name_added s n names text name e u is q = added s n text u q ∙ ap₂ (λ (xs : List Text) (t : Text). is_held xs q || is_held (t ∷ []) q) e is
+-- where its parts were there, so was the name
+pub name_there : (names : List Text) (j : Parts) (s : BTreeSet Parts) → AreParts j → AreFound names s → false ≡ not (contains parts_order s j) → names ≡ found_all names (named j ∷ [])
+name_there names j s cut h e = sym (found_there names (named j) (sym (h j cut) ∙ turned (contains parts_order s j) false (sym e)))
+
+name_new : (names : List Text) (j : Parts) (s : BTreeSet Parts) → AreParts j → AreFound names s → true ≡ not (contains parts_order s j) → names ++ named j ∷ [] ≡ found_all names (named j ∷ [])
+name_new names j s cut h e = sym (found_new names (named j) (sym (h j cut) ∙ turned (contains parts_order s j) true (sym e)))
+
+-- ---- behind a call that put the name
+
+map_push : (xs : List ClassName) (x : ClassName) → map spelled (xs ++ x ∷ []) ≡ map spelled xs ++ spelled x ∷ []
+map_push [] x = refl
+map_push (y ∷ xs) x = ap (λ (ts : List Text). spelled y ∷ ts) (map_push xs x)
+
+pub found_more : {T E : Type 0} (r : Result T E) (xs xs' : List ClassName) (x : ClassName) (j : Parts) (s n : BTreeSet Parts) → is_err r ≡ false → xs' ≡ (if is_ok r then xs ++ x ∷ [] else xs) → spelled x ≡ named j → AreParts j → Updates parts_order s n j true → AreFound (map spelled xs) s
+    → AreFound (map spelled xs') n
+found_more (Ok v) xs xs' x j s n ok more same p u h =
+    subst (λ (ns : List Text). AreFound ns n) (sym (ap (map spelled) more ∙ map_push xs x ∙ ap (λ (t : Text). map spelled xs ++ t ∷ []) same)) (parts_added (map spelled xs) j s n p u h)
+found_more (Err v) xs xs' x j s n ok more same p u h = absurd cc
+
+pub name_put : {T E : Type 0} (r : Result T E) (xs xs' : List ClassName) (x : ClassName) (self : List Text) (j : Parts) (s : BTreeSet Parts) → is_err r ≡ false → xs' ≡ (if is_ok r then xs ++ x ∷ [] else xs) → spelled x ≡ named j → map spelled xs ≡ self → AreParts j
+    → true ≡ not (contains parts_order s j) → AreFound (map spelled xs) s → map spelled xs' ≡ found_all self (named j ∷ [])
+name_put (Ok v) xs xs' x self j s ok more same view p e h =
+    ap (map spelled) more ∙ map_push xs x ∙ ap (λ (t : Text). map spelled xs ++ t ∷ []) same ∙ name_new (map spelled xs) j s p h e ∙ ap (λ (ns : List Text). found_all ns (named j ∷ [])) view
+name_put (Err v) xs xs' x self j s ok more same view p e h = absurd cc

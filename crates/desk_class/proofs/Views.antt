@@ -1,5 +1,5 @@
 -- What a view of a class keeps, and the fault of bytes that are no class, by what was read of them.
-use Rattle.std.proofs.Common.{◌≡◌, ℕ, ◌+◌, ◌<◌, ◌≤◌, List, [], ◌++◌, length, take, drop, Some, None, Result, Ok, Err, sym, ap, ◌∙◌}
+use Rattle.std.proofs.Common.{◌≡◌, ℕ, ◌+◌, ◌<◌, ◌≤◌, List, [], ◌++◌, length, take, drop, Some, None, Result, Ok, Err, sym, ap, subst, ◌∙◌}
 use Rattle.std.specs.Int.{w16, from_be_bytes}
 use Rattle.desk_base.specs.Spot.{Spot}
 use Rattle.desk_base.specs.Names.{Text}
@@ -22,6 +22,9 @@ use Rattle.desk_pool.specs.Seen.{Stops, ReadPool}
 use Rattle.desk_class.specs.Scan.{Scan, scan}
 use Rattle.desk_class.specs.Parts.{class_name, body_at_of, IsRead}
 use Rattle.desk_class.specs.Faults.{IsFirst}
+use Rattle.desk_format.specs.Laws.{IsBytes}
+use Rattle.desk_class.specs.Formed.{AreFormed}
+use Rattle.desk_class.proofs.Formed.{formed_class}
 use Rattle.desk_class.proofs.Pairs.{second_of}
 use Rattle.desk_class.proofs.Wholes.{header_fault, pool_fault, body_fault, trailing_fault, twins_fault, Bodied, bodied, whole}
 
@@ -64,9 +67,9 @@ module _ (bytes : List ℕ) (spot : Spot) (v : Version) (at : ℕ) (s : List ℕ
         pub is_sound : class_fault bytes ≡ None
         is_sound = ap fault_in reads
 
-        pub is_read : length bytes ≤ file_size → at ≡ 8 → pool.uses ≡ pool_uses (at + 2) pool.entries → us ≡ pool.uses → (body_at : ℕ) → body_at ≡ at' → (i : ℕ) → i ≡ from_be_bytes w16 (take 2 (drop 2 s'))
+        pub is_read : IsBytes bytes → length bytes ≤ file_size → at ≡ 8 → pool.uses ≡ pool_uses (at + 2) pool.entries → us ≡ pool.uses → (body_at : ℕ) → body_at ≡ at' → (i : ℕ) → i ≡ from_be_bytes w16 (take 2 (drop 2 s'))
             → (name : Text) → name ≡ class_name_at pool.entries i → IsRead bytes pool body_at scan'.uses scan'.members name
-        is_read short eight used copied body_at body i this name named =
+        is_read b short eight used copied body_at body i this name named =
             let texts : pool.uses ≡ pool_uses entries_at pool.entries = used ∙ ap (λ (n : ℕ). pool_uses (n + 2) pool.entries) eight in
             record {
               short = short;
@@ -75,6 +78,7 @@ module _ (bytes : List ℕ) (spot : Spot) (v : Version) (at : ℕ) (s : List ℕ
               pool_texts = texts ∙ sym (ap (λ (r : Result Class Malformed). pool_uses entries_at (list_in (λ c. c.pool) r)) reads);
               body = body ∙ sym (ap body_at_of reads);
               texts = sym whole_body.used ∙ ap (λ (vs : List Used). vs ++ uses whole_body.tree) (copied ∙ texts) ∙ sym (ap (list_in class_uses) reads);
+              formed = subst (λ (r : Result Class Malformed). AreFormed (list_in (λ c. c.pool) r) (list_in class_uses r)) (sym reads) (formed_class bytes (class_of v pool.entries at' whole_body.tree) b reads);
               fields_and_methods = sym whole_body.members_are ∙ sym (ap (list_in (λ c. members c.body)) reads);
               named = named ∙ ap (class_name_at pool.entries) (this ∙ sym whole_body.this_is) ∙ sym (ap (list_in class_name) reads);
             }

@@ -3,7 +3,7 @@ use Rattle.std.specs.Prelude.{Bool, ◌||◌, List, [], ◌∷◌, ◌++◌, if�
 use Rattle.std.specs.List.{list_any}
 use Rattle.std.specs.Ordering.{nat_cmp, eq_by_cmp}
 use Rattle.std.specs.Cmp.Lexicographic.{slice_cmp}
-use Rattle.std.specs.BTreeSet.{BTreeSet, contains, insert_key}
+use Rattle.std.specs.BTreeSet.{insert_key}
 use Rattle.desk_base.specs.Names.{Text, is_class_name}
 use Rattle.desk_base.specs.Descriptors.{DescriptorKind, is_descriptor}
 use Rattle.desk_base.specs.Referents.{begins_array}
@@ -44,10 +44,6 @@ held_by pool (u ∷ us) = names_of u.role (text_at pool u.index) ++ held_by pool
 abbrev pub is_held : List Text → Text → Bool
 is_held names q = list_any (eq_by_cmp (slice_cmp nat_cmp) q) names
 
--- whether a set has a text
-abbrev pub has : BTreeSet Text → Text → Bool
-has = contains (slice_cmp nat_cmp)
-
 -- the class names that a class holds, in the order of its uses
 abbrev pub held_names : Class → List Text
 held_names c = held_by c.pool (class_uses c)
@@ -59,6 +55,15 @@ held_in bytes = held_by (pool_in bytes) (uses_in bytes)
 -- The bytes of a class hold a class name where it is one of those of a text that is used.
 abbrev pub Holds : Text → Text → Type 0
 Holds bytes name = Contains (held_in bytes) name
+
+-- these texts, and behind them others in their order, each once
+abbrev pub found_all : List Text → List Text → List Text
+found_all known [] = known
+found_all known (t ∷ ts) = found_all (if is_held known t then known else known ++ t ∷ []) ts
+
+-- texts in the order in which they first stand, each once
+abbrev pub each_once : List Text → List Text
+each_once = found_all []
 
 -- these texts, with others put among them in byte order, each once
 abbrev pub put_all : List Text → List Text → List Text

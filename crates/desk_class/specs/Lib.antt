@@ -3,4 +3,7 @@ pub mod Parts
 pub mod Held
 pub mod Faults
 pub mod Numbers
+pub mod Formed
+pub mod Marks
+pub mod Packed
 pub mod Found

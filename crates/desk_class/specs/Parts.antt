@@ -11,6 +11,7 @@ use Rattle.desk_format.specs.Trees.{both, used}
 use Rattle.desk_format.specs.Classes.{Class, Version, read_class, class_fault, entries_at, list_in, uses_in, members_in}
 use Rattle.desk_format.specs.PoolBytes.{pool_uses}
 use Rattle.desk_pool.specs.Seen.{ReadPool}
+use Rattle.desk_class.specs.Formed.{AreFormed}
 use Rattle.desk_class.specs.declared.header.Version.{Version as CodeVersion}
 
 -- the index of this class, which stands behind the access flags (JVMS 4.1)
@@ -49,5 +50,6 @@ pub record IsRead (bytes : List ℕ) (pool : ReadPool) (body_at : ℕ) (us : Lis
   pub pool_texts : pool.uses ≡ pool_uses entries_at (pool_in bytes)
   pub body : body_at ≡ body_at_in bytes
   pub texts : us ≡ uses_in bytes
+  pub formed : AreFormed (pool_in bytes) (uses_in bytes)
   pub fields_and_methods : ms ≡ members_in bytes
   pub named : name ≡ name_in bytes

@@ -6,12 +6,13 @@ ghost use Rattle.desk_base.specs.Limits.{file_size};
 ghost use Rattle.desk_format.specs.Classes.{class_fault, entries_at, uses_in, members_in};
 ghost use Rattle.desk_format.specs.PoolBytes.{pool_uses};
 ghost use Rattle.desk_class.specs.Parts.{IsRead, pool_in, body_at_in, name_in};
-ghost use Rattle.desk_class.specs.Held.{ascending, held_in};
+ghost use Rattle.desk_class.specs.Held.{ascending, each_once, held_in};
 ghost use Rattle.desk_class.specs.Faults.{IsFirst};
 
 use crate::body::walk_body;
 use crate::header::read_header;
-use crate::names::{held_names, list_of};
+use crate::held::HeldNames;
+use crate::names::{held_names, in_order};
 use crate::twins::first_twin;
 use desk_base::{Cursor, FaultKind, Malformed, Memory, ReadFault, TextList, Used};
 use desk_format::Member;
@@ -31,7 +32,8 @@ fn name_of<'a>(pool: &Pool<'a>, index: u16) -> &'a [u8]
 }
 
 /// A class file without a fault (JVMS 4.1), whose texts lie in its bytes. Contracts see the bytes; that they read as a class
-/// belongs to the type. No call but `read` and `class_names` takes memory.
+/// belongs to the type. No call but `read`, `held_names` and
+/// `class_names` takes memory.
 #[derive(Drop)]
 pub struct ClassView<'a> {
     bytes: &'a [u8],
@@ -134,13 +136,20 @@ impl<'a> ClassView<'a> {
         self.name
     }
 
-    /// The class names that the class holds in its texts, each once, in byte order: those of class names, descriptors and
-    /// signatures. An array gives its element class, and a signature each class name up to its first simple class. The only
-    /// error is want of memory.
+    /// The class names that the class holds in its texts, each once, in the order in which they first stand: those of class
+    /// names, descriptors and signatures. An array gives its element class, and a signature each class name up to its first
+    /// simple class. The only error is want of memory.
+    pub fn held_names(&self, alloc: Global) -> Result<HeldNames, Memory>
+        ensures held { IfOk result (λ names. names ≡ each_once (held_in self.now)) }
+    {
+        held_names(alloc, &self.pool, &self.uses)
+    }
+
+    /// The class names that the class holds in its texts, each once, in byte order. The only error is want of memory.
     pub fn class_names(&self, alloc: Global) -> Result<TextList, Memory>
         ensures held { IfOk result (λ names. names ≡ ascending (held_in self.now)) }
     {
-        let names = held_names(alloc, &self.pool, &self.uses)?;
-        list_of(alloc, names)
+        let names = self.held_names(alloc)?;
+        in_order(alloc, &names)
     }
 }

@@ -1,77 +1,73 @@
 //! Class names that were found, each once.
 
-ghost use Rattle.std.specs.Prelude.{◌≡◌, ◌||◌, [], ◌∷◌, OnOk, IfOk};
-ghost use Rattle.desk_base.specs.Names.{Text as TextOf};
+ghost use Rattle.std.specs.Prelude.{◌≡◌, [], ◌∷◌, OnOk, IfOk};
 ghost use Rattle.desk_names.specs.ClassNames.{class_name};
-ghost use Rattle.desk_class.specs.Held.{is_held};
+ghost use Rattle.desk_names.specs.Pieces.{IsCut};
+ghost use Rattle.desk_class.specs.Held.{found_all};
 
-use desk_base::{Memory, Text};
+use crate::held::HeldNames;
+use crate::marks::mark_of;
+use desk_base::Memory;
 use desk_names::ClassName;
 use std::alloc::Global;
 use std::collections::BTreeSet;
 use std::marker::Model;
 
-/// A class name as a text.
-fn text_of(alloc: Global, name: &ClassName<'_>) -> Result<Text, Memory>
-    ensures { IfOk result (λ text. text ≡ class_name name.now.package.now name.now.simple.now) }
-{
-    let mut text = Text::from_bytes(alloc, name.package)?;
-    if !name.package.is_empty() {
-        text.push(b'/')?;
-    }
-    text.append(name.simple)?;
-    Ok(text)
-}
+/// How many names there is room for at first.
+const ROOM: usize = 24;
 
-/// Class names, each once, in byte order; contracts see them so. The simple name and the package of each are kept as they
-/// stand in the text where it was found: simple names mostly differ in their first bytes, so a name that is here already is
-/// found fast, and isn't made again.
+/// Class names, each once, in the order in which they were found; contracts see them so. They are kept as they stand in the
+/// texts where they were found, so that none is copied before it is known to be new. A name that is here already is found
+/// fast: the simple names are told apart by their marks.
 #[derive(Drop)]
 pub struct FoundNames<'a> {
-    parts: BTreeSet<(&'a [u8], &'a [u8])>,
-    texts: BTreeSet<Text>,
+    parts: BTreeSet<(u64, &'a [u8], &'a [u8])>,
+    names: Vec<ClassName<'a>>,
 }
 
 impl<'a> Model for FoundNames<'a> {
-    ghost use Rattle.std.specs.Prelude.{ℕ, List};
-    ghost use Rattle.desk_class.specs.Found.{AreFound};
+    ghost use Rattle.std.specs.Prelude.{ℕ, List, map};
+    ghost use Rattle.desk_class.specs.Found.{AreFound, spelled};
 
     ghost Value = { List (List ℕ) };
 
-    ghost view = { λ f. f.texts.keys };
+    ghost view = { λ f. map spelled f.names.items };
 
-    ghost invariant = { λ f. AreFound f.texts.keys f.parts.keys };
+    ghost invariant = { λ f. AreFound (map spelled f.names.items) f.parts };
 }
 
 impl<'a> FoundNames<'a> {
-    /// No name. It takes no memory.
-    pub fn new(alloc: Global) -> FoundNames<'a>
-        ensures { result ≡ [] }
+    /// No name. The only error is want of memory.
+    pub fn new(alloc: Global) -> Result<FoundNames<'a>, Memory>
+        ensures { IfOk result (λ names. names ≡ []) }
     {
-        FoundNames {
+        Ok(FoundNames {
             parts: BTreeSet::new(alloc),
-            texts: BTreeSet::new(alloc),
-        }
+            names: Vec::with_capacity(alloc, ROOM)?,
+        })
     }
 
-    /// Adds a name. The only error is want of memory.
+    /// Adds a name, which is cut at its last `/`. The only error is want of memory, behind which no name is here.
     pub fn add(&mut self, alloc: Global, name: &ClassName<'a>) -> Result<(), Memory>
-        ensures { OnOk result ((q : TextOf) → is_held self.new q ≡ (is_held self.old q || is_held (class_name name.now.package.now name.now.simple.now ∷ []) q)) }
+        requires { IsCut name.now.package.now name.now.simple.now }
+        ensures { OnOk result (self.new ≡ found_all self.old (class_name name.now.package.now name.now.simple.now ∷ [])) }
     {
-        let parts = (name.simple, name.package);
-        if self.parts.contains(&parts) {
-            return Ok(());
+        let parts = (mark_of(name.simple), name.simple, name.package);
+        let new = self.parts.insert(parts)?;
+        if new {
+            if self.names.push(*name).is_err() {
+                self.parts = BTreeSet::new(alloc);
+                self.names.clear();
+                return Err(Memory);
+            }
         }
-        self.texts.insert(text_of(alloc, name)?)?;
-        self.parts.insert(parts)?;
         Ok(())
     }
 
-    /// The names, as a set.
-    pub fn into_texts(self) -> BTreeSet<Text>
-        ensures { result.keys ≡ self.entry }
+    /// The names, packed. The only error is want of memory, as which 4 GiB of names count.
+    pub fn pack(&self, alloc: Global) -> Result<HeldNames, Memory>
+        ensures { IfOk result (λ held. held ≡ self.now) }
     {
-        let FoundNames { texts, .. } = self;
-        texts
+        HeldNames::of(alloc, self.names.as_slice())
     }
 }

@@ -13,7 +13,9 @@ mod body;
 mod class;
 mod found;
 mod header;
+mod held;
 mod items;
+mod marks;
 mod members;
 mod names;
 mod numbers;
@@ -21,4 +23,6 @@ mod twins;
 
 pub use class::ClassView;
 pub use desk_format::Member;
+pub use held::HeldNames;
+pub use marks::mark_of;
 pub use numbers::TextNumbers;

@@ -1,21 +1,20 @@
 //! The class names that texts hold.
 
-ghost use Rattle.std.specs.Prelude.{◌≡◌, ◌||◌, ◌⊎◌, ℕ, true, false, Some, OnOk, IfOk, slice_get};
+ghost use Rattle.std.specs.Prelude.{◌≡◌, ◌⊎◌, ℕ, true, false, Some, OnOk, IfOk, slice_get};
 ghost use Rattle.std.specs.List.Sorted.{IsStrictlySortedBy};
 ghost use Rattle.std.specs.Ordering.{nat_cmp};
 ghost use Rattle.std.specs.Cmp.Lexicographic.{slice_cmp};
-ghost use Rattle.desk_base.specs.Names.{Text as TextOf};
 ghost use Rattle.desk_base.specs.declared.kinds.Role.TheVariants as roles;
-ghost use Rattle.desk_names.specs.Pieces.{names_in};
+ghost use Rattle.desk_names.specs.Pieces.{AreCut, names_in};
 ghost use Rattle.desk_names.specs.SignatureScan.{wanted_signature};
-ghost use Rattle.desk_class.specs.Held.{has, is_held, descriptor_names, signature_names, names_of, held_by};
+ghost use Rattle.desk_class.specs.Formed.{IsFormed, AreFormed};
+ghost use Rattle.desk_class.specs.Held.{found_all, each_once, ascending, signature_names, names_of, held_by};
 
 use crate::found::FoundNames;
+use crate::held::HeldNames;
 use crate::numbers::text_at;
 use desk_base::{Memory, PoolView, Role, Text, TextList, Used};
-use desk_names::{
-    DescParts, Part, SigParts, Want, Which, read_descriptor, read_signature, split_class,
-};
+use desk_names::{DescParts, Part, SigParts, Which, cut_name, descriptor_parts, read_signature};
 use desk_pool::Pool;
 use std::alloc::Global;
 use std::collections::BTreeSet;
@@ -26,7 +25,8 @@ fn add_parts<'a>(
     names: &mut FoundNames<'a>,
     parts: DescParts<'a>,
 ) -> Result<(), Memory>
-    ensures { OnOk result ((q : TextOf) → is_held names.new q ≡ (is_held names.old q || is_held (names_in parts.entry) q)) }
+    requires { AreCut parts }
+    ensures { OnOk result (names.new ≡ found_all names.old (names_in parts.entry)) }
 {
     for part in parts {
         if let Part::Class(name) = part {
@@ -42,7 +42,8 @@ fn add_signature_parts<'a>(
     names: &mut FoundNames<'a>,
     parts: SigParts<'a>,
 ) -> Result<(), Memory>
-    ensures { OnOk result ((q : TextOf) → is_held names.new q ≡ (is_held names.old q || is_held (names_in parts.entry) q)) }
+    requires { AreCut parts }
+    ensures { OnOk result (names.new ≡ found_all names.old (names_in parts.entry)) }
 {
     for part in parts {
         if let Part::Class(name) = part {
@@ -52,38 +53,14 @@ fn add_signature_parts<'a>(
     Ok(())
 }
 
-/// Adds the class names of a descriptor.
-#[tactic(auto, using(crate::proofs::Sets::none_added))]
-fn add_descriptor<'a>(
-    alloc: Global,
-    names: &mut FoundNames<'a>,
-    text: &'a [u8],
-) -> Result<(), Memory>
-    ensures { OnOk result ((q : TextOf) → is_held names.new q ≡ (is_held names.old q || is_held (descriptor_names text.now) q)) }
-{
-    let (first, second) = if text.starts_with(b"(") {
-        (Want::Method, Want::Return)
-    } else {
-        (Want::Return, Want::Method)
-    };
-    if let Some(parts) = read_descriptor(text, first) {
-        return add_parts(alloc, names, parts);
-    }
-    if let Some(parts) = read_descriptor(text, second) {
-        return add_parts(alloc, names, parts);
-    }
-    Ok(())
-}
-
 /// Adds the class names of a signature.
-#[tactic(auto, using(crate::proofs::Sets::none_added))]
 fn add_signature<'a>(
     alloc: Global,
     names: &mut FoundNames<'a>,
     text: &'a [u8],
     which: Which,
 ) -> Result<(), Memory>
-    ensures { OnOk result ((q : TextOf) → is_held names.new q ≡ (is_held names.old q || is_held (signature_names (wanted_signature which) text.now) q)) }
+    ensures { OnOk result (names.new ≡ found_all names.old (signature_names (wanted_signature which) text.now)) }
 {
     match read_signature(text, which) {
         Some(parts) => add_signature_parts(alloc, names, parts),
@@ -91,27 +68,26 @@ fn add_signature<'a>(
     }
 }
 
-/// Adds the class names of a text that is used in a role.
-#[tactic(auto, using(crate::proofs::Sets::none_added), unfolding(crate::specs::Held::names_of))]
+/// Adds the class names of a text that is used in a role, in which it has its form.
+#[tactic(auto, unfolding(crate::specs::Held::names_of))]
 fn add_names<'a>(
     alloc: Global,
     names: &mut FoundNames<'a>,
     role: Role,
     text: &'a [u8],
 ) -> Result<(), Memory>
-    ensures { OnOk result ((q : TextOf) → is_held names.new q ≡ (is_held names.old q || is_held (names_of role text.now) q)) }
+    requires { IsFormed role text.now }
+    ensures { OnOk result (names.new ≡ found_all names.old (names_of role text.now)) }
 {
     match role {
         Role::Class => {
-            if let Some(name) = split_class(text) {
-                names.add(alloc, &name)
-            } else if text.starts_with(b"[") {
-                add_descriptor(alloc, names, text)
+            if text.starts_with(b"[") {
+                add_parts(alloc, names, descriptor_parts(text))
             } else {
-                Ok(())
+                names.add(alloc, &cut_name(text))
             }
         }
-        Role::Descriptor => add_descriptor(alloc, names, text),
+        Role::Descriptor => add_parts(alloc, names, descriptor_parts(text)),
         Role::ClassSig => add_signature(alloc, names, text, Which::Class),
         Role::MethodSig => add_signature(alloc, names, text, Which::Method),
         Role::FieldSig => add_signature(alloc, names, text, Which::Field),
@@ -144,22 +120,23 @@ fn is_looked_at(marks: &mut Vec<bool>, used: &Used) -> bool
     }
 }
 
-/// The class names of the texts that are used, each once.
-pub fn held_names(alloc: Global, pool: &Pool<'_>, uses: &[Used]) -> Result<BTreeSet<Text>, Memory>
-    ensures { IfOk result (λ names. (q : TextOf) → has names q ≡ is_held (held_by pool.now.entries uses.now) q) }
+/// The class names of the texts that are used, each once, in the order in which they first stand.
+pub fn held_names(alloc: Global, pool: &Pool<'_>, uses: &[Used]) -> Result<HeldNames, Memory>
+    requires { AreFormed pool.now.entries uses.now }
+    ensures { IfOk result (λ names. names ≡ each_once (held_by pool.now.entries uses.now)) }
 {
-    let mut names = FoundNames::new(alloc);
+    let mut names = FoundNames::new(alloc)?;
     let mut marks = vec![in alloc; false; pool.count() as usize]?;
     for used in uses {
         if is_looked_at(&mut marks, used) {
             add_names(alloc, &mut names, used.role, text_at(pool, used.index))?;
         }
     }
-    Ok(names.into_texts())
+    names.pack(alloc)
 }
 
 /// The names of a set, in byte order.
-pub fn list_of(alloc: Global, names: BTreeSet<Text>) -> Result<TextList, Memory>
+fn list_of(alloc: Global, names: BTreeSet<Text>) -> Result<TextList, Memory>
     ensures all { IfOk result (λ list. list ≡ names.keys) }
     ensures once { IfOk result (IsStrictlySortedBy (slice_cmp nat_cmp)) }
 {
@@ -168,4 +145,15 @@ pub fn list_of(alloc: Global, names: BTreeSet<Text>) -> Result<TextList, Memory>
         list.push(name)?;
     }
     Ok(list)
+}
+
+/// Names in byte order, each once.
+pub fn in_order(alloc: Global, names: &HeldNames) -> Result<TextList, Memory>
+    ensures { IfOk result (λ list. list ≡ ascending names.now) }
+{
+    let mut set = BTreeSet::new(alloc);
+    for place in 0..names.len() {
+        set.insert(Text::from_bytes(alloc, names.get(place))?)?;
+    }
+    list_of(alloc, set)
 }

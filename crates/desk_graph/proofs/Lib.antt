@@ -1,5 +1,4 @@
 pub mod Searched
-pub mod Packing
 pub mod Numbering
 pub mod Sets
 pub mod Orders

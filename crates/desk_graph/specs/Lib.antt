@@ -1,5 +1,4 @@
 pub mod Application
-pub mod Packed
 pub mod Scans
 pub mod Marks
 pub mod MarkOrder

@@ -10,7 +10,7 @@ ghost use Rattle.desk_graph.specs.declared.graph.GraphFault.TheVariants as graph
 
 use crate::clashes::first_clash;
 use crate::known::{Known, known_of};
-use crate::names::all_names;
+use crate::names::{all_names, held_in_order};
 use crate::nodes::{node_in, nodes_of};
 use crate::scanned::{Scanned, without_paths};
 use crate::search::place_in;
@@ -127,10 +127,11 @@ impl<'r> ClassGraph<'r> {
     {
         let known = self.known.as_slice();
         let nodes = self.nodes.as_slice();
-        let names = view.class_names(alloc)?;
+        let held = view.held_names(alloc)?;
+        let names = held_in_order(alloc, &held)?;
         let mut links = Vec::new(alloc);
         for name in names.as_slice() {
-            if let Some(place) = node_in(known, nodes, name.as_bytes()) {
+            if let Some(place) = node_in(known, nodes, name.bytes()) {
                 links.push(place)?;
             }
         }

@@ -4,7 +4,6 @@
 
 mod clashes;
 mod graph;
-mod held;
 mod known;
 mod marked;
 mod name;
@@ -15,5 +14,4 @@ mod search;
 mod stranded;
 
 pub use graph::{ClassGraph, GraphFault};
-pub use held::HeldNames;
 pub use scanned::{Scanned, scan};

@@ -5,25 +5,13 @@ ghost use Rattle.std.proofs.Common.{rules};
 ghost use Rattle.std.specs.Cmp.Rules.{comparing};
 ghost use Rattle.std.specs.Cmp.Lexicographic.{pointwise};
 ghost use Rattle.std.specs.Ordering.{as_partial_cmp};
-ghost use Rattle.desk_graph.specs.Marks.{mark, marked_cmp};
+ghost use Rattle.desk_graph.specs.Marks.{marked_cmp};
 ghost use Rattle.desk_graph.specs.MarkOrder.{marked_total, marked_partial, marked_ties};
 
 use crate::name::Name;
+use desk_class::mark_of;
 use std::cmp::Ordering;
 use std::marker::Model;
-
-/// The mark of a text.
-fn mark_of(text: &[u8]) -> u64
-    ensures { result ≡ mark text.now }
-{
-    let mut mark = 0u64;
-    for byte in text {
-        mark = mark
-            .wrapping_mul(1_099_511_628_211)
-            .wrapping_add(u64::from(*byte));
-    }
-    mark
-}
 
 /// A name with its mark. Names go by their marks, and by their bytes where these are equal: so a set of them compares few
 /// bytes, and no choice of names makes it slow. Contracts see the bytes.
@@ -35,7 +23,7 @@ pub struct Marked<'a> {
 
 impl<'a> Model for Marked<'a> {
     ghost use Rattle.std.specs.Prelude.{◌≡◌, ℕ, List};
-    ghost use Rattle.desk_graph.specs.Marks.{mark as mark_of};
+    ghost use Rattle.desk_class.specs.Marks.{mark as mark_of};
 
     ghost Value = { List ℕ };
 

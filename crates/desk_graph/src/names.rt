@@ -6,11 +6,11 @@ ghost use Rattle.desk_class.specs.Held.{put_all, ascending};
 ghost use Rattle.desk_graph.specs.Application.{defined_names, names_in, names};
 ghost use Rattle.desk_graph.specs.Tables.{texts, holds};
 
-use crate::held::HeldNames;
 use crate::marked::Marked;
 use crate::name::Name;
 use crate::scanned::Scanned;
 use desk_base::Memory;
+use desk_class::HeldNames;
 use std::alloc::Global;
 use std::collections::BTreeSet;
 
@@ -82,5 +82,14 @@ pub fn all_names<'a>(alloc: Global, classes: &'a [Scanned]) -> Result<Vec<Name<'
     for class in classes {
         put_class(&mut set, class)?;
     }
+    in_order(alloc, set)
+}
+
+/// The names that a class holds, in byte order, each once.
+pub fn held_in_order<'a>(alloc: Global, held: &'a HeldNames) -> Result<Vec<Name<'a>>, Memory>
+    ensures { IfOk result (λ list. list.items ≡ ascending held.now) }
+{
+    let mut set = BTreeSet::new(alloc);
+    put_held(&mut set, held)?;
     in_order(alloc, set)
 }

@@ -5,9 +5,8 @@ ghost use Rattle.desk_format.specs.Classes.{Class, read_class};
 ghost use Rattle.desk_graph.specs.Scans.{scan_of};
 ghost use Rattle.desk_graph.specs.Alike.{AreAlike};
 
-use crate::held::HeldNames;
 use desk_base::{Memory, Text};
-use desk_class::ClassView;
+use desk_class::{ClassView, HeldNames};
 use std::alloc::Global;
 
 /// A class of an application: where it stands, whether it is selected, its name, and the class names that it holds.
@@ -19,7 +18,8 @@ pub struct Scanned {
     pub held: HeldNames,
 }
 
-/// What is kept of the class at a path. It holds each class name once, in byte order. The only error is want of memory.
+/// What is kept of the class at a path. It holds each class name once, in the order in which
+/// they first stand in the class. The only error is want of memory.
 pub fn scan(
     alloc: Global,
     path: &Text,
@@ -30,8 +30,7 @@ pub fn scan(
 {
     let path = Text::from_bytes(alloc, path.as_bytes())?;
     let name = Text::from_bytes(alloc, view.name())?;
-    let names = view.class_names(alloc)?;
-    let held = HeldNames::of(alloc, names.as_slice())?;
+    let held = view.held_names(alloc)?;
     Ok(Scanned {
         path,
         selected,

@@ -17,10 +17,11 @@ use Rattle.desk_follow.proofs.Follow.{follow, own_held}
 use Rattle.desk_format.specs.Classes.{Class, read_class}
 use Rattle.desk_format.specs.Laws.{IsBytes}
 use Rattle.desk_format.specs.NewClass.{new_class}
-use Rattle.desk_class.specs.Held.{ascending}
+use Rattle.desk_class.specs.Held.{each_once}
 use Rattle.desk_graph.specs.Application.{defined_names, names, stranded, OneImage, NoneStranded}
 use Rattle.desk_graph.specs.declared.scanned.Scanned.{Scanned}
-use Rattle.desk_class.proofs.Ascending.{from_contains, to_contains, in_ascending, from_ascending}
+use Rattle.desk_class.proofs.Ascending.{from_contains, to_contains}
+use Rattle.desk_class.proofs.Once.{in_once, from_once}
 use Rattle.desk_graph.proofs.Laws.{one_image, none_stranded, no_clash, none_left}
 use Rattle.desk_follow.specs.RuleImages.{images_of}
 use Rattle.desk_paths.specs.declared.Kind.TheVariants as kinds
@@ -47,9 +48,9 @@ held_named : (rules : Rules) (files : List File) (file : File) (c : Class) (m : 
     → In (names (classes_of rules files)) m
 held_named rules files file c m there selected kind reads h =
     let s = scanned_class rules file.path c in
-    let held : In (cond true (ascending (held_names c)) []) m = in_ascending (held_names c) m h in
+    let held : In (cond true (each_once (held_names c)) []) m = in_once (held_names c) m h in
     names_there (classes_of rules files) (scanned_class rules file.path c) m (scanned_there rules files file c there kind reads)
-    (inr (subst (λ (b : Bool). In (cond b (ascending (held_names c)) []) m) (sym selected) held))
+    (inr (subst (λ (b : Bool). In (cond b (each_once (held_names c)) []) m) (sym selected) held))
 
 -- the new class of a selected class defines the image of its name
 selected_name : (rules : Rules) → IsRuleSet rules → (file : File) (image : Image) → IsBytes file.bytes → selects rules.selection file.path ≡ true → kind_of file.path ≡ kinds.Class → image_at rules file.path file.bytes ≡ Ok image
@@ -89,9 +90,9 @@ unselected_name : (rules : Rules) (files : List File) → NoneStranded (cls rule
 unselected_name rules files stays file c inside b other kind reads =
     let there : In (classes_of rules files) (scanned_class rules file.path c) = scanned_there rules files file c (from_contains files file inside) kind reads in
     let own_name : Contains (held_names c) (class_name c) = own_held (images_of rules) file.bytes c b reads in
-    let own_there : In (ascending (held_names c)) (class_name c) = in_ascending (held_names c) (class_name c) (from_contains (held_names c) (class_name c) own_name) in
+    let own_there : In (each_once (held_names c)) (class_name c) = in_once (held_names c) (class_name c) (from_contains (held_names c) (class_name c) own_name) in
     stays (scanned_class rules file.path c) (class_name c) (to_contains (classes_of rules files) (scanned_class rules file.path c) there) other
-    (to_contains (ascending (held_names c)) (class_name c) own_there)
+    (to_contains (each_once (held_names c)) (class_name c) own_there)
     (to_contains (defined_names (classes_of rules files)) (class_name c) (defined_there (classes_of rules files) (scanned_class rules file.path c) there))
 
 pub definitions : DefinitionsFollow
@@ -138,8 +139,8 @@ module _ (rules : Rules) (files images : List File) (is : IsRuleSet rules) (sour
       record {
         name = image_stays s.name (class_name n.class) name;
         held = λ e m k.
-            let there : In (ascending (held_names o.class)) m = subst (λ (x : Scanned). In x.held m) o.is k in
-            let inside : In (map (cls rules.renames) (held_names n.class)) m = subst (λ (ns : List Text). In ns m) (ap held_names same ∙ h.held) (from_ascending (held_names o.class) m there) in
+            let there : In (each_once (held_names o.class)) m = subst (λ (x : Scanned). In x.held m) o.is k in
+            let inside : In (map (cls rules.renames) (held_names n.class)) m = subst (λ (ns : List Text). In ns m) (ap held_names same ∙ h.held) (from_once (held_names o.class) m there) in
             let g : From (cls rules.renames) (held_names n.class) m = from_map (cls rules.renames) (held_names n.class) m inside in
             image_stays m g.x (sym g.is);
       }

@@ -1,5 +1,5 @@
 use desk_base::{FaultKind, Malformed, ReadFault, Role, Used};
-use desk_class::ClassView;
+use desk_class::{ClassView, HeldNames};
 use std::alloc::{AllocError, Global};
 use std::test::Fail;
 use worked_classes::servlet::{SERVLET, servlet_members, servlet_uses};
@@ -167,6 +167,32 @@ fn a_compiled_servlet_reads(rt: HostRuntime) -> Result<(), Fail> {
     for (place, name) in expected.iter().enumerate() {
         assert_eq!(rt; names.get(place).ok_or("no name")?.as_bytes(), *name);
     }
+    Ok(())
+}
+
+/// Whether held names are exactly these, in this order.
+fn are_held(held: &HeldNames, names: &[&[u8]]) -> bool {
+    held.len() == names.len()
+        && names.iter().enumerate().all(|(place, name)| place < held.len()
+            && held.get(place) == *name)
+}
+
+/// The names in the order in which `javap -v` shows the entries and descriptors that hold them: those of the constant pool by
+/// their numbers, then those of methods, and then that of the annotation.
+const HELD: &[&[u8]] = &[
+    b"javax/servlet/http/HttpServlet",
+    b"web/Hello",
+    b"javax/servlet/ServletException",
+    b"javax/servlet/http/HttpServletRequest",
+    b"javax/servlet/http/HttpServletResponse",
+    b"javax/servlet/annotation/WebServlet",
+];
+
+#[test]
+fn held_names_stand_once_in_the_order_of_the_class(rt: HostRuntime) -> Result<(), Fail> {
+    let class = read(rt.alloc(), &SERVLET).ok().ok_or("no class")?;
+    let held = Box::new(rt.alloc(), class.held_names(rt.alloc())?)?;
+    assert!(rt; are_held(&held, HELD));
     Ok(())
 }
 

@@ -1,9 +1,10 @@
 //! Graphs of made-up classes, and of one class that is read.
 
 use desk_base::{FILE_SIZE, Memory, Text};
-use desk_class::ClassView;
+use desk_class::{ClassView, HeldNames};
 use desk_fixtures::rule_set;
-use desk_graph::{ClassGraph, GraphFault, HeldNames, Scanned, scan};
+use desk_graph::{ClassGraph, GraphFault, Scanned, scan};
+use desk_names::cut_name;
 use desk_rename::Images;
 use desk_rules::RuleSet;
 use std::alloc::Global;
@@ -21,7 +22,7 @@ fn class(alloc: Global, row: &Row<'_>) -> Result<Scanned, Memory> {
     let (path, selected, name, names) = *row;
     let mut held = Vec::new(alloc);
     for other in names {
-        held.push(Text::from_bytes(alloc, other)?)?;
+        held.push(cut_name(other))?;
     }
     Ok(Scanned {
         path: Text::from_bytes(alloc, path)?,

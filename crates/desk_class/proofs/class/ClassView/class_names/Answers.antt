@@ -1,24 +1,13 @@
-use Rattle.std.proofs.Common.{◌≡◌, ◌↔◌, List, Result, Ok, Err, IfOk, sym, ap, subst, ◌∙◌, Contains}
-use Rattle.std.specs.List.Sorted.{IsStrictlySortedBy}
-use Rattle.std.specs.Ordering.{nat_cmp}
-use Rattle.std.specs.Cmp.Lexicographic.{slice_cmp}
+use Rattle.std.proofs.Common.{List, Result, Ok, Err, IfOk, ap, ◌≡◌, ◌∙◌}
 use Rattle.desk_base.specs.Names.{Text}
-use Rattle.desk_format.specs.Classes.{uses_in}
-use Rattle.desk_class.specs.Parts.{pool_in}
-use Rattle.desk_class.specs.Held.{held_in, ascending}
-use Rattle.desk_class.proofs.Ascending.{is_ascending}
-use Rattle.desk_class.proofs.Sets.{names_held}
+use Rattle.desk_class.specs.Held.{held_in, each_once, ascending}
+use Rattle.desk_class.proofs.Once.{once_ascending}
 use Rattle.desk_class.proofs.class.ClassView.class_names.Goals as goal
 
--- the names of a set, as they are listed
-listed : {E : Type 0} (r : Result (List Text) E) (keys ts : List Text) → IfOk r (λ l. l ≡ keys) → IfOk r (IsStrictlySortedBy (slice_cmp nat_cmp)) → ((q : Text) → Contains keys q ↔ Contains ts q) → IfOk r (λ l. l ≡ ascending ts)
-listed (Ok l) keys ts e once h = is_ascending l ts once (λ q. subst (λ (xs : List Text). Contains xs q ↔ Contains ts q) (sym e) (h q))
-listed (Err x) keys ts e once h = tt
+-- names in byte order, of names that stand once
+listed : {E : Type 0} (r : Result (List Text) E) (names ts : List Text) → IfOk r (λ list. list ≡ ascending names) → names ≡ each_once ts → IfOk r (λ list. list ≡ ascending ts)
+listed (Ok list) names ts e once = e ∙ ap ascending once ∙ once_ascending ts
+listed (Err x) names ts e once = tt
 
 pub returns : goal.returns
-returns c = record {
-  held =
-      listed c.list_of.result c.in_ok-names.names.keys (held_in c.args.self.now) c.list_of.ensures.all c.list_of.ensures.once
-      (names_held c.in_ok-names.names c.self.inside.pool.entries (pool_in c.args.self.now) c.deref.result.now (uses_in c.args.self.now) c.in_ok-names.ensures
-      (c.self.invariant.entries ∙ ap pool_in c.self.view_is) (c.deref.ensures.value ∙ c.self.invariant.texts ∙ ap uses_in c.self.view_is));
-}
+returns c = record { held = listed c.in_order.result c.in_ok-names.names (held_in c.args.self.now) c.in_order.ensures c.in_ok-names.ensures.held }

@@ -2,6 +2,7 @@ use Rattle.desk_base.specs.Spot.{Spot}
 use Rattle.std.proofs.Common.{rules, ◌≡◌, ap, sym, ◌∙◌, arith, List}
 use Rattle.std.proofs.lemmas.Result.{err_from_is_err_and}
 use Rattle.desk_format.specs.declared.members.Member.{Member}
+use Rattle.desk_format.specs.Laws.{IsBytes}
 use Rattle.desk_format.specs.Members.{first_twins, named_in}
 use Rattle.desk_class.specs.Scan.{scan_at}
 use Rattle.desk_class.specs.Parts.{version_of}
@@ -51,8 +52,9 @@ pub invariant_of-result : goal.invariant_of-result
 invariant_of-result c =
     let none = sym c.in_default.is ∙ c.in_ok-twin.ensures ∙ ap (λ (ms : List Member). second_of (first_twins (named_in c.in_ok-pool.pool.entries) ms)) c.deref.ensures.value in
     let eight : c.read_header.new.cursor.at ≡ 8 = omega (arith, ap (λ (s : Spot). s.at) c.new-cursor.ensures, c.in_ok-_version.ensures.moved) in
+    let bytes : IsBytes c.args.bytes.now = search rules in
     let copied : c.in_ok-uses.uses.items ≡ c.in_ok-pool.pool.uses = search rules in
     is_read c.args.bytes.now c.new-cursor.result (version_of c.in_ok-_version._version) c.read_header.new.cursor.at c.read_header.new.cursor.left c.new-cursor.ensures c.in_ok-_version.ensures.header
     c.in_ok-pool.pool c.read.new.cursor.at c.read.new.cursor.left c.in_ok-pool.ensures.pool c.in_ok-uses.uses.items c.new-members.result.items c.new-members.ensures.items
     (scan_at c.walk_body.new.uses.items c.walk_body.new.members.items c.walk_body.new.cursor) c.in_ok-this.ensures.scans (omega arith) none
-    (omega arith) eight c.in_ok-pool.ensures.uses copied c.at-body_at.result c.at-body_at.ensures.value c.in_ok-this.this c.in_ok-this.ensures.this c.name_of-name.result.now c.name_of-name.ensures
+    bytes (omega arith) eight c.in_ok-pool.ensures.uses copied c.at-body_at.result c.at-body_at.ensures.value c.in_ok-this.this c.in_ok-this.ensures.this c.name_of-name.result.now c.name_of-name.ensures

@@ -1,6 +1,6 @@
 use Rattle.std.proofs.Common.{◌≡◌, ◌∙◌, sym, ap, ℕ, ◌==◌, length, vec_len, arith}
-use Rattle.desk_graph.proofs.Packing.{cut_long}
-use Rattle.desk_graph.proofs.held.HeldNames.is_empty.Goals as goal
+use Rattle.desk_class.proofs.Packing.{cut_long}
+use Rattle.desk_class.proofs.held.HeldNames.is_empty.Goals as goal
 
 pub returns : goal.returns
 returns c =

@@ -1,9 +1,9 @@
 -- Texts that stand one behind the other in one block.
-use Rattle.std.proofs.Common.{◌≡◌, ℕ, zero, suc, ◌+◌, ◌-◌, ◌<◌, ◌≤◌, List, [], ◌∷◌, ◌++◌, length, take, drop, get_or, refl, sym, ap, ap₂, subst, ◌∙◌, append_assoc, arith}
+use Rattle.std.proofs.Common.{◌≡◌, ℕ, zero, suc, ◌+◌, ◌-◌, ◌<◌, ◌≤◌, List, [], ◌∷◌, ◌++◌, length, take, drop, get_or, refl, sym, ap, ap₂, subst, ◌∙◌, append_assoc, append-nil, map, arith}
 use Rattle.std.proofs.Math.Seq.{drop-append_seam, take-length, drop-cons}
-use Rattle.std.proofs.lemmas.List.{take-append-le, drop-append-le, length-append, length-drop, get_or_default}
+use Rattle.std.proofs.lemmas.List.{take-append-le, drop-append-le, length-append, length-drop, get_or_default, drop_all}
 use Rattle.desk_base.specs.Names.{Text}
-use Rattle.desk_graph.specs.Packed.{cut_at, AreEnds}
+use Rattle.desk_class.specs.Packed.{cut_at, AreEnds}
 
 -- no end passes the last
 pub ends_below : (from : ℕ) (ends : List ℕ) (count : ℕ) → AreEnds from ends count → from ≤ count
@@ -84,7 +84,7 @@ next : (i : ℕ) → i + 1 ≡ suc i
 next i = omega arith
 
 -- one more name
-pub packed_more : (names : List Text) (i : ℕ) (item bytes bytes' : Text) (ends ends' : List ℕ) → i < length names → item ≡ get_or names i item → bytes' ≡ bytes ++ item → ends' ≡ ends ++ length bytes' ∷ [] → Packing names i bytes ends
+packed_more : (names : List Text) (i : ℕ) (item bytes bytes' : Text) (ends ends' : List ℕ) → i < length names → item ≡ get_or names i item → bytes' ≡ bytes ++ item → ends' ≡ ends ++ length bytes' ∷ [] → Packing names i bytes ends
     → Packing names (i + 1) bytes' ends'
 packed_more names i item bytes bytes' ends ends' h at b e p =
     let cut : drop i names ≡ item ∷ drop (i + 1) names = drop-cons names i item h ∙ ap (λ (t : Text). t ∷ drop (suc i) names) (sym at) ∙ ap (λ (n : ℕ). item ∷ drop n names) (sym (next i)) in
@@ -97,3 +97,23 @@ packed_more names i item bytes bytes' ends ends' h at b e p =
           ∙ ap (λ (ts : List Text). cut_at bytes 0 ends ++ ts) (sym cut)
           ∙ p.texts;
     }
+
+get_map : {A : Type 0} (f : A → Text) (xs : List A) (i : ℕ) (d : A) (y : Text) → i < length xs → f (get_or xs i d) ≡ get_or (map f xs) i y
+get_map f [] i d y h = absurd (omega arith)
+get_map f (x ∷ xs) zero d y h = refl
+get_map f (x ∷ xs) (suc i) d y h = get_map f xs i d y (omega arith)
+
+length_map : {A : Type 0} (f : A → Text) (xs : List A) → length (map f xs) ≡ length xs
+length_map f [] = refl
+length_map f (x ∷ xs) = ap suc (length_map f xs)
+
+-- one more name, of those that are written out
+pub spelled_more : {A : Type 0} (f : A → Text) (xs : List A) (i : ℕ) (d : A) (bytes bytes' : Text) (ends ends' : List ℕ) → i < length xs → bytes' ≡ bytes ++ f (get_or xs i d) → ends' ≡ ends ++ length bytes' ∷ [] → Packing (map f xs) i bytes ends
+    → Packing (map f xs) (i + 1) bytes' ends'
+spelled_more f xs i d bytes bytes' ends ends' h b e p =
+    packed_more (map f xs) i (f (get_or xs i d)) bytes bytes' ends ends' (omega (arith, length_map f xs)) (get_map f xs i d (f (get_or xs i d)) h) b e p
+
+-- after all of them
+pub packed_all : {A : Type 0} (f : A → Text) (xs : List A) (i : ℕ) (bytes : Text) (ends : List ℕ) → length xs ≤ i → Packing (map f xs) i bytes ends → cut_at bytes 0 ends ≡ map f xs
+packed_all f xs i bytes ends h p =
+    sym (append-nil (cut_at bytes 0 ends)) ∙ ap (λ (ts : List Text). cut_at bytes 0 ends ++ ts) (sym (drop_all i (map f xs) (omega (arith, length_map f xs)))) ∙ p.texts

@@ -1,6 +1,6 @@
 use Rattle.std.proofs.Common.{◌≡◌, ◌∙◌, sym, ap, length, arith}
-use Rattle.desk_graph.proofs.Packing.{cut_long}
-use Rattle.desk_graph.proofs.held.HeldNames.len.Goals as goal
+use Rattle.desk_class.proofs.Packing.{cut_long}
+use Rattle.desk_class.proofs.held.HeldNames.len.Goals as goal
 
 pub returns : goal.returns
 returns c =

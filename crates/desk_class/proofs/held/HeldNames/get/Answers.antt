@@ -1,9 +1,9 @@
 use Rattle.std.proofs.Common.{◌≡◌, ◌∙◌, sym, ap, List, [], length, get_or, take, drop, ◌-◌, ◌<◌, arith}
 use Rattle.desk_base.specs.Names.{Text}
 use Rattle.std.proofs.lemmas.List.{get_or_default}
-use Rattle.desk_graph.proofs.Packing.{cut_long, Cut, cut, first_start, next_start}
-use Rattle.desk_graph.proofs.held.HeldNames.get.Goals as goal
-use Rattle.desk_graph.proofs.held.HeldNames.get.Goals.{then-place-eq0, else-place-eq0}
+use Rattle.desk_class.proofs.Packing.{cut_long, Cut, cut, first_start, next_start}
+use Rattle.desk_class.proofs.held.HeldNames.get.Goals as goal
+use Rattle.desk_class.proofs.held.HeldNames.get.Goals.{then-place-eq0, else-place-eq0}
 
 pub index-requires : goal.index-requires
 index-requires c =

@@ -1,12 +1,14 @@
 //! The class names that a class holds, packed.
 
-ghost use Rattle.std.specs.Prelude.{◌≡◌, ◌<◌, ◌==◌, [], length, slice_index_or, IfOk};
+ghost use Rattle.std.specs.Prelude.{◌≡◌, ◌<◌, ◌==◌, [], ◌++◌, length, map, slice_index_or, OnOk, IfOk};
+ghost use Rattle.desk_class.specs.Found.{spelled};
 
-use desk_base::{Memory, Text};
+use desk_base::Memory;
+use desk_names::ClassName;
 use std::alloc::Global;
 use std::marker::Model;
 
-/// Class names, one behind the other in one block, without spare room. Contracts see the list of names.
+/// Class names, one behind the other in one block. Contracts see the list of names.
 #[derive(Debug, Drop)]
 pub struct HeldNames {
     bytes: Vec<u8>,
@@ -15,7 +17,7 @@ pub struct HeldNames {
 
 impl Model for HeldNames {
     ghost use Rattle.std.specs.Prelude.{ℕ, List, length};
-    ghost use Rattle.desk_graph.specs.Packed.{cut_at, AreEnds};
+    ghost use Rattle.desk_class.specs.Packed.{cut_at, AreEnds};
 
     ghost Value = { List (List ℕ) };
 
@@ -24,24 +26,39 @@ impl Model for HeldNames {
     ghost invariant = { λ h. AreEnds 0 h.ends.items (length h.bytes.items) };
 }
 
-/// How many bytes texts have together; 2^64 - 1 where they are more.
-fn bytes_of(texts: &[Text]) -> usize {
+/// How many bytes class names have together, or a few more; 2^64 - 1 where they are more.
+fn room_for(names: &[ClassName<'_>]) -> usize {
     let mut count = 0usize;
-    for text in texts {
-        count = count.saturating_add(text.as_bytes().len());
+    for name in names {
+        count = count
+            .saturating_add(name.package.len())
+            .saturating_add(name.simple.len())
+            .saturating_add(1);
     }
     count
 }
 
+/// Puts a class name behind a text. The only error is want of memory.
+fn append_name(bytes: &mut Vec<u8>, name: &ClassName<'_>) -> Result<(), Memory>
+    ensures { OnOk result (bytes.new.items ≡ bytes.old.items ++ spelled name.now) }
+{
+    if !name.package.is_empty() {
+        bytes.extend_from_slice(name.package)?;
+        bytes.push(b'/')?;
+    }
+    bytes.extend_from_slice(name.simple)?;
+    Ok(())
+}
+
 impl HeldNames {
     /// These names, copied. The only error is want of memory, as which 4 GiB of names count.
-    pub fn of(alloc: Global, names: &[Text]) -> Result<HeldNames, Memory>
-        ensures { IfOk result (λ held. held ≡ names.now) }
+    pub fn of(alloc: Global, names: &[ClassName<'_>]) -> Result<HeldNames, Memory>
+        ensures { IfOk result (λ held. held ≡ map spelled names.now) }
     {
-        let mut bytes = Vec::with_capacity(alloc, bytes_of(names))?;
+        let mut bytes = Vec::with_capacity(alloc, room_for(names))?;
         let mut ends = Vec::with_capacity(alloc, names.len())?;
         for name in names {
-            bytes.extend_from_slice(name.as_bytes())?;
+            append_name(&mut bytes, name)?;
             let end = bytes.len();
             if end > 4_294_967_295 {
                 return Err(Memory);
