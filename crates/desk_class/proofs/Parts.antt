@@ -1,5 +1,5 @@
 -- The parts of class names that were found.
-use Rattle.std.proofs.Common.{◌≡◌, ℕ, Bool, true, false, cond, not, ◌||◌, List, [], ◌∷◌, ◌++◌, refl, sym, ap, ap₂, subst, ◌∙◌, Result, Ok, Err, is_ok, is_err, map, if◌then◌else◌}
+use Rattle.std.proofs.Common.{◌≡◌, ℕ, Bool, true, false, cond, not, ◌||◌, List, [], ◌∷◌, ◌++◌, refl, sym, ap, ap₂, subst, ◌∙◌, map}
 use Rattle.std.specs.List.{list_any}
 use Rattle.std.specs.declared.cmp.Ordering.{Ordering}
 use Rattle.std.specs.declared.cmp.Ordering.TheVariants.{Less, Equal, Greater}
@@ -99,14 +99,14 @@ map_push : (xs : List ClassName) (x : ClassName) → map spelled (xs ++ x ∷ []
 map_push [] x = refl
 map_push (y ∷ xs) x = ap (λ (ts : List Text). spelled y ∷ ts) (map_push xs x)
 
-pub found_more : {T E : Type 0} (r : Result T E) (xs xs' : List ClassName) (x : ClassName) (j : Parts) (s n : BTreeSet Parts) → is_err r ≡ false → xs' ≡ (if is_ok r then xs ++ x ∷ [] else xs) → spelled x ≡ named j → AreParts j → Updates parts_order s n j true → AreFound (map spelled xs) s
-    → AreFound (map spelled xs') n
-found_more (Ok v) xs xs' x j s n ok more same p u h =
-    subst (λ (ns : List Text). AreFound ns n) (sym (ap (map spelled) more ∙ map_push xs x ∙ ap (λ (t : Text). map spelled xs ++ t ∷ []) same)) (parts_added (map spelled xs) j s n p u h)
-found_more (Err v) xs xs' x j s n ok more same p u h = absurd cc
+put : (xs ys zs : List ClassName) (x : ClassName) → ys ≡ xs → zs ≡ ys ++ x ∷ [] → map spelled zs ≡ map spelled xs ++ spelled x ∷ []
+put xs ys zs x same more = ap (map spelled) more ∙ ap (λ (us : List ClassName). map spelled (us ++ x ∷ [])) same ∙ map_push xs x
 
-pub name_put : {T E : Type 0} (r : Result T E) (xs xs' : List ClassName) (x : ClassName) (self : List Text) (j : Parts) (s : BTreeSet Parts) → is_err r ≡ false → xs' ≡ (if is_ok r then xs ++ x ∷ [] else xs) → spelled x ≡ named j → map spelled xs ≡ self → AreParts j
-    → true ≡ not (contains parts_order s j) → AreFound (map spelled xs) s → map spelled xs' ≡ found_all self (named j ∷ [])
-name_put (Ok v) xs xs' x self j s ok more same view p e h =
-    ap (map spelled) more ∙ map_push xs x ∙ ap (λ (t : Text). map spelled xs ++ t ∷ []) same ∙ name_new (map spelled xs) j s p h e ∙ ap (λ (ns : List Text). found_all ns (named j ∷ [])) view
-name_put (Err v) xs xs' x self j s ok more same view p e h = absurd cc
+pub found_more : (xs ys zs : List ClassName) (x : ClassName) (j : Parts) (s n : BTreeSet Parts) → ys ≡ xs → zs ≡ ys ++ x ∷ [] → spelled x ≡ named j → AreParts j → Updates parts_order s n j true → AreFound (map spelled xs) s → AreFound (map spelled zs) n
+found_more xs ys zs x j s n same more is p u h =
+    subst (λ (ns : List Text). AreFound ns n) (sym (put xs ys zs x same more ∙ ap (λ (t : Text). map spelled xs ++ t ∷ []) is)) (parts_added (map spelled xs) j s n p u h)
+
+pub name_put : (xs ys zs : List ClassName) (x : ClassName) (self : List Text) (j : Parts) (s : BTreeSet Parts) → ys ≡ xs → zs ≡ ys ++ x ∷ [] → spelled x ≡ named j → map spelled xs ≡ self → AreParts j → true ≡ not (contains parts_order s j) → AreFound (map spelled xs) s
+    → map spelled zs ≡ found_all self (named j ∷ [])
+name_put xs ys zs x self j s same more is view p e h =
+    put xs ys zs x same more ∙ ap (λ (t : Text). map spelled xs ++ t ∷ []) is ∙ name_new (map spelled xs) j s p h e ∙ ap (λ (ns : List Text). found_all ns (named j ∷ [])) view

@@ -1,6 +1,6 @@
 //! Class names that were found, each once.
 
-ghost use Rattle.std.specs.Prelude.{◌≡◌, [], ◌∷◌, OnOk, IfOk};
+ghost use Rattle.std.specs.Prelude.{◌≡◌, [], ◌∷◌, OnOk, OnErr, IfOk};
 ghost use Rattle.desk_names.specs.ClassNames.{class_name};
 ghost use Rattle.desk_names.specs.Pieces.{IsCut};
 ghost use Rattle.desk_class.specs.Held.{found_all};
@@ -47,19 +47,17 @@ impl<'a> FoundNames<'a> {
         })
     }
 
-    /// Adds a name, which is cut at its last `/`. The only error is want of memory, behind which no name is here.
-    pub fn add(&mut self, alloc: Global, name: &ClassName<'a>) -> Result<(), Memory>
+    /// Adds a name, which is cut at its last `/`: another cut of the same name would count as another name. The only error is
+    /// want of memory; the names are those of before then.
+    pub fn add(&mut self, name: &ClassName<'a>) -> Result<(), Memory>
         requires { IsCut name.now.package.now name.now.simple.now }
-        ensures { OnOk result (self.new ≡ found_all self.old (class_name name.now.package.now name.now.simple.now ∷ [])) }
+        ensures ok { OnOk result (self.new ≡ found_all self.old (class_name name.now.package.now name.now.simple.now ∷ [])) }
+        ensures err { OnErr result (self.new ≡ self.old) }
     {
+        self.names.reserve(1)?;
         let parts = (mark_of(name.simple), name.simple, name.package);
-        let new = self.parts.insert(parts)?;
-        if new {
-            if self.names.push(*name).is_err() {
-                self.parts = BTreeSet::new(alloc);
-                self.names.clear();
-                return Err(Memory);
-            }
+        if self.parts.insert(parts)? {
+            self.names.push(*name)?;
         }
         Ok(())
     }

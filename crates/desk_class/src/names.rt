@@ -20,77 +20,59 @@ use std::alloc::Global;
 use std::collections::BTreeSet;
 
 /// Adds the class names among the parts of a descriptor.
-fn add_parts<'a>(
-    alloc: Global,
-    names: &mut FoundNames<'a>,
-    parts: DescParts<'a>,
-) -> Result<(), Memory>
+fn add_parts<'a>(names: &mut FoundNames<'a>, parts: DescParts<'a>) -> Result<(), Memory>
     requires { AreCut parts }
     ensures { OnOk result (names.new ≡ found_all names.old (names_in parts.entry)) }
 {
     for part in parts {
         if let Part::Class(name) = part {
-            names.add(alloc, &name)?;
+            names.add(&name)?;
         }
     }
     Ok(())
 }
 
 /// Adds the class names among the parts of a signature.
-fn add_signature_parts<'a>(
-    alloc: Global,
-    names: &mut FoundNames<'a>,
-    parts: SigParts<'a>,
-) -> Result<(), Memory>
+fn add_signature_parts<'a>(names: &mut FoundNames<'a>, parts: SigParts<'a>) -> Result<(), Memory>
     requires { AreCut parts }
     ensures { OnOk result (names.new ≡ found_all names.old (names_in parts.entry)) }
 {
     for part in parts {
         if let Part::Class(name) = part {
-            names.add(alloc, &name)?;
+            names.add(&name)?;
         }
     }
     Ok(())
 }
 
 /// Adds the class names of a signature.
-fn add_signature<'a>(
-    alloc: Global,
-    names: &mut FoundNames<'a>,
-    text: &'a [u8],
-    which: Which,
-) -> Result<(), Memory>
+fn add_signature<'a>(names: &mut FoundNames<'a>, text: &'a [u8], which: Which) -> Result<(), Memory>
     ensures { OnOk result (names.new ≡ found_all names.old (signature_names (wanted_signature which) text.now)) }
 {
     match read_signature(text, which) {
-        Some(parts) => add_signature_parts(alloc, names, parts),
+        Some(parts) => add_signature_parts(names, parts),
         None => Ok(()),
     }
 }
 
 /// Adds the class names of a text that is used in a role, in which it has its form.
 #[tactic(auto, unfolding(crate::specs::Held::names_of))]
-fn add_names<'a>(
-    alloc: Global,
-    names: &mut FoundNames<'a>,
-    role: Role,
-    text: &'a [u8],
-) -> Result<(), Memory>
+fn add_names<'a>(names: &mut FoundNames<'a>, role: Role, text: &'a [u8]) -> Result<(), Memory>
     requires { IsFormed role text.now }
     ensures { OnOk result (names.new ≡ found_all names.old (names_of role text.now)) }
 {
     match role {
         Role::Class => {
             if text.starts_with(b"[") {
-                add_parts(alloc, names, descriptor_parts(text))
+                add_parts(names, descriptor_parts(text))
             } else {
-                names.add(alloc, &cut_name(text))
+                names.add(&cut_name(text))
             }
         }
-        Role::Descriptor => add_parts(alloc, names, descriptor_parts(text)),
-        Role::ClassSig => add_signature(alloc, names, text, Which::Class),
-        Role::MethodSig => add_signature(alloc, names, text, Which::Method),
-        Role::FieldSig => add_signature(alloc, names, text, Which::Field),
+        Role::Descriptor => add_parts(names, descriptor_parts(text)),
+        Role::ClassSig => add_signature(names, text, Which::Class),
+        Role::MethodSig => add_signature(names, text, Which::Method),
+        Role::FieldSig => add_signature(names, text, Which::Field),
         Role::Package | Role::Module | Role::Str | Role::Plain | Role::AttrName => Ok(()),
     }
 }
@@ -129,7 +111,7 @@ pub fn held_names(alloc: Global, pool: &Pool<'_>, uses: &[Used]) -> Result<HeldN
     let mut marks = vec![in alloc; false; pool.count() as usize]?;
     for used in uses {
         if is_looked_at(&mut marks, used) {
-            add_names(alloc, &mut names, used.role, text_at(pool, used.index))?;
+            add_names(&mut names, used.role, text_at(pool, used.index))?;
         }
     }
     names.pack(alloc)

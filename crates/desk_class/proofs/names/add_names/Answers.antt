@@ -71,7 +71,7 @@ returns-else-starts_with c =
     (ap (λ (t : Text). t ∷ []) (cut_is c.args.text.now c.cut_name.result.package.now c.cut_name.result.simple.now named c.cut_name.ensures.package c.cut_name.ensures.simple)
     ∙ sym (class_named c.args.text.now named)
     ∙ ap (λ (r : Role). names_of r c.args.text.now) (sym c.in-Class.is))
-    c.add.ensures
+    c.add.ensures.ok
 
 pub returns-in-Descriptor : goal.returns-in-Descriptor
 returns-in-Descriptor c =

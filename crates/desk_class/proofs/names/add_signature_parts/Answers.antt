@@ -16,7 +16,7 @@ add-requires c =
 pub loop-part-preserved-in-Continue-1 : goal.loop-part-preserved-in-Continue-1
 loop-part-preserved-in-Continue-1 c =
     adding_class c.args.names.now c.loop-part.names c.add.new.self c.into_iter-part-iterator.result c.next.new.self c.loop-part.part-iterator c.in-Class.name.package.now c.in-Class.name.simple.now
-    (c.in-Some.ensures.steps ∙ ap (λ (p : Part). piece_of p ∷ c.next.new.self) c.in-Class.is) c.in_ok-add.ensures c.loop-part.invariant
+    (c.in-Some.ensures.steps ∙ ap (λ (p : Part). piece_of p ∷ c.next.new.self) c.in-Class.is) c.in_ok-add.ensures.ok c.loop-part.invariant
 
 pub loop-part-preserved : goal.loop-part-preserved
 loop-part-preserved c =

@@ -6,20 +6,21 @@ use Rattle.desk_class.specs.Held.{found_all}
 use Rattle.desk_class.proofs.Parts.{found_more, name_put, name_there}
 use Rattle.desk_class.proofs.found.FoundNames.add.Goals as goal
 
-pub invariant_of-self-else-is_err : goal.invariant_of-self-else-is_err
-invariant_of-self-else-is_err c =
+pub invariant_of-self-in-Continue-branch-3 : goal.invariant_of-self-in-Continue-branch-3
+invariant_of-self-in-Continue-branch-3 c =
     let parts : Parts = (c.mark_of.result, c.args.name.now.simple, c.args.name.now.package) in
-    found_more c.push.result c.self.inside.names.items c.push.new.self.items c.args.name.now parts c.self.inside.parts c.insert.new.self (sym c.is_err.ensures.value ∙ c.if-is_err.false) c.push.ensures.items refl
-    (record { marked = c.mark_of.ensures; cut = c.requires }) c.in_ok-new.ensures.updates c.self.invariant
+    found_more c.self.inside.names.items c.reserve.new.self.items c.push.new.self.items c.args.name.now parts c.self.inside.parts c.insert.new.self c.in_ok-reserve.ensures.items c.in_ok-push.ensures.items refl
+    (record { marked = c.mark_of.ensures; cut = c.requires }) c.in_ok-insert.ensures.updates c.self.invariant
 
-pub returns-else-is_err : goal.returns-else-is_err
-returns-else-is_err c =
+pub returns-in_ok-push-clause-ok : goal.returns-in_ok-push-clause-ok
+returns-in_ok-push-clause-ok c =
     let parts : Parts = (c.mark_of.result, c.args.name.now.simple, c.args.name.now.package) in
-    name_put c.push.result c.self.inside.names.items c.push.new.self.items c.args.name.now c.args.self.now parts c.self.inside.parts (sym c.is_err.ensures.value ∙ c.if-is_err.false) c.push.ensures.items refl c.self.view_is
-    (record { marked = c.mark_of.ensures; cut = c.requires }) (sym c.if-new.true ∙ c.in_ok-new.ensures.added) c.self.invariant
+    name_put c.self.inside.names.items c.reserve.new.self.items c.push.new.self.items c.args.name.now c.args.self.now parts c.self.inside.parts c.in_ok-reserve.ensures.items c.in_ok-push.ensures.items refl c.self.view_is
+    (record { marked = c.mark_of.ensures; cut = c.requires }) (sym c.if-branch.true ∙ c.in_ok-insert.ensures.added) c.self.invariant
 
-pub returns-else-new : goal.returns-else-new
-returns-else-new c =
+pub returns-else-branch-clause-ok : goal.returns-else-branch-clause-ok
+returns-else-branch-clause-ok c =
     let parts : Parts = (c.mark_of.result, c.args.name.now.simple, c.args.name.now.package) in
-    name_there (map spelled c.self.inside.names.items) parts c.self.inside.parts (record { marked = c.mark_of.ensures; cut = c.requires }) c.self.invariant (sym c.if-new.false ∙ c.in_ok-new.ensures.added)
+    ap (map spelled) c.in_ok-reserve.ensures.items
+    ∙ name_there (map spelled c.self.inside.names.items) parts c.self.inside.parts (record { marked = c.mark_of.ensures; cut = c.requires }) c.self.invariant (sym c.if-branch.false ∙ c.in_ok-insert.ensures.added)
     ∙ ap (λ (ns : List Text). found_all ns (class_name c.args.name.now.package.now c.args.name.now.simple.now ∷ [])) c.self.view_is
