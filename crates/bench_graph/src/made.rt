@@ -3,7 +3,6 @@
 use desk_base::{Memory, Text, TextList};
 use desk_class::HeldNames;
 use desk_graph::Scanned;
-use desk_names::cut_name;
 use std::alloc::Global;
 
 /// How many names a class holds beside its own.
@@ -31,11 +30,11 @@ fn name_of(alloc: Global, front: &[u8], number: u32) -> Result<Text, Memory> {
 
 /// Names as a scan packs them.
 fn packed(alloc: Global, names: &[Text]) -> Result<HeldNames, Memory> {
-    let mut cut = Vec::with_capacity(alloc, names.len())?;
+    let mut texts = Vec::with_capacity(alloc, names.len())?;
     for name in names {
-        cut.push(cut_name(name.as_bytes()))?;
+        texts.push(name.as_bytes())?;
     }
-    HeldNames::of(alloc, cut.as_slice())
+    HeldNames::of(alloc, texts.as_slice())
 }
 
 /// The class of a number among so many: of the names that it holds three are of the rename, three of libraries that no class

@@ -195,14 +195,20 @@ pub descriptor_named : (t : Text) → IsFormed roles.Descriptor t → names_of r
 unfolding names_of IsFormed
 descriptor_named t h = ap (λ (b : Bool). if b then names_in (pieces t) else []) h
 
+-- an array is a descriptor, and no class name
+no_name : (t : Text) → begins_array t ≡ true → is_class_name t ≡ false
+no_name t array = false_from_ne_true (is_class_name t) (λ e. both_ways (begins_array t) (no_array t e) array)
+
+pub array_field : (t : Text) → begins_array t ≡ true → IsFormed roles.Class t → is_descriptor DescriptorKind.field t ≡ true
+unfolding IsFormed has_form
+array_field t array h = (and_parts (begins_array t) (is_descriptor DescriptorKind.field t) (sym (ap (λ (b : Bool). b || (begins_array t && is_descriptor DescriptorKind.field t)) (no_name t array)) ∙ h)).1
+
 pub array_named : (t : Text) → begins_array t ≡ true → IsFormed roles.Class t → names_of roles.Class t ≡ names_in (pieces t)
-unfolding names_of IsFormed has_form
+unfolding names_of
 array_named t array h =
-    let other : is_class_name t ≡ false = false_from_ne_true (is_class_name t) (λ e. both_ways (begins_array t) (no_array t e) array) in
-    let field : is_descriptor DescriptorKind.field t ≡ true = (and_parts (begins_array t) (is_descriptor DescriptorKind.field t) (sym (ap (λ (b : Bool). b || (begins_array t && is_descriptor DescriptorKind.field t)) other) ∙ h)).1 in
-    ap (λ (b : Bool). if b then t ∷ [] else if begins_array t then descriptor_names t else []) other
+    ap (λ (b : Bool). if b then t ∷ [] else if begins_array t then descriptor_names t else []) (no_name t array)
     ∙ ap (λ (b : Bool). if b then descriptor_names t else []) array
-    ∙ ap (λ (b : Bool). if b then names_in (pieces t) else []) (field_formed t field)
+    ∙ ap (λ (b : Bool). if b then names_in (pieces t) else []) (field_formed t (array_field t array h))
 
 pub is_named : (t : Text) → begins_array t ≡ false → IsFormed roles.Class t → is_class_name t ≡ true
 unfolding IsFormed has_form

@@ -13,4 +13,6 @@ mod Sets
 mod Wholes
 mod Views
 mod Numbering
-mod Parts
+mod Marked
+mod Standing
+mod Whole

@@ -98,12 +98,12 @@ packed_more names i item bytes bytes' ends ends' h at b e p =
           ∙ p.texts;
     }
 
-get_map : {A : Type 0} (f : A → Text) (xs : List A) (i : ℕ) (d : A) (y : Text) → i < length xs → f (get_or xs i d) ≡ get_or (map f xs) i y
+pub get_map : {A : Type 0} (f : A → Text) (xs : List A) (i : ℕ) (d : A) (y : Text) → i < length xs → f (get_or xs i d) ≡ get_or (map f xs) i y
 get_map f [] i d y h = absurd (omega arith)
 get_map f (x ∷ xs) zero d y h = refl
 get_map f (x ∷ xs) (suc i) d y h = get_map f xs i d y (omega arith)
 
-length_map : {A : Type 0} (f : A → Text) (xs : List A) → length (map f xs) ≡ length xs
+pub length_map : {A : Type 0} (f : A → Text) (xs : List A) → length (map f xs) ≡ length xs
 length_map f [] = refl
 length_map f (x ∷ xs) = ap suc (length_map f xs)
 

@@ -1,17 +1,19 @@
 -- Names that are added, one after the other.
-use Rattle.std.proofs.Common.{◌≡◌, ℕ, ◌+◌, ◌<◌, ◌≤◌, length, drop, get_or, drop-cons, add-one, Bool, true, false, ◌||◌, List, [], ◌∷◌, ◌++◌, refl, sym, ap, ap₂, subst, ◌∙◌, ◌⊎◌, inl, inr, Some, slice_get}
+use Rattle.std.proofs.Common.{◌≡◌, ℕ, ◌+◌, ◌<◌, ◌≤◌, length, take, drop, get_or, Option, arith, drop-cons, add-one, Bool, true, false, ◌||◌, List, [], ◌∷◌, ◌++◌, refl, sym, ap, ap₂, subst, ◌∙◌, ◌⊎◌, inl, inr, Some, slice_get}
 use Rattle.std.specs.Ordering.{nat_cmp, eq_by_cmp}
 use Rattle.std.specs.Cmp.Lexicographic.{slice_cmp}
-use Rattle.std.proofs.lemmas.List.{drop_all}
+use Rattle.std.proofs.lemmas.List.{drop_all, length-append, take-append-le}
+use Rattle.std.proofs.Math.Seq.{drop-append_seam, take-length}
 use Rattle.desk_base.specs.Names.{Text}
 use Rattle.desk_base.specs.declared.kinds.Role.{Role}
-use Rattle.desk_base.specs.declared.kinds.Role.TheVariants as roles
+use Rattle.desk_base.specs.Descriptors.{as_is}
 use Rattle.desk_base.specs.declared.kinds.Used.{Used}
 use Rattle.desk_base.specs.Entries.{Pool, text_at}
 use Rattle.desk_names.specs.ClassNames.{class_name}
-use Rattle.desk_names.specs.Pieces.{Piece, names_in, IsCut, AreCut}
+use Rattle.desk_names.specs.Pieces.{Piece, names_in, joined}
 use Rattle.desk_packages.proofs.Picks.{In}
-use Rattle.desk_class.specs.Held.{is_held, found_all, each_once, descriptor_names, names_of, held_by}
+use Rattle.desk_class.specs.Held.{is_held, found_all, each_once, names_of, held_by}
+use Rattle.desk_class.specs.Noted.{Notes, HoldsNone}
 use Rattle.desk_class.proofs.Once.{found_append, found_old, found_in, absorbed}
 
 pub or-false : (x : Bool) → (x || false) ≡ x
@@ -28,32 +30,51 @@ is_held-append (x ∷ xs) ys q = ap (λ (b : Bool). eq_by_cmp (slice_cmp nat_cmp
 
 -- ---- parts, one after the other
 
--- what was added, and what is to come
-pub record Adding (s : List Text) (ps : List Piece) (n : List Text) (rest : List Piece) : Type 0 where
+-- what was added, and what is to come, which is what is left of the text
+pub record Adding (s : List Text) (ps : List Piece) (n : List Text) (rest : List Piece) (left : Text) : Type 0 where
   pub added : found_all n (names_in rest) ≡ found_all s (names_in ps)
-  pub cut : AreCut rest
+  pub text : joined as_is rest ≡ left
 
-pub adding_none : (s : List Text) (ps : List Piece) → AreCut ps → Adding s ps s ps
-adding_none s ps cut = record { added = refl; cut = cut }
+pub adding_none : (s : List Text) (ps : List Piece) (text : Text) → joined as_is ps ≡ text → Adding s ps s ps text
+adding_none s ps text e = record { added = refl; text = e }
 
-pub adding_other : (s n : List Text) (ps rest all : List Piece) (t : Text) → all ≡ Piece.other t ∷ rest → Adding s ps n all → Adding s ps n rest
-unfolding names_in AreCut
-adding_other s n ps rest all t e h = let h' : Adding s ps n (Piece.other t ∷ rest) = subst (Adding s ps n) e h in record { added = h'.added; cut = h'.cut }
+-- what stands in front of the text that is left, by the part in front
+pub record Front (t left : Text) : Type 0 where
+  pub within : length t ≤ length left
+  pub is : take (length t) left ≡ t
 
--- the class name in front is cut at its last `/`
-pub adding_cut : (s n : List Text) (ps rest all : List Piece) (before last : Text) → all ≡ Piece.class before last ∷ rest → Adding s ps n all → IsCut before last
-unfolding AreCut
-adding_cut s n ps rest all before last e h = let h' : Adding s ps n (Piece.class before last ∷ rest) = subst (Adding s ps n) e h in h'.cut.0
+front_of : (t more left : Text) → t ++ more ≡ left → Front t left
+front_of t more left e = record {
+  within = omega (arith, ap length e, length-append t more);
+  is = ap (take (length t)) (sym e) ∙ take-append-le (length t) t more (omega arith) ∙ take-length t;
+}
 
-pub adding_class : (s n n' : List Text) (ps rest all : List Piece) (before last : Text) → all ≡ Piece.class before last ∷ rest → n' ≡ found_all n (class_name before last ∷ []) → Adding s ps n all → Adding s ps n' rest
-unfolding names_in AreCut
-adding_class s n n' ps rest all before last e more h =
-    let h' : Adding s ps n (Piece.class before last ∷ rest) = subst (Adding s ps n) e h in
-    record { added = ap (λ (xs : List Text). found_all xs (names_in rest)) more ∙ h'.added; cut = h'.cut.1 }
+pub other_front : (s n : List Text) (ps rest all : List Piece) (t left : Text) → all ≡ Piece.other t ∷ rest → Adding s ps n all left → Front t left
+unfolding joined
+other_front s n ps rest all t left e h = let h' : Adding s ps n (Piece.other t ∷ rest) left = subst (λ (l : List Piece). Adding s ps n l left) e h in front_of t (joined as_is rest) left h'.text
 
-pub adding_done : (s n : List Text) (ps rest : List Piece) → rest ≡ [] → Adding s ps n rest → n ≡ found_all s (names_in ps)
+pub adding_other : (s n : List Text) (ps rest all : List Piece) (t left : Text) → all ≡ Piece.other t ∷ rest → Adding s ps n all left → Adding s ps n rest (drop (length t) left)
+unfolding names_in joined
+adding_other s n ps rest all t left e h =
+    let h' : Adding s ps n (Piece.other t ∷ rest) left = subst (λ (l : List Piece). Adding s ps n l left) e h in
+    record { added = h'.added; text = sym (ap (drop (length t)) (sym h'.text) ∙ drop-append_seam t (joined as_is rest)) }
+
+pub class_front : (s n : List Text) (ps rest all : List Piece) (before last left : Text) → all ≡ Piece.class before last ∷ rest → Adding s ps n all left → Front (class_name before last) left
+unfolding joined
+class_front s n ps rest all before last left e h = let h' : Adding s ps n (Piece.class before last ∷ rest) left = subst (λ (l : List Piece). Adding s ps n l left) e h in front_of (class_name before last) (joined as_is rest) left h'.text
+
+pub adding_class : (s n n' : List Text) (ps rest all : List Piece) (before last left : Text) → all ≡ Piece.class before last ∷ rest → n' ≡ found_all n (class_name before last ∷ []) → Adding s ps n all left → Adding s ps n' rest (drop (length (class_name before last)) left)
+unfolding names_in joined
+adding_class s n n' ps rest all before last left e more h =
+    let h' : Adding s ps n (Piece.class before last ∷ rest) left = subst (λ (l : List Piece). Adding s ps n l left) e h in
+    record {
+      added = ap (λ (xs : List Text). found_all xs (names_in rest)) more ∙ h'.added;
+      text = sym (ap (drop (length (class_name before last))) (sym h'.text) ∙ drop-append_seam (class_name before last) (joined as_is rest));
+    }
+
+pub adding_done : (s n : List Text) (ps rest : List Piece) (left : Text) → rest ≡ [] → Adding s ps n rest left → n ≡ found_all s (names_in ps)
 unfolding names_in
-adding_done s n ps rest e h = let h' : Adding s ps n [] = subst (Adding s ps n) e h in h'.added
+adding_done s n ps rest left e h = let h' : Adding s ps n [] left = subst (λ (l : List Piece). Adding s ps n l left) e h in h'.added
 
 -- ---- uses, one after the other
 
@@ -72,43 +93,37 @@ holding_more pool us i d n n' lt more h =
 pub holding_all : (pool : Pool) (us : List Used) (i : ℕ) (n : List Text) → length us ≤ i → Holding pool us i n → n ≡ each_once (held_by pool us)
 holding_all pool us i n le h = ap (λ (vs : List Used). found_all n (held_by pool vs)) (sym (drop_all i us le)) ∙ h
 
--- ---- descriptors that were looked at
+-- ---- texts that were looked at
 
--- the names of each entry that is marked are there
-abbrev pub AreHeld : Pool → List Bool → List Text → Type 0
-AreHeld pool marks s = (i : ℕ) → slice_get marks i ≡ Some true → (q : Text) → In (descriptor_names (text_at pool i)) q → In s q
+-- the names of each entry in the role that is noted are there
+abbrev pub AreHeld : Pool → List (Option Role) → List Text → Type 0
+AreHeld pool noted s = (i : ℕ) (r : Role) → slice_get noted i ≡ Some (Some r) → (q : Text) → In (names_of r (text_at pool i)) q → In s q
 
--- one more entry is marked, whose names are added
-held_more : (pool : Pool) (marks marks' : List Bool) (s n : List Text) (used : Used) → ((i : ℕ) → slice_get marks' i ≡ Some true → (slice_get marks i ≡ Some true) ⊎ ((i ≡ used.index) × (used.role ≡ roles.Descriptor)))
-    → n ≡ found_all s (names_of used.role (text_at pool used.index)) → AreHeld pool marks s → AreHeld pool marks' n
-unfolding names_of
-held_more pool marks marks' s n used marked more h i e q held =
+-- one more use is noted, whose names are added
+held_more : (pool : Pool) (noted noted' : List (Option Role)) (s n : List Text) (used : Used) → Notes noted' noted used → n ≡ found_all s (names_of used.role (text_at pool used.index)) → AreHeld pool noted s → AreHeld pool noted' n
+held_more pool noted noted' s n used is more h i r e q held =
     let names : List Text = names_of used.role (text_at pool used.index) in
     subst (λ (xs : List Text). In xs q) (sym more)
-    (elim (marked i e) [
-      | inl old ↦ found_old s names q (h i old q held)
-      | inr new ↦ found_in s names q (subst (λ (xs : List Text). In xs q) (ap₂ (λ (r : Role) (j : ℕ). names_of r (text_at pool j)) (sym new.1) new.0) held)
+    (elim (is i r e) [
+      | inl old ↦ found_old s names q (h i r old q held)
+      | inr new ↦ found_in s names q (subst (λ (xs : List Text). In xs q) (ap₂ (λ (o : Role) (j : ℕ). names_of o (text_at pool j)) (sym new.1) new.0) held)
     ])
 
--- the names of an entry that was marked are there
-held_again : (pool : Pool) (marks : List Bool) (s : List Text) (used : Used) → (used.role ≡ roles.Descriptor) × (slice_get marks used.index ≡ Some true) → AreHeld pool marks s → s ≡ found_all s (names_of used.role (text_at pool used.index))
-unfolding names_of
-held_again pool marks s used again h =
-    sym (absorbed s (names_of used.role (text_at pool used.index))
-    (λ q held. h used.index again.1 q (subst (λ (r : Role). In (names_of r (text_at pool used.index)) q) again.0 held)))
+-- the names of a use that isn't looked at are there
+held_again : (pool : Pool) (noted : List (Option Role)) (s : List Text) (used : Used) → (slice_get noted used.index ≡ Some (Some used.role)) ⊎ HoldsNone used.role → AreHeld pool noted s → s ≡ found_all s (names_of used.role (text_at pool used.index))
+held_again pool noted s used (inl again) h = sym (absorbed s (names_of used.role (text_at pool used.index)) (h used.index used.role again))
+held_again pool noted s used (inr none) h = sym (ap (found_all s) (none (text_at pool used.index)))
 
 -- one more use, whose names are added
-pub looked_more : (pool : Pool) (us : List Used) (i : ℕ) (d : Used) (marks marks' : List Bool) (s n : List Text) (text : Text) → i < length us
-    → ((j : ℕ) → slice_get marks' j ≡ Some true → (slice_get marks j ≡ Some true) ⊎ ((j ≡ (get_or us i d).index) × ((get_or us i d).role ≡ roles.Descriptor)))
+pub looked_more : (pool : Pool) (us : List Used) (i : ℕ) (d : Used) (noted noted' : List (Option Role)) (s n : List Text) (text : Text) → i < length us → Notes noted' noted (get_or us i d)
     → text ≡ text_at pool (get_or us i d).index → n ≡ found_all s (names_of (get_or us i d).role text)
-    → Holding pool us i s → AreHeld pool marks s → Holding pool us (i + 1) n × AreHeld pool marks' n
-looked_more pool us i d marks marks' s n text lt marked is more held before =
+    → Holding pool us i s → AreHeld pool noted s → Holding pool us (i + 1) n × AreHeld pool noted' n
+looked_more pool us i d noted noted' s n text lt notes is more held before =
     let all : n ≡ found_all s (names_of (get_or us i d).role (text_at pool (get_or us i d).index)) = more ∙ ap (λ (t : Text). found_all s (names_of (get_or us i d).role t)) is in
-    (holding_more pool us i d s n lt all held, held_more pool marks marks' s n (get_or us i d) marked all before)
+    (holding_more pool us i d s n lt all held, held_more pool noted noted' s n (get_or us i d) notes all before)
 
 -- or whose names are there
-pub looked_again : (pool : Pool) (us : List Used) (i : ℕ) (d : Used) (marks marks' : List Bool) (s : List Text) → i < length us
-    → ((j : ℕ) → slice_get marks' j ≡ Some true → (slice_get marks j ≡ Some true) ⊎ ((j ≡ (get_or us i d).index) × ((get_or us i d).role ≡ roles.Descriptor)))
-    → ((get_or us i d).role ≡ roles.Descriptor) × (slice_get marks (get_or us i d).index ≡ Some true)
-    → Holding pool us i s → AreHeld pool marks s → Holding pool us (i + 1) s × AreHeld pool marks' s
-looked_again pool us i d marks marks' s lt marked again held before = looked_more pool us i d marks marks' s s (text_at pool (get_or us i d).index) lt marked refl (held_again pool marks s (get_or us i d) again before) held before
+pub looked_again : (pool : Pool) (us : List Used) (i : ℕ) (d : Used) (noted noted' : List (Option Role)) (s : List Text) → i < length us → Notes noted' noted (get_or us i d)
+    → (slice_get noted (get_or us i d).index ≡ Some (Some (get_or us i d).role)) ⊎ HoldsNone (get_or us i d).role
+    → Holding pool us i s → AreHeld pool noted s → Holding pool us (i + 1) s × AreHeld pool noted' s
+looked_again pool us i d noted noted' s lt notes again held before = looked_more pool us i d noted noted' s s (text_at pool (get_or us i d).index) lt notes refl (held_again pool noted s (get_or us i d) again before) held before

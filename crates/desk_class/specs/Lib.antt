@@ -7,3 +7,5 @@ pub mod Formed
 pub mod Marks
 pub mod Packed
 pub mod Found
+pub mod Standing
+pub mod Noted

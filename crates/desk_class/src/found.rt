@@ -1,39 +1,53 @@
 //! Class names that were found, each once.
 
 ghost use Rattle.std.specs.Prelude.{◌≡◌, [], ◌∷◌, OnOk, OnErr, IfOk};
-ghost use Rattle.desk_names.specs.ClassNames.{class_name};
-ghost use Rattle.desk_names.specs.Pieces.{IsCut};
 ghost use Rattle.desk_class.specs.Held.{found_all};
+ghost use Rattle.desk_class.specs.Marks.{mark as mark_of};
+ghost use Rattle.desk_class.specs.Found.{AreMarks, is_marked, texts};
 
 use crate::held::HeldNames;
 use crate::marks::mark_of;
 use desk_base::Memory;
-use desk_names::ClassName;
 use std::alloc::Global;
 use std::collections::BTreeSet;
 use std::marker::Model;
 
-/// How many names there is room for at first.
-const ROOM: usize = 24;
+/// How many names are looked through, since most classes hold no more; those behind them are looked up in a set.
+const FEW: usize = 32;
 
-/// Class names, each once, in the order in which they were found; contracts see them so. They are kept as they stand in the
-/// texts where they were found, so that none is copied before it is known to be new. A name that is here already is found
-/// fast: the simple names are told apart by their marks.
+/// Class names, each once, in the order in which they were found; contracts see them so. They stand in the texts where they
+/// were found, so that none is copied before it is known to be new. A name that is here already is found fast: names are
+/// told apart by their marks.
 #[derive(Drop)]
 pub struct FoundNames<'a> {
-    parts: BTreeSet<(u64, &'a [u8], &'a [u8])>,
-    names: Vec<ClassName<'a>>,
+    names: Vec<&'a [u8]>,
+    marks: Vec<u64>,
+    behind: BTreeSet<(u64, &'a [u8])>,
 }
 
 impl<'a> Model for FoundNames<'a> {
-    ghost use Rattle.std.specs.Prelude.{ℕ, List, map};
-    ghost use Rattle.desk_class.specs.Found.{AreFound, spelled};
+    ghost use Rattle.std.specs.Prelude.{ℕ, List};
+    ghost use Rattle.desk_class.specs.Found.{AreTold, texts};
 
     ghost Value = { List (List ℕ) };
 
-    ghost view = { λ f. map spelled f.names.items };
+    ghost view = { λ f. texts f.names.items };
 
-    ghost invariant = { λ f. AreFound (map spelled f.names.items) f.parts };
+    ghost invariant = { λ f. AreTold 32 (texts f.names.items) f.marks.items f.behind };
+}
+
+/// Whether a name is one of the first, which have these marks.
+fn is_first(marks: &[u64], names: &[&[u8]], mark: u64, name: &[u8]) -> bool
+    requires marks { AreMarks marks.now (texts names.now) }
+    requires mark { mark ≡ mark_of name.now }
+    ensures { result ≡ is_marked marks.now (texts names.now) name.now }
+{
+    for (place, known) in marks.iter().enumerate() {
+        if *known == mark && names[place] == name {
+            return true;
+        }
+    }
+    false
 }
 
 impl<'a> FoundNames<'a> {
@@ -42,22 +56,27 @@ impl<'a> FoundNames<'a> {
         ensures { IfOk result (λ names. names ≡ []) }
     {
         Ok(FoundNames {
-            parts: BTreeSet::new(alloc),
-            names: Vec::with_capacity(alloc, ROOM)?,
+            names: Vec::with_capacity(alloc, FEW)?,
+            marks: Vec::with_capacity(alloc, FEW)?,
+            behind: BTreeSet::new(alloc),
         })
     }
 
-    /// Adds a name, which is cut at its last `/`: another cut of the same name would count as another name. The only error is
-    /// want of memory; the names are those of before then.
-    pub fn add(&mut self, name: &ClassName<'a>) -> Result<(), Memory>
-        requires { IsCut name.now.package.now name.now.simple.now }
-        ensures ok { OnOk result (self.new ≡ found_all self.old (class_name name.now.package.now name.now.simple.now ∷ [])) }
+    /// Adds a name. The only error is want of memory; the names are those of before then.
+    pub fn add(&mut self, name: &'a [u8]) -> Result<(), Memory>
+        ensures ok { OnOk result (self.new ≡ found_all self.old (name.now ∷ [])) }
         ensures err { OnErr result (self.new ≡ self.old) }
     {
+        let mark = mark_of(name);
+        if is_first(self.marks.as_slice(), self.names.as_slice(), mark, name) {
+            return Ok(());
+        }
         self.names.reserve(1)?;
-        let parts = (mark_of(name.simple), name.simple, name.package);
-        if self.parts.insert(parts)? {
-            self.names.push(*name)?;
+        if self.marks.len() < FEW {
+            self.marks.push(mark)?;
+            self.names.push(name)?;
+        } else if self.behind.insert((mark, name))? {
+            self.names.push(name)?;
         }
         Ok(())
     }

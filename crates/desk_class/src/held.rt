@@ -1,10 +1,9 @@
 //! The class names that a class holds, packed.
 
-ghost use Rattle.std.specs.Prelude.{◌≡◌, ◌<◌, ◌==◌, [], ◌++◌, length, map, slice_index_or, OnOk, IfOk};
-ghost use Rattle.desk_class.specs.Found.{spelled};
+ghost use Rattle.std.specs.Prelude.{◌≡◌, ◌<◌, ◌==◌, [], length, slice_index_or, IfOk};
+ghost use Rattle.desk_class.specs.Found.{texts};
 
 use desk_base::Memory;
-use desk_names::ClassName;
 use std::alloc::Global;
 use std::marker::Model;
 
@@ -26,39 +25,24 @@ impl Model for HeldNames {
     ghost invariant = { λ h. AreEnds 0 h.ends.items (length h.bytes.items) };
 }
 
-/// How many bytes class names have together, or a few more; 2^64 - 1 where they are more.
-fn room_for(names: &[ClassName<'_>]) -> usize {
+/// How many bytes texts have together; 2^64 - 1 where they are more.
+fn room_for(texts: &[&[u8]]) -> usize {
     let mut count = 0usize;
-    for name in names {
-        count = count
-            .saturating_add(name.package.len())
-            .saturating_add(name.simple.len())
-            .saturating_add(1);
+    for text in texts {
+        count = count.saturating_add(text.len());
     }
     count
 }
 
-/// Puts a class name behind a text. The only error is want of memory.
-fn append_name(bytes: &mut Vec<u8>, name: &ClassName<'_>) -> Result<(), Memory>
-    ensures { OnOk result (bytes.new.items ≡ bytes.old.items ++ spelled name.now) }
-{
-    if !name.package.is_empty() {
-        bytes.extend_from_slice(name.package)?;
-        bytes.push(b'/')?;
-    }
-    bytes.extend_from_slice(name.simple)?;
-    Ok(())
-}
-
 impl HeldNames {
     /// These names, copied. The only error is want of memory, as which 4 GiB of names count.
-    pub fn of(alloc: Global, names: &[ClassName<'_>]) -> Result<HeldNames, Memory>
-        ensures { IfOk result (λ held. held ≡ map spelled names.now) }
+    pub fn of(alloc: Global, names: &[&[u8]]) -> Result<HeldNames, Memory>
+        ensures { IfOk result (λ held. held ≡ texts names.now) }
     {
         let mut bytes = Vec::with_capacity(alloc, room_for(names))?;
         let mut ends = Vec::with_capacity(alloc, names.len())?;
         for name in names {
-            append_name(&mut bytes, name)?;
+            bytes.extend_from_slice(name)?;
             let end = bytes.len();
             if end > 4_294_967_295 {
                 return Err(Memory);

@@ -1,45 +1,88 @@
 //! The class names that texts hold.
 
-ghost use Rattle.std.specs.Prelude.{◌≡◌, ◌⊎◌, ℕ, true, false, Some, OnOk, IfOk, slice_get};
+ghost use Rattle.std.specs.Prelude.{◌≡◌, ◌⊎◌, ◌<◌, ◌^◌, ◌∷◌, [], false, length, Some, OnOk, IfOk, IfSome, MatchOption, slice_get};
 ghost use Rattle.std.specs.List.Sorted.{IsStrictlySortedBy};
 ghost use Rattle.std.specs.Ordering.{nat_cmp};
 ghost use Rattle.std.specs.Cmp.Lexicographic.{slice_cmp};
-ghost use Rattle.desk_base.specs.declared.kinds.Role.TheVariants as roles;
-ghost use Rattle.desk_names.specs.Pieces.{AreCut, names_in};
+ghost use Rattle.desk_base.specs.Descriptors.{as_is};
+ghost use Rattle.desk_names.specs.Pieces.{names_in, joined};
 ghost use Rattle.desk_names.specs.SignatureScan.{wanted_signature};
 ghost use Rattle.desk_class.specs.Formed.{IsFormed, AreFormed};
+ghost use Rattle.desk_class.specs.Standing.{standing_in};
+ghost use Rattle.desk_class.specs.Found.{spelled};
+ghost use Rattle.desk_class.specs.Noted.{Notes, HoldsNone};
 ghost use Rattle.desk_class.specs.Held.{found_all, each_once, ascending, signature_names, names_of, held_by};
 
 use crate::found::FoundNames;
 use crate::held::HeldNames;
 use crate::numbers::text_at;
 use desk_base::{Memory, PoolView, Role, Text, TextList, Used};
-use desk_names::{DescParts, Part, SigParts, Which, cut_name, descriptor_parts, read_signature};
+use desk_names::{ClassName, Part, SigParts, Which, read_signature};
 use desk_pool::Pool;
+use memchr::memchr;
 use std::alloc::Global;
 use std::collections::BTreeSet;
 
-/// Adds the class names among the parts of a descriptor.
-fn add_parts<'a>(names: &mut FoundNames<'a>, parts: DescParts<'a>) -> Result<(), Memory>
-    requires { AreCut parts }
-    ensures { OnOk result (names.new ≡ found_all names.old (names_in parts.entry)) }
+/// The first class name of a descriptor, which stands between an `L` and the next `;`, and what is left behind it.
+fn first_name(text: &[u8]) -> Option<(&[u8], &[u8])>
+    ensures name { MatchOption result (standing_in text.now ≡ []) (λ found. standing_in text.now ≡ found.0.now ∷ standing_in found.1.now) }
+    ensures shorter { IfSome result (λ found. length found.1.now < length text.now) }
 {
-    for part in parts {
-        if let Part::Class(name) = part {
-            names.add(&name)?;
-        }
+    let Some(start) = memchr(b'L', text) else {
+        return None;
+    };
+    let (_, behind) = text.split_at(start + 1);
+    match memchr(b';', behind) {
+        Some(end) => Some(behind.split_at(end)),
+        None => None,
+    }
+}
+
+/// Adds the class names of a text that is a descriptor.
+fn add_descriptor<'a>(names: &mut FoundNames<'a>, text: &'a [u8]) -> Result<(), Memory>
+    ensures { OnOk result (names.new ≡ found_all names.old (standing_in text.now)) }
+{
+    let mut rest = text;
+    while let Some((name, behind)) = first_name(rest) {
+        names.add(name)?;
+        rest = behind;
     }
     Ok(())
 }
 
-/// Adds the class names among the parts of a signature.
-fn add_signature_parts<'a>(names: &mut FoundNames<'a>, parts: SigParts<'a>) -> Result<(), Memory>
-    requires { AreCut parts }
+/// How many bytes a class name has, with the `/` in front of its simple name.
+fn length_of(name: &ClassName<'_>) -> usize
+    requires { length (spelled name.now) < 2 ^ 64 }
+    ensures { result ≡ length (spelled name.now) }
+{
+    if name.package.is_empty() {
+        name.simple.len()
+    } else {
+        name.package.len() + 1 + name.simple.len()
+    }
+}
+
+/// Adds the class names among the parts of a signature, as they stand in its text.
+fn add_parts<'a>(
+    names: &mut FoundNames<'a>,
+    text: &'a [u8],
+    parts: SigParts<'a>,
+) -> Result<(), Memory>
+    requires { joined as_is parts ≡ text.now }
     ensures { OnOk result (names.new ≡ found_all names.old (names_in parts.entry)) }
 {
+    let mut rest = text;
     for part in parts {
-        if let Part::Class(name) = part {
-            names.add(&name)?;
+        match part {
+            Part::Other(other) => {
+                let (_, behind) = rest.split_at(other.len());
+                rest = behind;
+            }
+            Part::Class(name) => {
+                let (whole, behind) = rest.split_at(length_of(&name));
+                names.add(whole)?;
+                rest = behind;
+            }
         }
     }
     Ok(())
@@ -50,7 +93,7 @@ fn add_signature<'a>(names: &mut FoundNames<'a>, text: &'a [u8], which: Which) -
     ensures { OnOk result (names.new ≡ found_all names.old (signature_names (wanted_signature which) text.now)) }
 {
     match read_signature(text, which) {
-        Some(parts) => add_signature_parts(names, parts),
+        Some(parts) => add_parts(names, text, parts),
         None => Ok(()),
     }
 }
@@ -64,12 +107,12 @@ fn add_names<'a>(names: &mut FoundNames<'a>, role: Role, text: &'a [u8]) -> Resu
     match role {
         Role::Class => {
             if text.starts_with(b"[") {
-                add_parts(names, descriptor_parts(text))
+                add_descriptor(names, text)
             } else {
-                names.add(&cut_name(text))
+                names.add(text)
             }
         }
-        Role::Descriptor => add_parts(names, descriptor_parts(text)),
+        Role::Descriptor => add_descriptor(names, text),
         Role::ClassSig => add_signature(names, text, Which::Class),
         Role::MethodSig => add_signature(names, text, Which::Method),
         Role::FieldSig => add_signature(names, text, Which::Field),
@@ -77,28 +120,31 @@ fn add_names<'a>(names: &mut FoundNames<'a>, role: Role, text: &'a [u8]) -> Resu
     }
 }
 
-/// Marks an entry. The answer is whether it wasn't marked before; an index behind the marks is never marked.
-fn mark(marks: &mut Vec<bool>, index: u16) -> bool
-    ensures marks { (i : ℕ) → slice_get marks.new.items i ≡ Some true → (slice_get marks.old.items i ≡ Some true) ⊎ (i ≡ index) }
-    ensures again { result ≡ false → slice_get marks.old.items index ≡ Some true }
+/// Notes the role in which an entry is used. The answer is whether it was last used in another; an index behind the notes
+/// never was used.
+fn note(noted: &mut Vec<Option<Role>>, used: &Used) -> bool
+    ensures noted { Notes noted.new.items noted.old.items used.now }
+    ensures again { result ≡ false → slice_get noted.old.items used.now.index ≡ Some (Some used.now.role) }
 {
-    let place = index as usize;
-    if place >= marks.len() {
+    let place = used.index as usize;
+    if place >= noted.len() {
         return true;
     }
-    let new = !marks[place];
-    marks[place] = true;
-    new
+    let before = noted[place];
+    noted[place] = Some(used.role);
+    before != Some(used.role)
 }
 
-/// Whether a text that is used is looked at: a descriptor is at its first use alone, when its entry is marked.
-fn is_looked_at(marks: &mut Vec<bool>, used: &Used) -> bool
-    ensures marks { (i : ℕ) → slice_get marks.new.items i ≡ Some true → (slice_get marks.old.items i ≡ Some true) ⊎ ((i ≡ used.now.index) × (used.now.role ≡ roles.Descriptor)) }
-    ensures again { result ≡ false → (used.now.role ≡ roles.Descriptor) × (slice_get marks.old.items used.now.index ≡ Some true) }
+/// Whether a text that is used is looked at. One whose role holds no class names isn't, nor is a descriptor or a signature
+/// whose entry was last used in the same role, since it was looked at then.
+fn is_looked_at(noted: &mut Vec<Option<Role>>, used: &Used) -> bool
+    ensures noted { Notes noted.new.items noted.old.items used.now }
+    ensures again { result ≡ false → (slice_get noted.old.items used.now.index ≡ Some (Some used.now.role)) ⊎ HoldsNone used.now.role }
 {
     match used.role {
-        Role::Descriptor => mark(marks, used.index),
-        _ => true,
+        Role::Class => true,
+        Role::Descriptor | Role::ClassSig | Role::MethodSig | Role::FieldSig => note(noted, used),
+        Role::Package | Role::Module | Role::Str | Role::Plain | Role::AttrName => false,
     }
 }
 
@@ -108,9 +154,9 @@ pub fn held_names(alloc: Global, pool: &Pool<'_>, uses: &[Used]) -> Result<HeldN
     ensures { IfOk result (λ names. names ≡ each_once (held_by pool.now.entries uses.now)) }
 {
     let mut names = FoundNames::new(alloc)?;
-    let mut marks = vec![in alloc; false; pool.count() as usize]?;
+    let mut noted = vec![in alloc; None; pool.count() as usize]?;
     for used in uses {
-        if is_looked_at(&mut marks, used) {
+        if is_looked_at(&mut noted, used) {
             add_names(&mut names, used.role, text_at(pool, used.index))?;
         }
     }

@@ -4,7 +4,6 @@ use desk_base::{FILE_SIZE, Memory, Text};
 use desk_class::{ClassView, HeldNames};
 use desk_fixtures::rule_set;
 use desk_graph::{ClassGraph, GraphFault, Scanned, scan};
-use desk_names::cut_name;
 use desk_rename::Images;
 use desk_rules::RuleSet;
 use std::alloc::Global;
@@ -20,15 +19,11 @@ type Row<'a> = (&'a [u8], bool, &'a [u8], &'a [&'a [u8]]);
 /// What a scan keeps of a class.
 fn class(alloc: Global, row: &Row<'_>) -> Result<Scanned, Memory> {
     let (path, selected, name, names) = *row;
-    let mut held = Vec::new(alloc);
-    for other in names {
-        held.push(cut_name(other))?;
-    }
     Ok(Scanned {
         path: Text::from_bytes(alloc, path)?,
         selected,
         name: Text::from_bytes(alloc, name)?,
-        held: HeldNames::of(alloc, held.as_slice())?,
+        held: HeldNames::of(alloc, names)?,
     })
 }
 

@@ -1,7 +1,6 @@
-use Rattle.std.proofs.Common.{map}
-use Rattle.desk_class.specs.Found.{spelled}
+use Rattle.desk_class.specs.Found.{texts}
 use Rattle.desk_class.proofs.Packing.{Packing}
 use Rattle.desk_class.proofs.held.HeldNames.of.Given as goal
 
 abbrev pub invariant-loop-name : goal.invariant-loop-name
-invariant-loop-name l = Packing (map spelled l.names) l.name-index l.bytes.items l.ends.items
+invariant-loop-name l = Packing (texts l.names) l.name-index l.bytes.items l.ends.items
