@@ -9,3 +9,4 @@ pub mod Building
 pub mod Stranding
 pub mod Links
 pub mod Kept
+mod Lately

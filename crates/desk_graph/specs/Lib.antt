@@ -9,3 +9,4 @@ pub mod Clashes
 pub mod Strandings
 pub mod Graphs
 pub mod Refusals
+pub mod Recent

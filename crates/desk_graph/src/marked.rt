@@ -13,6 +13,9 @@ use desk_class::mark_of;
 use std::cmp::Ordering;
 use std::marker::Model;
 
+/// How many places there are for names by their marks.
+pub const PLACES: usize = 4096;
+
 /// A name with its mark. Names go by their marks, and by their bytes where these are equal: so a set of them compares few
 /// bytes, and no choice of names makes it slow. Contracts see the bytes.
 #[derive(Debug, Drop)]
@@ -41,6 +44,11 @@ impl<'a> Marked<'a> {
             mark: mark_of(bytes),
             name: Name::new(bytes),
         }
+    }
+
+    /// A place that its mark gives it, below [`PLACES`].
+    pub fn place(&self) -> usize {
+        self.mark as usize % PLACES
     }
 
     /// The name.

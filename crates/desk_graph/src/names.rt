@@ -1,12 +1,13 @@
 //! The names of an application. They stand in the classes and are copied nowhere here.
 
-ghost use Rattle.std.specs.Prelude.{◌≡◌, ◌∷◌, ◌||◌, [], ℕ, List, OnOk, IfOk};
+ghost use Rattle.std.specs.Prelude.{◌≡◌, true, ◌∷◌, ◌||◌, [], ℕ, Bool, List, OnOk, IfOk};
 ghost use Rattle.std.specs.Str.{bytes_eq};
 ghost use Rattle.desk_class.specs.Held.{put_all, ascending};
 ghost use Rattle.desk_graph.specs.Application.{defined_names, names_in, names};
+ghost use Rattle.desk_graph.specs.Recent.{IsKept, AreRecent};
 ghost use Rattle.desk_graph.specs.Tables.{texts, holds};
 
-use crate::marked::Marked;
+use crate::marked::{Marked, PLACES};
 use crate::name::Name;
 use crate::scanned::Scanned;
 use desk_base::Memory;
@@ -30,23 +31,80 @@ pub fn put<'a>(set: &mut BTreeSet<Marked<'a>>, text: &'a [u8]) -> Result<(), Mem
     Ok(())
 }
 
+/// Places at which no name is kept.
+fn no_names<'a>(alloc: Global) -> Result<Vec<Option<&'a [u8]>>, Memory>
+    ensures { IfOk result (λ recent. (test : List ℕ → Bool) → AreRecent recent.items test) }
+{
+    let mut recent = Vec::with_capacity(alloc, PLACES)?;
+    for _ in 0..PLACES {
+        recent.push(None)?;
+    }
+    Ok(recent)
+}
+
+/// Whether a name is kept at a place.
+fn is_kept(recent: &[Option<&[u8]>], place: usize, name: &[u8]) -> bool
+    ensures { result ≡ true → IsKept recent.now name.now }
+{
+    if place >= recent.len() {
+        return false;
+    }
+    match recent[place] {
+        Some(kept) => kept == name,
+        None => false,
+    }
+}
+
+/// Puts a text into a set, unless it is one of those that were put lately.
+fn put_often<'a>(
+    set: &mut BTreeSet<Marked<'a>>,
+    recent: &mut Vec<Option<&'a [u8]>>,
+    text: &'a [u8],
+) -> Result<(), Memory>
+    requires { AreRecent recent.now.items (holds set.now) }
+    ensures texts { OnOk result (texts set.new ≡ put_all (texts set.old) (text.now ∷ [])) }
+    ensures recent { OnOk result (AreRecent recent.new.items (holds set.new)) }
+{
+    let place = Marked::new(text).place();
+    if is_kept(recent.as_slice(), place, text) {
+        return Ok(());
+    }
+    put(set, text)?;
+    if place < recent.len() {
+        recent[place] = Some(text);
+    }
+    Ok(())
+}
+
 /// Puts the names that a class holds.
-fn put_held<'a>(set: &mut BTreeSet<Marked<'a>>, held: &'a HeldNames) -> Result<(), Memory>
-    ensures { OnOk result (texts set.new ≡ put_all (texts set.old) held.now) }
+fn put_held<'a>(
+    set: &mut BTreeSet<Marked<'a>>,
+    recent: &mut Vec<Option<&'a [u8]>>,
+    held: &'a HeldNames,
+) -> Result<(), Memory>
+    requires { AreRecent recent.now.items (holds set.now) }
+    ensures texts { OnOk result (texts set.new ≡ put_all (texts set.old) held.now) }
+    ensures recent { OnOk result (AreRecent recent.new.items (holds set.new)) }
 {
     for place in 0..held.len() {
-        put(set, held.get(place))?;
+        put_often(set, recent, held.get(place))?;
     }
     Ok(())
 }
 
 /// Puts the name of a class, and those that it holds where it is selected.
-fn put_class<'a>(set: &mut BTreeSet<Marked<'a>>, class: &'a Scanned) -> Result<(), Memory>
-    ensures { OnOk result (texts set.new ≡ put_all (texts set.old) (names_in class.now)) }
+fn put_class<'a>(
+    set: &mut BTreeSet<Marked<'a>>,
+    recent: &mut Vec<Option<&'a [u8]>>,
+    class: &'a Scanned,
+) -> Result<(), Memory>
+    requires { AreRecent recent.now.items (holds set.now) }
+    ensures texts { OnOk result (texts set.new ≡ put_all (texts set.old) (names_in class.now)) }
+    ensures recent { OnOk result (AreRecent recent.new.items (holds set.new)) }
 {
-    put(set, class.name.as_bytes())?;
+    put_often(set, recent, class.name.as_bytes())?;
     if class.selected {
-        put_held(set, &class.held)?;
+        put_held(set, recent, &class.held)?;
     }
     Ok(())
 }
@@ -79,8 +137,9 @@ pub fn all_names<'a>(alloc: Global, classes: &'a [Scanned]) -> Result<Vec<Name<'
     ensures { IfOk result (λ list. list.items ≡ ascending (names classes.now)) }
 {
     let mut set = BTreeSet::new(alloc);
+    let mut recent = no_names(alloc)?;
     for class in classes {
-        put_class(&mut set, class)?;
+        put_class(&mut set, &mut recent, class)?;
     }
     in_order(alloc, set)
 }
@@ -90,6 +149,6 @@ pub fn held_in_order<'a>(alloc: Global, held: &'a HeldNames) -> Result<Vec<Name<
     ensures { IfOk result (λ list. list.items ≡ ascending held.now) }
 {
     let mut set = BTreeSet::new(alloc);
-    put_held(&mut set, held)?;
+    put_held(&mut set, &mut Vec::new(alloc), held)?;
     in_order(alloc, set)
 }
