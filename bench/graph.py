@@ -1,10 +1,13 @@
 """Prints scan and build as a ratio to reading the same classes, how they and building alone grow with the number of classes,
-and the peak memory. What only makes the classes up, or reads their files, is taken off each time.
+and the peak memory. What only makes the classes up, or reads their files, is taken off each time. Where valgrind is installed it
+prints the same ratios by instructions, which other work on the machine doesn't change.
 
     graph.py PROGRAM [LIST]     LIST names class files, one a line
 """
 
+import re
 import resource
+import shutil
 import subprocess
 import sys
 import tempfile
@@ -35,6 +38,25 @@ def compare(what, said):
     return graph - read
 
 
+def counted(what, count):
+    """The instructions of reading, and of scan and build, a class."""
+    seen = []
+    for mode in ("make", "read", "graph"):
+        words = ["valgrind", "--tool=cachegrind", "--cache-sim=no", "--cachegrind-out-file=/dev/null", program, mode, what]
+        said = subprocess.run(words, capture_output=True, check=True, text=True).stderr
+        seen.append(int(re.search(r"I\s+refs:\s+([0-9,]+)", said)[1].replace(",", "")))
+    make, read, graph = seen
+    return (read - make) / count, (graph - read) / count
+
+
+def compare_counted(few, all_of_them, count):
+    """Scan and build beside reading, and how they grow, by instructions."""
+    read, more = counted(all_of_them, count)
+    _, some = counted(few, FEW)
+    print(f"by instructions: {read:,.0f} a class read, {more:,.0f} scanned and built, ratio {more / read:.2f}, "
+          f"and {more / some:.2f} times those of a class of {FEW:,}")
+
+
 def some_of(paths, count):
     """A list of so many of these paths, evenly spread, and of the class whose node the program asks for."""
     file = tempfile.NamedTemporaryFile("w", encoding="utf-8")
@@ -56,6 +78,8 @@ for file in lists:
     all_of_them = compare(file, f"{len(paths):,} classes of a JDK") / len(paths) * 1e6
     with some_of(paths, FEW) as few:
         some = compare(few.name, f"{FEW:,} of them") / FEW * 1e6
+        if shutil.which("valgrind"):
+            compare_counted(few.name, file, len(paths))
     print(f"scanning and building take {some:.1f} microseconds a class of {FEW:,} and {all_of_them:.1f} of {len(paths):,}, "
           f"ratio {all_of_them / some:.2f} (aim: at most 1.2)")
 
