@@ -13,6 +13,6 @@ mod Sets
 mod Wholes
 mod Views
 mod Numbering
-mod Marked
+mod Told
 mod Standing
 mod Whole

@@ -5,6 +5,7 @@ pub mod Faults
 pub mod Numbers
 pub mod Formed
 pub mod Marks
+pub mod MarkOrder
 pub mod Packed
 pub mod Found
 pub mod Standing

@@ -2,11 +2,10 @@
 
 ghost use Rattle.std.specs.Prelude.{◌≡◌, [], ◌∷◌, OnOk, OnErr, IfOk};
 ghost use Rattle.desk_class.specs.Held.{found_all};
-ghost use Rattle.desk_class.specs.Marks.{mark as mark_of};
-ghost use Rattle.desk_class.specs.Found.{AreMarks, is_marked, texts};
+ghost use Rattle.desk_class.specs.Found.{is_told, texts};
 
 use crate::held::HeldNames;
-use crate::marks::mark_of;
+use crate::marks::Marked;
 use desk_base::Memory;
 use std::alloc::Global;
 use std::collections::BTreeSet;
@@ -22,7 +21,7 @@ const FEW: usize = 32;
 pub struct FoundNames<'a> {
     names: Vec<&'a [u8]>,
     marks: Vec<u64>,
-    behind: BTreeSet<(u64, &'a [u8])>,
+    behind: BTreeSet<Marked<'a>>,
 }
 
 impl<'a> Model for FoundNames<'a> {
@@ -36,14 +35,12 @@ impl<'a> Model for FoundNames<'a> {
     ghost invariant = { λ f. AreTold 32 (texts f.names.items) f.marks.items f.behind };
 }
 
-/// Whether a name is one of the first, which have these marks.
-fn is_first(marks: &[u64], names: &[&[u8]], mark: u64, name: &[u8]) -> bool
-    requires marks { AreMarks marks.now (texts names.now) }
-    requires mark { mark ≡ mark_of name.now }
-    ensures { result ≡ is_marked marks.now (texts names.now) name.now }
+/// Whether a name stands among these with a mark.
+fn is_told(marks: &[u64], names: &[&[u8]], mark: u64, name: &[u8]) -> bool
+    ensures { result ≡ is_told marks.now (texts names.now) mark name.now }
 {
     for (place, known) in marks.iter().enumerate() {
-        if *known == mark && names[place] == name {
+        if *known == mark && place < names.len() && names[place] == name {
             return true;
         }
     }
@@ -67,15 +64,16 @@ impl<'a> FoundNames<'a> {
         ensures ok { OnOk result (self.new ≡ found_all self.old (name.now ∷ [])) }
         ensures err { OnErr result (self.new ≡ self.old) }
     {
-        let mark = mark_of(name);
-        if is_first(self.marks.as_slice(), self.names.as_slice(), mark, name) {
+        let marked = Marked::new(name);
+        let mark = marked.mark();
+        if is_told(self.marks.as_slice(), self.names.as_slice(), mark, name) {
             return Ok(());
         }
         self.names.reserve(1)?;
         if self.marks.len() < FEW {
             self.marks.push(mark)?;
             self.names.push(name)?;
-        } else if self.behind.insert((mark, name))? {
+        } else if self.behind.insert(marked)? {
             self.names.push(name)?;
         }
         Ok(())

@@ -24,5 +24,5 @@ mod twins;
 pub use class::ClassView;
 pub use desk_format::Member;
 pub use held::HeldNames;
-pub use marks::mark_of;
+pub use marks::Marked;
 pub use numbers::TextNumbers;

@@ -1,6 +1,6 @@
 //! The class names that texts hold.
 
-ghost use Rattle.std.specs.Prelude.{◌≡◌, ◌⊎◌, ◌<◌, ◌^◌, ◌∷◌, [], false, length, Some, OnOk, IfOk, IfSome, MatchOption, slice_get};
+ghost use Rattle.std.specs.Prelude.{◌≡◌, ◌⊎◌, ◌<◌, ◌-◌, ◌^◌, ◌∷◌, [], false, length, min, Some, OnOk, IfOk, IfSome, MatchOption, slice_get};
 ghost use Rattle.std.specs.List.Sorted.{IsStrictlySortedBy};
 ghost use Rattle.std.specs.Ordering.{nat_cmp};
 ghost use Rattle.std.specs.Cmp.Lexicographic.{slice_cmp};
@@ -50,15 +50,15 @@ fn add_descriptor<'a>(names: &mut FoundNames<'a>, text: &'a [u8]) -> Result<(), 
     Ok(())
 }
 
-/// How many bytes a class name has, with the `/` in front of its simple name.
+/// How many bytes a class name has, with the `/` in front of its simple name; 2^64 - 1 where they are more.
 fn length_of(name: &ClassName<'_>) -> usize
-    requires { length (spelled name.now) < 2 ^ 64 }
-    ensures { result ≡ length (spelled name.now) }
+    ensures { result ≡ min (length (spelled name.now)) (2 ^ 64 - 1) }
 {
     if name.package.is_empty() {
         name.simple.len()
     } else {
-        name.package.len() + 1 + name.simple.len()
+        let package = name.package.len().saturating_add(1);
+        package.saturating_add(name.simple.len())
     }
 }
 

@@ -1,15 +1,18 @@
 -- Names that were put into a set lately.
-use Rattle.std.proofs.Common.{◌≡◌, ◌⊎◌, inl, inr, ℕ, zero, suc, ◌<◌, Bool, true, ◌||◌, List, [], ◌∷◌, ◌++◌, length, get_or, Option, Some, None, slice_get, slice_set, refl, sym, ap, subst, ◌∙◌, arith}
+use Rattle.std.proofs.Common.{◌≡◌, ◌⊎◌, inl, inr, ℕ, zero, suc, ◌<◌, Bool, true, ◌||◌, List, [], ◌∷◌, ◌++◌, length, get_or, Option, Some, None, replicate, slice_get, slice_set, refl, sym, ap, subst, ◌∙◌, arith}
 use Rattle.std.proofs.lemmas.Bool.{or_left, or_right}
 use Rattle.std.proofs.lemmas.Slice.Eq.{bytes_eq-Decides}
 use Rattle.std.specs.Str.{bytes_eq}
 use Rattle.std.specs.BTreeSet.{BTreeSet}
+use Rattle.std.specs.List.{Contains, list_any}
+use Rattle.std.specs.Ordering.{eq_by_cmp}
 use denote.Ref.{Bor}
 use Rattle.desk_base.specs.Names.{Text}
 use Rattle.desk_packages.proofs.Picks.{In}
 use Rattle.desk_class.specs.Held.{put_all, ascending}
+use Rattle.desk_class.specs.Marks.{marked_cmp}
 use Rattle.desk_class.proofs.Ascending.{from_contains, to_contains, in_front, in_either, ascending_sorted, in_ascending, from_ascending, is_ascending, put_append}
-use Rattle.desk_graph.specs.Recent.{IsKept, AreRecent}
+use Rattle.desk_graph.specs.Recent.{AreRecent}
 use Rattle.desk_graph.specs.Tables.{texts, holds}
 use Rattle.desk_graph.proofs.Orders.{from_tested}
 use Rattle.desk_graph.proofs.Sets.{holds_is}
@@ -53,12 +56,11 @@ same_name a b e = ap now_of e where
   now_of None = a.now
   now_of (Some x) = x.now
 
--- one more place, at which nothing is kept
-pub recent_none : (xs : List (Option Borrowed)) (test : Text → Bool) → AreRecent xs test → AreRecent (xs ++ nothing ∷ []) test
-recent_none [] test h zero kept e = absurd (none_there kept e)
-recent_none [] test h (suc i) kept e = absurd (none_some kept e)
-recent_none (x ∷ xs) test h zero kept e = h zero kept e
-recent_none (x ∷ xs) test h (suc i) kept e = recent_none xs test (λ j k. h (suc j) k) i kept e
+-- places at which nothing is kept
+pub recent_none : (n : ℕ) (test : Text → Bool) → AreRecent (replicate n nothing) test
+recent_none zero test i kept e = absurd (none_some kept e)
+recent_none (suc n) test zero kept e = absurd (none_there kept e)
+recent_none (suc n) test (suc i) kept e = recent_none n test i kept e
 
 -- one more name is kept, which the set holds
 pub recent_more : (xs : List (Option Borrowed)) (place : ℕ) (name : Borrowed) (old new : Text → Bool) → AreRecent xs old → ((q : Text) → new q ≡ (bytes_eq q name.now || old q)) → AreRecent (slice_set xs place (Some name)) new
@@ -66,6 +68,14 @@ recent_more xs place name old new before held i kept h = elim (set_got xs place 
   | inl there ↦ held kept.now ∙ or_right (bytes_eq kept.now name.now) (old kept.now) (before i kept there)
   | inr e ↦ held kept.now ∙ or_left (bytes_eq kept.now name.now) (old kept.now) ((bytes_eq-Decides kept.now name.now).1 (sym (same_name name kept e)))
 ]
+
+-- another name is put, and none is kept for it
+pub recent_left : (xs : List (Option Borrowed)) (name : Borrowed) (old new : Text → Bool) → AreRecent xs old → ((q : Text) → new q ≡ (bytes_eq q name.now || old q)) → AreRecent xs new
+recent_left xs name old new before held i kept h = held kept.now ∙ or_right (bytes_eq kept.now name.now) (old kept.now) (before i kept h)
+
+-- no name is put
+pub recent_stays : (xs : List (Option Borrowed)) (s n : BTreeSet Text) → n.keys ≡ s.keys → AreRecent xs (holds s) → AreRecent xs (holds n)
+recent_stays xs s n same before i kept h = ap (λ (ks : List Text). list_any (eq_by_cmp marked_cmp kept.now) ks) same ∙ before i kept h
 
 -- ---- a name that is kept
 
@@ -81,8 +91,12 @@ put_there ks t h =
     ))
     ∙ put_append [] ks (t ∷ [])
 
+-- it is a name of the set
+pub recent_there : (set : BTreeSet Text) (recent : List (Option Borrowed)) (place : ℕ) (kept : Borrowed) (t : Text) → AreRecent recent (holds set) → slice_get recent place ≡ Some (Some kept) → kept.now ≡ t → Contains (texts set) t
+recent_there set recent place kept t all there same =
+    let held : holds set t ≡ true = ap (holds set) (sym same) ∙ all place kept there in
+    to_contains (texts set) t (from_tested (texts set) t (sym (holds_is set t) ∙ held))
+
 -- putting it again changes nothing
-pub kept_again : (set : BTreeSet Text) (recent : List (Option Borrowed)) (t : Text) → AreRecent recent (holds set) → IsKept recent t → texts set ≡ put_all (texts set) (t ∷ [])
-kept_again set recent t all k =
-    let held : holds set t ≡ true = ap (holds set) (sym k.same) ∙ all k.place k.kept k.there in
-    put_there set.keys t (from_ascending set.keys t (from_tested (texts set) t (sym (holds_is set t) ∙ held)))
+pub put_again : (set : BTreeSet Text) (t : Text) → Contains (texts set) t → texts set ≡ put_all (texts set) (t ∷ [])
+put_again set t there = put_there set.keys t (from_ascending set.keys t (from_contains (texts set) t there))

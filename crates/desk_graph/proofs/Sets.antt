@@ -21,8 +21,8 @@ use Rattle.desk_packages.proofs.Searched.{in_at, find_nothing}
 use Rattle.desk_graph.specs.Application.{Pair, with_image, meets}
 use Rattle.desk_graph.specs.Tables.{texts, holds, is_name, IsNowhere, IsPlaceOf, HoldsShared, IsKnownBy, meets_known}
 use Rattle.desk_class.specs.Held.{put_all, ascending}
-use Rattle.desk_graph.specs.Marks.{marked_cmp}
-use Rattle.desk_graph.specs.MarkOrder.{same_test, same_of_tie, marked_tie}
+use Rattle.desk_class.specs.Marks.{marked_cmp}
+use Rattle.desk_class.specs.MarkOrder.{same_test, same_of_tie, marked_tie}
 use Rattle.desk_class.proofs.Ascending.{same_sorted, in_front, in_back, in_either, put_append, in_ascending, from_ascending, ascending_sorted, from_contains, to_contains}
 use Rattle.desk_graph.proofs.Orders.{tested, from_tested}
 use Rattle.desk_graph.proofs.Numbering.{less_itself, nowhere_named}

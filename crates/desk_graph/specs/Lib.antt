@@ -1,7 +1,5 @@
 pub mod Application
 pub mod Scans
-pub mod Marks
-pub mod MarkOrder
 pub mod Alike
 pub mod Tables
 pub mod Nodes

@@ -5,7 +5,7 @@ use Rattle.std.specs.List.{list_any}
 use Rattle.std.specs.BTreeSet.{BTreeSet, contains}
 use Rattle.desk_base.specs.Names.{Text}
 use Rattle.desk_class.specs.Held.{ascending}
-use Rattle.desk_graph.specs.Marks.{marked_cmp}
+use Rattle.desk_class.specs.Marks.{marked_cmp}
 use Rattle.desk_graph.specs.Application.{Pair, with_image, defined_names}
 use Rattle.desk_graph.specs.declared.scanned.Scanned.{Scanned}
 

@@ -10,10 +10,10 @@ ghost use Rattle.desk_graph.specs.Nodes.{IsTable, firsts, defined_of};
 ghost use Rattle.desk_graph.specs.Clashes.{clash_pair};
 
 use crate::known::Known;
-use crate::marked::Marked;
 use crate::names::{holds, put};
 use crate::search::place_in;
 use desk_base::Memory;
+use desk_class::Marked;
 use std::alloc::Global;
 use std::collections::BTreeSet;
 

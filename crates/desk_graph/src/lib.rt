@@ -5,8 +5,8 @@
 mod clashes;
 mod graph;
 mod known;
-mod marked;
 mod name;
+mod name_set;
 mod names;
 mod nodes;
 mod scanned;

@@ -5,12 +5,12 @@ ghost use Rattle.desk_graph.specs.Tables.{IsNowhere, IsPlaceOf, as_is, holds, is
 ghost use Rattle.desk_graph.specs.Nodes.{IsTable, firsts, defined_of, nodes_from};
 
 use crate::known::Known;
-use crate::marked::Marked;
 use crate::name::Name;
 use crate::names::{defined_in, holds};
 use crate::scanned::Scanned;
 use crate::search::place_in;
 use desk_base::Memory;
+use desk_class::Marked;
 use std::alloc::Global;
 use std::collections::BTreeSet;
 

@@ -21,7 +21,7 @@ pub use laws::{
     descriptors_have_one_tree, parts_of_descriptors_exchange, parts_of_signatures_exchange,
     signatures_have_one_tree,
 };
-pub use names::{ClassName, cut_name, is_dotted, is_identifier, split_class};
-pub use parts::{DescParts, Part, descriptor_parts, read_descriptor};
+pub use names::{ClassName, is_dotted, is_identifier, split_class};
+pub use parts::{DescParts, Part, read_descriptor};
 pub use signature_parts::{SigParts, read_signature};
 pub use signatures::Which;

@@ -1,4 +1,4 @@
-use Rattle.std.proofs.Common.{ap, sym, subst, ◌≡◌, ◌∙◌, [], ◌∷◌, List, ℕ, take, drop, arith}
+use Rattle.std.proofs.Common.{ap, sym, subst, ◌≡◌, ◌∙◌, [], ◌∷◌, List, ℕ, length, take, drop, arith}
 use Rattle.desk_base.specs.Names.{Text}
 use Rattle.desk_base.specs.Descriptors.{as_is}
 use Rattle.desk_names.specs.declared.parts.Part.{Part}
@@ -33,8 +33,9 @@ loop-part-preserved c =
     let before : List Text = c.args.names.now in
     let all : c.loop-part.part-iterator ≡ Piece.class c.in-Class.name.package.now c.in-Class.name.simple.now ∷ c.next.new.self = c.in-Some.ensures.steps ∙ ap (λ (p : Part). piece_of p ∷ c.next.new.self) c.in-Class.is in
     let f : Front (spelled c.in-Class.name) c.loop-part.rest.now = class_front before c.loop-part.names c.into_iter-part-iterator.result c.next.new.self c.loop-part.part-iterator c.in-Class.name.package.now c.in-Class.name.simple.now c.loop-part.rest.now all c.loop-part.invariant in
-    let whole : c.split_at-in-Class.result.0.now ≡ spelled c.in-Class.name = c.split_at-in-Class.ensures.front ∙ ap (λ (n : ℕ). take n c.loop-part.rest.now) c.length_of.ensures ∙ f.is in
-    subst (Adding before c.into_iter-part-iterator.result c.add.new.self c.next.new.self) (ap (λ (n : ℕ). drop n c.loop-part.rest.now) (sym c.length_of.ensures) ∙ sym c.split_at-in-Class.ensures.back)
+    let long : c.length_of.result ≡ length (spelled c.in-Class.name) = omega (arith, f.within, c.length_of.ensures) in
+    let whole : c.split_at-in-Class.result.0.now ≡ spelled c.in-Class.name = c.split_at-in-Class.ensures.front ∙ ap (λ (n : ℕ). take n c.loop-part.rest.now) long ∙ f.is in
+    subst (Adding before c.into_iter-part-iterator.result c.add.new.self c.next.new.self) (ap (λ (n : ℕ). drop n c.loop-part.rest.now) (sym long) ∙ sym c.split_at-in-Class.ensures.back)
     (adding_class before c.loop-part.names c.add.new.self c.into_iter-part-iterator.result c.next.new.self c.loop-part.part-iterator c.in-Class.name.package.now c.in-Class.name.simple.now c.loop-part.rest.now all
     (c.in_ok-add-in-Class.ensures.ok ∙ ap (λ (t : Text). found_all c.loop-part.names (t ∷ [])) whole) c.loop-part.invariant)
 

@@ -1,6 +1,6 @@
 use Rattle.std.proofs.Common.{rules, ◌≡◌}
 use Rattle.desk_graph.proofs.Sets.{keys_apart, sorted_texts}
-use Rattle.desk_graph.proofs.names.in_order.Goals as goal
+use Rattle.desk_graph.proofs.name_set.list_of.Goals as goal
 
 pub returns : goal.returns
 returns c =
