@@ -70,11 +70,6 @@ reads_tag old new tag room is moved = record {
   refuses = λ us pool check branch kind bad. tagged_faults pool check branch (walk_at us old) tag kind room is bad;
 }
 
-pub tag_selected : {T : Type 0} (result : Result T ReadFault) (spot : Spot) (us vs : List Used) (pool : Pool) (check : Check) (branch : ℕ → Layout) (layout : Layout) (old new : Spot) (tag : ℕ)
-    → ReadsTag old new tag → check tag ≡ None → branch tag ≡ layout → Walks result (walk (read pool layout) (walk_at vs new)) spot us
-    → Walks result (walk (read pool (Layout.tagged check branch)) (walk_at vs old)) spot us
-tag_selected result spot us vs pool check branch layout old new tag t ok is h = rw (t.selects vs pool check branch ok, is) h
-
 pub nothing_selected : (us : List Used) (pool : Pool) (check : Check) (branch : ℕ → Layout) (old new : Spot) (tag : ℕ)
     → ReadsTag old new tag → check tag ≡ None → branch tag ≡ Layout.nothing
     → walk (read pool (Layout.tagged check branch)) (walk_at us old) ≡ Ok (walk_at us new)

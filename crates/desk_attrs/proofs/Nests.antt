@@ -3,7 +3,6 @@ use Rattle.std.proofs.Common.{◌≡◌, ℕ, ◌+◌, ◌<◌, ◌≤◌, List,
 use Rattle.std.specs.Int.{w16, w32, from_be_bytes}
 use Rattle.desk_base.specs.Spot.{Spot, first, past}
 use Rattle.desk_base.specs.Entries.{Pool, text_at, utf8_at, entry_at, utf8_in, text_in, Entry, utf8}
-use Rattle.desk_base.specs.Names.{Text}
 use Rattle.desk_base.specs.declared.kinds.Used.{Used}
 use Rattle.desk_base.specs.declared.kinds.UseKind.TheVariants as kinds
 use Rattle.desk_base.specs.declared.faults.FaultKind.TheVariants as faults
@@ -99,19 +98,10 @@ body_done pool place w us vs spot inner behind new k n at h room is moved reads 
 
 -- ---- the text of a name
 
--- the text at an index that names one
-text_is : (e : Option Entry) (t : Text) → utf8_in e ≡ Some t → text_in e ≡ t
-text_is (Some (utf8 s)) t h = cc
-text_is (Some _) t h = absurd cc
-text_is None t h = absurd cc
-
 no_text_is : (e : Option Entry) → utf8_in e ≡ None → text_in e ≡ []
 no_text_is (Some (utf8 s)) h = absurd cc
 no_text_is (Some _) h = refl
 no_text_is None h = refl
-
-pub named_text : (pool : Pool) (i : ℕ) (t : Text) → utf8_at pool i ≡ Some t → attribute_named t ≡ attribute_named (text_at pool i)
-named_text pool i t h = ap attribute_named (sym (text_is (entry_at pool i) t h))
 
 pub named_none : (pool : Pool) (i : ℕ) → utf8_at pool i ≡ None → attribute_named (text_at pool i) ≡ None
 unfolding attribute_named

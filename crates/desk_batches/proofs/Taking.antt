@@ -18,7 +18,7 @@ use Rattle.desk_file.specs.declared.images.Image.{Image}
 use Rattle.desk_rules.specs.Rules.{Rules}
 use Rattle.desk_folders.specs.Contents.{Contents}
 use Rattle.desk_report.specs.declared.lines.Reason.{Reason}
-use Rattle.desk_readings.proofs.Fronts.{at_some, dropped_all, split_at}
+use Rattle.desk_readings.proofs.Fronts.{at_some, split_at}
 use Rattle.desk_batches.proofs.Steps.{files_after-join, ledger_after-join, one_file_more, one_row_more, stopped_here}
 use Rattle.std.proofs.lemmas.Grind.{common_steps}
 use Rattle.std.proofs.lemmas.List.Sums.{sum_by_push}
@@ -27,10 +27,8 @@ use Rattle.desk_base.specs.Limits.{file_size}
 use Rattle.desk_batches.specs.Turns.{fitting, weight_of, DidWork, HasItsDigest, MovedIn, OneMoved, SourceStays, bytes_of, image_here, image_of_input, input_in, is_migrated, migrated, outcome_of, plan_by, work_by, work_in, work_with, works_in}
 use Rattle.std.proofs.lemmas.List.Elements.{All-cons, All-contains, All-drop, All-map, All-nil, All-tail, All-take}
 use Rattle.std.specs.FinMap as fin
-use Rattle.desk_base.specs.Counts.{Rose}
 use Rattle.desk_ledger.specs.Digests.{digest}
 use Rattle.desk_batches.specs.declared.stops.Stop.{Stop}
-use Rattle.desk_batches.specs.declared.stops.Stop.TheVariants.{Memory, Folders, Ledger as LedgerStop, Moved}
 use Rattle.desk_batches.specs.declared.inputs.Input.{Input}
 use Rattle.desk_batches.specs.declared.noted.Noted.{Noted}
 use Rattle.desk_batches.specs.declared.noted.Way.{Way}
@@ -314,15 +312,6 @@ stopped_first to image from m (x ∷ xs) f f' k k' lt e h = record {
   broken = inl (record { folders = e ∙ no_file to f; ledger = h ∙ no_row k });
 }
 
--- a cause without a call on the ledger
-pub cause_folders : (told : Option Contents) (stop : Stop) (f f' k k' : ℕ) → HasCause told stop f f' 0 0 → HasCause told stop f f' k k'
-cause_folders told Memory f f' k k' h = h
-cause_folders told Folders f f' k k' h = h
-cause_folders told LedgerStop f f' k k' h = absurd (none h) where
-  none : Rose 0 0 → ⊥
-  none r = absurd (grind arith)
-cause_folders told (Moved moved) f f' k k' h = h
-
 -- a part of a list, with the item behind it
 pub range_more : {X : Type 0} (xs : List X) (a b : ℕ) (x : X) → a ≤ b → b < length xs → x ≡ get_or xs b x → slice_range xs a (b + 1) ≡ slice_range xs a b ++ x ∷ []
 range_more xs a b x le lt is =
@@ -370,11 +359,6 @@ fitting_on room x xs fits = ap (λ b. cond b (fitting (room - weight_of x) xs + 
   within : (a b : ℕ) → a ≤ b → nat_le a b ≡ true
   within a b h = grind arith
 
-fitting_off : (room : ℕ) (x : Noted) (xs : List Noted) → room < weight_of x → fitting room (x ∷ xs) ≡ 0
-fitting_off room x xs over = ap (λ b. cond b (fitting (room - weight_of x) xs + 1) 0) (beyond (weight_of x) room over) where
-  beyond : (a b : ℕ) → b < a → nat_le a b ≡ false
-  beyond a b h = grind arith
-
 dropped_at : (xs : List Noted) (i : ℕ) (x : Noted) → i < length xs → x ≡ get_or xs i x → drop i xs ≡ x ∷ drop (i + 1) xs
 dropped_at xs i x lt is = drop_more xs i x lt ∙ ap (λ y. y ∷ drop (i + 1) xs) (sym is)
 
@@ -385,18 +369,6 @@ fits_more xs i room weight new x all lt is w fits n e =
     let here = ap (fitting room) (dropped_at xs i x lt is) ∙ fitting_on room x (drop (i + 1) xs) (omega (arith, w, fits)) in
     let same : fitting (room - weight_of x) (drop (i + 1) xs) ≡ fitting new (drop (i + 1) xs) = ap (λ k. fitting k (drop (i + 1) xs)) (omega (arith, n, w)) in
     omega (arith, here, same, e)
-
--- the next file doesn't fit
-pub fits_none : (xs : List Noted) (i room weight : ℕ) (x : Noted) (all : ℕ) → i < length xs → x ≡ get_or xs i x → weight ≡ weight_of x → room < weight → i + fitting room (drop i xs) ≡ all → i ≡ all
-fits_none xs i room weight x all lt is w over e =
-    let here = ap (fitting room) (dropped_at xs i x lt is) ∙ fitting_off room x (drop (i + 1) xs) (omega (arith, w, over)) in
-    omega (arith, here, e)
-
--- there is no next file
-pub fits_all : (xs : List Noted) (i room all : ℕ) → length xs ≤ i → i + fitting room (drop i xs) ≡ all → i ≡ all
-fits_all xs i room all le e =
-    let here = ap (fitting room) (dropped_all xs i le) in
-    omega (arith, here, e)
 
 keep_file : (to : List ℕ) (image : Text → Text → Result Image Reason) (from : List ℕ) (m n : Contents) (x : Noted) → x.way ≡ Keep → wrote to (work_in image from m x) n ≡ n
 keep_file to image from m n x e = ap (λ w. wrote_plan (full to x.route.target) (plan_by w (bytes_of from m x) (image_here image from m x)) n) e

@@ -1,5 +1,5 @@
 -- Folders of texts.
-use Rattle.std.proofs.Common.{◌≡◌, ℕ, ◌<◌, ◌≤◌, Bool, true, false, cond, ◌||◌, ◌&&◌, eqb, List, [], ◌∷◌, ◌++◌, length, take, get_or, map, refl, sym, ap, ◌∙◌, append_assoc, arith}
+use Rattle.std.proofs.Common.{◌≡◌, ℕ, ◌<◌, Bool, true, false, cond, ◌||◌, ◌&&◌, eqb, List, [], ◌∷◌, ◌++◌, length, take, get_or, map, refl, sym, ap, ◌∙◌, append_assoc, arith}
 use Rattle.std.specs.List.{list_any}
 use Rattle.std.specs.Str.{bytes_eq}
 use Rattle.std.proofs.lemmas.List.{append-nil, map-append}
@@ -37,12 +37,6 @@ bytes_swap [] [] = refl
 bytes_swap [] (y ∷ b) = refl
 bytes_swap (x ∷ a) [] = refl
 bytes_swap (x ∷ a) (y ∷ b) = ap (λ v. v && bytes_eq a b) (eqb_swap x y) ∙ ap (λ v. eqb y x && v) (bytes_swap a b)
-
-pub folder_short : (a b : Text) → length b ≤ length a → is_folder a b ≡ false
-folder_short [] [] h = refl
-folder_short [] (y ∷ b) h = absurd (omega arith)
-folder_short (x ∷ a) [] h = refl
-folder_short (x ∷ a) (y ∷ b) h = ap (λ v. eqb x y && v) (folder_short a b (omega arith)) ∙ and_false (eqb x y)
 
 pub folder_long : (a b : Text) → length a < length b → is_folder a b ≡ (eqb (get_or b (length a) 0) slash && bytes_eq (take (length a) b) a)
 folder_long [] [] h = absurd (omega arith)

@@ -1,5 +1,5 @@
 -- The texts that a class uses have their forms.
-use Rattle.std.proofs.Common.{◌≡◌, ℕ, ◌+◌, ◌<◌, zero, suc, Bool, true, false, cond, ◌&&◌, ◌||◌, ◌==◌, List, [], ◌∷◌, length, get_or, None, Some, Ok, nat_eq, refl, sym, ap, subst, ◌∙◌, arith, if◌then◌else◌}
+use Rattle.std.proofs.Common.{◌≡◌, ℕ, ◌+◌, Bool, true, false, cond, ◌&&◌, ◌||◌, ◌==◌, List, [], ◌∷◌, None, Some, Ok, nat_eq, refl, sym, ap, subst, ◌∙◌, if◌then◌else◌}
 use Rattle.std.specs.List.{AllByRecursion}
 use Rattle.std.specs.Str.{bytes_eq}
 use Rattle.std.proofs.lemmas.Bool.{and_parts, or_left, or_right, or_cases, false_from_ne_true, both_ways, eqb-true}
@@ -220,9 +220,3 @@ is_named t other h = elim (or_cases (is_class_name t) (begins_array t && is_desc
 pub class_named : (t : Text) → is_class_name t ≡ true → names_of roles.Class t ≡ t ∷ []
 unfolding names_of
 class_named t named = ap (λ (b : Bool). if b then t ∷ [] else if begins_array t then descriptor_names t else []) named
-
--- one of a list
-pub all_at : {A : Type 0} (P : A → Type 0) (xs : List A) (i : ℕ) (d : A) → i < length xs → AllByRecursion P xs → P (get_or xs i d)
-all_at P [] i d h all = absurd (omega arith)
-all_at P (x ∷ xs) zero d h all = all.0
-all_at P (x ∷ xs) (suc i) d h all = all_at P xs i d (omega arith) all.1

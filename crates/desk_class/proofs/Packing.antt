@@ -1,7 +1,7 @@
 -- Texts that stand one behind the other in one block.
-use Rattle.std.proofs.Common.{◌≡◌, ℕ, zero, suc, ◌+◌, ◌-◌, ◌<◌, ◌≤◌, List, [], ◌∷◌, ◌++◌, length, take, drop, get_or, refl, sym, ap, ap₂, subst, ◌∙◌, append_assoc, append-nil, map, arith}
+use Rattle.std.proofs.Common.{◌≡◌, ℕ, zero, suc, ◌+◌, ◌-◌, ◌<◌, ◌≤◌, List, [], ◌∷◌, ◌++◌, length, take, drop, get_or, refl, sym, ap, ap₂, subst, ◌∙◌, append_assoc, map, arith}
 use Rattle.std.proofs.Math.Seq.{drop-append_seam, take-length, drop-cons}
-use Rattle.std.proofs.lemmas.List.{take-append-le, drop-append-le, length-append, length-drop, get_or_default, drop_all}
+use Rattle.std.proofs.lemmas.List.{take-append-le, drop-append-le, length-append, length-drop, get_or_default}
 use Rattle.desk_base.specs.Names.{Text}
 use Rattle.desk_class.specs.Packed.{cut_at, AreEnds}
 
@@ -112,8 +112,3 @@ pub spelled_more : {A : Type 0} (f : A → Text) (xs : List A) (i : ℕ) (d : A)
     → Packing (map f xs) (i + 1) bytes' ends'
 spelled_more f xs i d bytes bytes' ends ends' h b e p =
     packed_more (map f xs) i (f (get_or xs i d)) bytes bytes' ends ends' (omega (arith, length_map f xs)) (get_map f xs i d (f (get_or xs i d)) h) b e p
-
--- after all of them
-pub packed_all : {A : Type 0} (f : A → Text) (xs : List A) (i : ℕ) (bytes : Text) (ends : List ℕ) → length xs ≤ i → Packing (map f xs) i bytes ends → cut_at bytes 0 ends ≡ map f xs
-packed_all f xs i bytes ends h p =
-    sym (append-nil (cut_at bytes 0 ends)) ∙ ap (λ (ts : List Text). cut_at bytes 0 ends ++ ts) (sym (drop_all i (map f xs) (omega (arith, length_map f xs)))) ∙ p.texts

@@ -1,12 +1,11 @@
 -- Twins among members that are looked at one after the other.
-use Rattle.std.proofs.Common.{◌≡◌, ◌<◌, ◌≤◌, ◌+◌, length, take, drop, get_or, add-one, drop-cons, Bool, true, false, cond, ◌&&◌, ◌||◌, not, List, [], ◌∷◌, ◌++◌, ℕ, Option, Some, None, option_map, refl, sym, ap, ap₂, ◌∙◌, bytes_eq, nat_eq, arith}
+use Rattle.std.proofs.Common.{◌≡◌, ◌<◌, ◌+◌, length, take, drop, get_or, add-one, drop-cons, Bool, true, false, cond, ◌&&◌, ◌||◌, not, List, [], ◌∷◌, ◌++◌, ℕ, Option, Some, None, option_map, refl, sym, ap, ap₂, ◌∙◌, bytes_eq, nat_eq, arith}
 use Rattle.std.specs.List.{find, list_any}
 use Rattle.std.specs.Ordering.{nat_cmp, is_eq, ordering_then, bool_cmp}
 use Rattle.std.specs.declared.cmp.Ordering.{Ordering}
 use Rattle.std.specs.declared.cmp.Ordering.TheVariants as orders
 use Rattle.std.specs.BTreeSet.{BTreeSet, contains, Updates}
 use Rattle.std.proofs.Math.Seq.{take-suc}
-use Rattle.std.proofs.lemmas.List.{drop_all}
 use Rattle.std.proofs.lemmas.Bool.Decides.{nat_tests}
 use Rattle.std.proofs.lemmas.Slice.Eq.{bytes_eq-Decides}
 use Rattle.desk_base.specs.Names.{Text}
@@ -251,6 +250,3 @@ module _ (entries : Pool) (ms : List Member) (i : ℕ) (e : Member) (x y : TextN
             ap (λ (before : List Member). twins_behind (named_in entries) before (drop (i + 1) ms)) more
             ∙ none_here (named_in entries) (take i ms) (drop (i + 1) ms) (get_or ms i e) (first_twins (named_in entries) ms) (sym found_is ∙ was_new new _ added fresh) so_far;
       }
-
-pub seen_all : (entries : Pool) (ms : List Member) (i : ℕ) (x : TextNumbers) (s : BTreeSet Key) → length ms ≤ i → Seen entries ms i x s → first_twins (named_in entries) ms ≡ None
-seen_all entries ms i x s h seen = sym seen.rest ∙ ap (twins_behind (named_in entries) (take i ms)) (drop_all i ms h)

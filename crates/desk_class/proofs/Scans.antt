@@ -53,11 +53,6 @@ pub row_scans : (pool : Pool) (a b : Layout) (s s' : Scan) → scan (read pool a
 unfolding read
 row_scans pool a b s s' h = scans_on (read pool a) (read pool b) s s' h
 
-pub row_scanned : {T : Type 0} (result : Result T ReadFault) (spot : Spot) (us : List Used) (ms : List Member) (pool : Pool) (a b : Layout) (s s' : Scan) → scan (read pool a) s ≡ Ok s'
-    → Scans result (scan (read pool b) s') spot us ms → Scans result (scan (read pool (Layout.row a b)) s) spot us ms
-unfolding read
-row_scanned result spot us ms pool a b s s' h k = rw (scans_on (read pool a) (read pool b) s s' h) k
-
 pub row_scan_stopped : (e : ReadFault) (pool : Pool) (a b : Layout) (s : Scan) → Stops e (scan (read pool a) s) → Stops e (scan (read pool (Layout.row a b)) s)
 unfolding read
 row_scan_stopped e pool a b s h = part_stops e _ _ h (λ f k. scans_err (read pool a) (read pool b) s f k)

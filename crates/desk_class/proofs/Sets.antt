@@ -2,7 +2,7 @@
 use Rattle.std.proofs.Common.{◌≡◌, ℕ, ◌+◌, ◌<◌, ◌≤◌, length, take, drop, get_or, Option, arith, drop-cons, add-one, Bool, true, false, ◌||◌, List, [], ◌∷◌, ◌++◌, refl, sym, ap, ap₂, subst, ◌∙◌, ◌⊎◌, inl, inr, Some, slice_get}
 use Rattle.std.specs.Ordering.{nat_cmp, eq_by_cmp}
 use Rattle.std.specs.Cmp.Lexicographic.{slice_cmp}
-use Rattle.std.proofs.lemmas.List.{drop_all, length-append, take-append-le}
+use Rattle.std.proofs.lemmas.List.{length-append, take-append-le}
 use Rattle.std.proofs.Math.Seq.{drop-append_seam, take-length}
 use Rattle.desk_base.specs.Names.{Text}
 use Rattle.desk_base.specs.declared.kinds.Role.{Role}
@@ -89,9 +89,6 @@ holding_more pool us i d n n' lt more h =
     ap (λ (xs : List Text). found_all xs (held_by pool (drop (i + 1) us))) more
     ∙ sym (found_append n names (held_by pool (drop (i + 1) us)))
     ∙ ap (λ (vs : List Used). found_all n (held_by pool vs)) (sym next) ∙ h
-
-pub holding_all : (pool : Pool) (us : List Used) (i : ℕ) (n : List Text) → length us ≤ i → Holding pool us i n → n ≡ each_once (held_by pool us)
-holding_all pool us i n le h = ap (λ (vs : List Used). found_all n (held_by pool vs)) (sym (drop_all i us le)) ∙ h
 
 -- ---- texts that were looked at
 

@@ -119,15 +119,7 @@ pub other_name : (a b : Bool) → b ≡ false → (a && b) ≡ false
 other_name true b e = e
 other_name false b e = refl
 
--- nothing is left to look at
-pub told_through : (ms : List ℕ) (ts : List Text) (k : ℕ) (q : Text) (i : ℕ) → length ms ≤ i → is_told (drop i ms) (drop i ts) k q ≡ is_told ms ts k q → false ≡ is_told ms ts k q
-told_through ms ts k q i le before = ap (λ (xs : List ℕ). is_told xs (drop i ts) k q) (sym (drop_all i ms le)) ∙ before
-
 -- ---- a name that is added
-
--- no name
-pub none_found : (set : BTreeSet Text) → set.keys ≡ [] → AreFound [] set
-none_found set e q = ap (list_any (λ t. is_eq (marked_cmp q t))) e
 
 -- a name that was there
 name_stays : (names : List Text) (s n : BTreeSet Text) → n.keys ≡ s.keys → AreFound names s → AreFound names n

@@ -44,9 +44,6 @@ scan_err us ms (Err e) f h = record { failed = e; reads = refl; is = cc }
 
 -- ---- the class up to a part
 
-abbrev pub Header : List ℕ → Version → ℕ → List ℕ → Type 0
-Header bytes v at s = header_read 0 bytes ≡ Ok (got v at s)
-
 pub header_fault : (bytes : List ℕ) (f : Malformed) → header_read 0 bytes ≡ Err f → class_fault bytes ≡ Some f
 unfolding read_class
 header_fault bytes f h = ap (λ (r : Result (Read Version) Malformed). fault_in (checked_class (then_read r (λ v. λ at s. then_read (read_pool at s) (behind_pool v))))) h

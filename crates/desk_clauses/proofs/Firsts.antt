@@ -1,12 +1,12 @@
 -- Parts, read one by one.
-use Rattle.std.proofs.Common.{◌≡◌, ◌<◌, ◌≤◌, ◌+◌, ℕ, zero, suc, Bool, true, false, cond, not, ◌&&◌, ◌==◌, List, [], ◌∷◌, ◌++◌, length, take, drop, Option, Some, None, refl, sym, ap, ap₂, ◌∙◌, arith, append-nil, append_assoc, length-append, map, ◌-◌, nat_lt, length-drop}
+use Rattle.std.proofs.Common.{◌≡◌, ◌<◌, ◌≤◌, ◌+◌, ℕ, zero, suc, Bool, true, false, cond, not, ◌&&◌, ◌==◌, List, [], ◌∷◌, ◌++◌, length, take, drop, Option, Some, None, refl, sym, ap, ap₂, ◌∙◌, arith, append-nil, append_assoc, map, ◌-◌, nat_lt, length-drop}
 use Rattle.std.specs.List.{list_all}
 use Rattle.std.proofs.lemmas.Bool.{and_parts, and_from, not-true, eqb-true, ltb-true, lt-ltb}
 use Rattle.desk_base.specs.Names.{Text, is_empty}
 use Rattle.desk_lines.specs.Blanks.{trimmed}
 use Rattle.desk_clauses.specs.Quotes.{next, is_outside, before_mark, from_mark, cut, onto_first}
 use Rattle.desk_clauses.specs.Grammar.{is_parameter, are_parts, is_clause, parts}
-use Rattle.desk_clauses.specs.Cuts.{parts_of, behind, IsFirst, IsFirstPart}
+use Rattle.desk_clauses.specs.Cuts.{parts_of, behind, IsFirstPart}
 use Rattle.desk_clauses.specs.declared.quotes.Quoting.{Quoting}
 use Rattle.desk_clauses.specs.declared.quotes.Quoting.TheVariants.{Outside, Quoted, Escaped}
 
@@ -14,12 +14,6 @@ use Rattle.desk_clauses.specs.declared.quotes.Quoting.TheVariants.{Outside, Quot
 abbrev pub left : Option Text → ℕ
 left None = 0
 left (Some t) = suc (length t)
-
-pub left_less : (cutter : Text → List Text) (mark : ℕ) (text part : Text) (more : Option Text) → IsFirst cutter mark text part more → left more < suc (length text)
-left_less cutter mark text part None k = omega arith
-left_less cutter mark text part (Some t) k =
-    let size : length text ≡ length part + suc (length t) = ap length k.whole ∙ length-append part (mark ∷ t) in
-    omega (arith, size)
 
 -- whether parts may stand behind a path, or behind a parameter
 abbrev pub may_stand : Bool → List Text → Bool

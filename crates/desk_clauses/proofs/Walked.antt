@@ -1,5 +1,5 @@
 -- A text, gone over part by part, each exchanged for its image.
-use Rattle.std.proofs.Common.{◌≡◌, ◌≢◌, ◌≤◌, ◌<◌, ◌+◌, ◌-◌, ℕ, zero, suc, Bool, true, false, cond, ◌&&◌, ◌==◌, [], ◌∷◌, ◌++◌, List, length, take, drop, map, Option, Some, None, refl, sym, ap, ap₂, subst, ◌∙◌, arith, append_assoc, append-nil, length-append}
+use Rattle.std.proofs.Common.{◌≡◌, ◌≢◌, ◌≤◌, ◌<◌, ◌+◌, ◌-◌, ℕ, zero, suc, Bool, true, false, cond, ◌&&◌, ◌==◌, [], ◌∷◌, ◌++◌, List, length, take, drop, map, Option, Some, None, refl, sym, ap, ap₂, ◌∙◌, arith, append_assoc, append-nil, length-append}
 use Rattle.std.specs.Prelude.{MatchOption, unwrap_or}
 use Rattle.std.specs.List.{slice_split, onto_first as onto}
 use Rattle.std.proofs.lemmas.List.{drop-drop, take_at, drop_at}
@@ -57,15 +57,6 @@ abbrev pub IsGone : (Text → List Text) → ℕ → (Text → Text) → Text �
 IsGone cutter mark f text edits from None = IsOver cutter mark f text edits
 IsGone cutter mark f text edits from (Some t) = IsAhead cutter mark f text edits from t
 
-pub gone_none : (cutter : Text → List Text) (mark : ℕ) (f : Text → Text) (text : Text) (edits : Edits) → edits.copied ≡ 0 → edits.image ≡ [] → IsGone cutter mark f text edits 0 (Some text)
-gone_none cutter mark f text edits copied image = record {
-  copied = omega arith;
-  place = omega arith;
-  ahead = refl;
-  same = ap (λ (t : Text). (t ++ take (0 - edits.copied) (drop edits.copied text)) ++ imaged cutter mark f text) image
-      ∙ ap (λ (n : ℕ). take (0 - n) (drop n text) ++ imaged cutter mark f text) copied;
-}
-
 -- the part at the front of what is left
 pub record AtPart (text : Text) (from to : ℕ) (part : Text) : Type 0 where
   pub inside : to ≤ length text
@@ -120,7 +111,3 @@ gone_on cutter mark f text edits new from to after t part image r filled k first
 pub one_part : (cutter : Text → List Text) (mark : ℕ) (f : Text → Text) (text : Text) (edits new : Edits) (from to after : ℕ) (t part image : Text) (more : Option Text) → ((s : Text) → is_empty (cutter s) ≡ false) → IsAhead cutter mark f text edits from t → IsFirst cutter mark t part more → to ≡ from + length part → after ≡ to + 1 → IsEdited text edits new from to image → image ≡ f part → IsGone cutter mark f text new after more
 one_part cutter mark f text edits new from to after t part image None filled k first to_is after_is e image_is = gone_last cutter mark f text edits new from to t part image k first to_is e image_is
 one_part cutter mark f text edits new from to after t part image (Some r) filled k first to_is after_is e image_is = gone_on cutter mark f text edits new from to after t part image r filled k first to_is after_is e image_is
-
--- the answer for the whole text
-pub answered : (text image whole : Text) (answer : Option Text) → whole ≡ image → MatchOption answer (whole ≡ text) (λ (t : Text). (t ≡ whole) × (whole ≢ text)) → MatchOption answer (image ≡ text) (λ (t : Text). (t ≡ image) × (image ≢ text))
-answered text image whole answer same h = subst (λ (i : Text). MatchOption answer (i ≡ text) (λ (t : Text). (t ≡ i) × (i ≢ text))) same h

@@ -23,9 +23,6 @@ pub record IsCutTo (text : Text) (parts : Package) (from i : ℕ) : Type 0 where
   pub cut : parts ++ parts_of (drop from text) ≡ parts_of text
   pub clear : is_whole 46 (take (i - from) (drop from text)) ≡ true
 
-pub cut_start : (text : Text) → IsCutTo text [] 0 0
-cut_start text = record { order = omega arith; cut = refl; clear = refl }
-
 rest_at : (text : Text) (from i : ℕ) → from ≤ i → i < length text → drop from text ≡ take (i - from) (drop from text) ++ get_or text i 0 ∷ drop (i + 1) text
 rest_at text from i order within =
     let there : from + (i - from) ≡ i = omega arith in

@@ -130,10 +130,6 @@ all_sorted : (k : Text) (es : List (Text × Text)) → T (below_all (slice_cmp n
 all_sorted k [] h = tt
 all_sorted k (e ∷ es) h = let both = both_pass _ _ h in (less_from _ both.0, all_sorted k es both.1)
 
-T-from : (b : Bool) → b ≡ true → T b
-T-from true e = tt
-T-from false e = absurd (cc)
-
 both_T : (a b : Bool) → T (a && b) → T a × T b
 both_T true b h = (tt, h)
 both_T false b h = absurd h

@@ -71,9 +71,6 @@ first_paths root n es got m h e same = e ∙ ap (take n) (sym (paths_ordered roo
 pub listed_paths : (root : Text) (most : ℕ) (got : List Text) (m : Contents) → got ≡ take (most + 1) (paths_below root m) → IsListing most (paths_below root m) got
 listed_paths root most got m e = subst (IsListing most (paths_below root m)) (sym e) (listing most (paths_below root m))
 
-pub listed_few : (most : ℕ) (all got : List Text) → got ≡ take (most + 1) all → length got ≤ most + 1
-listed_few most all got e = grind (arith, common_steps, e)
-
 pub listed_rise : (root : Text) (n : ℕ) (got : List Text) (m : Contents) → got ≡ take n (paths_below root m) → IsStrictlySortedBy (slice_cmp nat_cmp) got
 listed_rise root n got m e = subst (IsStrictlySortedBy (slice_cmp nat_cmp)) (sym e) (rising_take n _ (paths_below-rise root m))
 

@@ -5,8 +5,7 @@ use Rattle.std.specs.List.{filter_map, cons_option, list_any}
 use Rattle.std.specs.Ordering.{nat_cmp, eq_by_cmp, is_eq}
 use Rattle.std.specs.Cmp.Lexicographic.{slice_cmp}
 use Rattle.std.proofs.lemmas.Cmp.{nat_list_cmp_total, tied_itself}
-use Rattle.std.specs.Cmp.{eq_by_cmp_equiv}
-use Rattle.std.proofs.lemmas.Map.Views.{list_any-from_Contains, Contains-from_any}
+use Rattle.std.proofs.lemmas.Map.Views.{Contains-from_any}
 use Rattle.std.specs.FinMap as fin
 use Rattle.std.specs.FinMap.{slice_cmp-IsAntisymmetric, nat_cmp-IsAntisymmetric}
 use Rattle.std.specs.declared.cmp.Ordering.{Ordering}
@@ -63,15 +62,6 @@ any_below root p (k ∷ ks) = at (below root k) refl (any_below root p ks) where
 -- the same of contents
 pub any_path : (root p : Text) (m : Contents) → list_any (same_text p) (paths_below root m) ≡ (is_relative_path p && is_some (fin.get m (full root p)))
 any_path root p m = any_below root p (fin.keys m) ∙ ap (λ b. is_relative_path p && b) (sym (fin.contains_key-keys m (full root p)))
-
-both : (a b : Bool) → (a && b) ≡ true → (a ≡ true) × (b ≡ true)
-both true true e = (refl, refl)
-both true false e = absurd (cc)
-both false b e = absurd (cc)
-
--- a path below a root is relative, and its full path is there
-pub path_below-is : (root p : Text) (m : Contents) → Contains (paths_below root m) p → (is_relative_path p ≡ true) × IsSome (fin.get m (full root p))
-path_below-is root p m h = both _ _ (sym (any_path root p m) ∙ list_any-from_Contains (eq_by_cmp_equiv nat_list_cmp_total) p (paths_below root m) h)
 
 -- a relative path whose full path is there stands below the root
 pub path_below-of : (root p : Text) (m : Contents) → is_relative_path p ≡ true → IsSome (fin.get m (full root p)) → Contains (paths_below root m) p

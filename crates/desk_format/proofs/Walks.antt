@@ -7,9 +7,9 @@ use Rattle.desk_base.specs.declared.faults.FaultKind.TheVariants as faults
 use Rattle.desk_base.specs.declared.kinds.Used.{Used}
 use Rattle.desk_format.specs.Trees.{Tree, Use, uses}
 use Rattle.desk_format.specs.Layouts.{Layout, Check, any}
-use Rattle.desk_format.specs.Reading.{marked, member_at, Got, Failed, Reader, index_at, raw_at, attribute_at, name_of, behind, number_at, nothing_at, and_then, times, fenced, fence_fault, read, value_of}
+use Rattle.desk_format.specs.Reading.{Got, Failed, Reader, index_at, raw_at, attribute_at, name_of, behind, number_at, nothing_at, and_then, times, fenced, fence_fault, read, value_of}
 use Rattle.desk_base.specs.Spot.{Spot}
-use Rattle.desk_format.specs.Walk.{Walks, Walk, walked, walk, Stops, fault_in_fence}
+use Rattle.desk_format.specs.Walk.{Walks, Walk, walked, walk, Stops}
 use Rattle.desk_format.specs.Rows.{slot_layout, row_layout}
 use Rattle.desk_base.specs.Entries.{Pool, text_at}
 use Rattle.desk_base.specs.Misfits.{misfit}
@@ -197,29 +197,6 @@ length_stops pool body w w' e named h =
     use_walks pool kinds.AttrName (λ name. and_then (number_at w32 any) (λ t. fenced (value_of w32 t) (body (value_of w32 t) (name_of pool name)))) w w' named
     ∙ then_fails (number_at w32 any) (λ t. fenced (value_of w32 t) (body (value_of w32 t) (text_at pool (from_be_bytes w16 (take 2 w.left))))) w' e h
 
--- An attribute whose name and length were walked, and whose body lies within what is left.
-pub record Header (pool : Pool) (body : ℕ → List ℕ → Reader) (w w'' : Walk) (i n : ℕ) : Type 0 where
-  pub is : walk (attribute_at pool body) w ≡ walk (fenced n (body n (text_at pool i))) w''
-  pub room : n ≤ length w''.left
-
-abbrev pub inside : ℕ → Walk → Walk
-inside n w = record { uses = w.uses; at = w.at; left = take n w.left }
-
-pub attribute_stops : (pool : Pool) (body : ℕ → List ℕ → Reader) (w w'' : Walk) (i n length_at : ℕ) (e : ReadFault) (us : List Used) → Header pool body w w'' i n → w''.at ≡ length_at + 4
-    → Stops e (walk (body n (text_at pool i)) (inside n w'')) us → Stops (fault_in_fence (length_at + 4) e) (walk (attribute_at pool body) w) us
-attribute_stops pool body w w'' i n length_at (read_faults.Malformed f) us h place inner =
-    h.is ∙ fence_stops n (body n (text_at pool i)) w'' _ h.room inner ∙ ap (λ (at : ℕ). Err (record { fault = fence_fault at f; before = us })) place
-attribute_stops pool body w w'' i n length_at read_faults.Memory us h place inner = tt
-
-pub attribute_left : (pool : Pool) (body : ℕ → List ℕ → Reader) (w w'' w' : Walk) (i n length_at : ℕ) → Header pool body w w'' i n → w''.at ≡ length_at + 4
-    → walk (body n (text_at pool i)) (inside n w'') ≡ Ok w' → 0 < length w'.left → walk (attribute_at pool body) w ≡ Err (record { fault = record { kind = faults.AttributeLength; at = length_at }; before = w'.uses })
-attribute_left pool body w w'' w' i n length_at h place inner more =
-    h.is ∙ fence_left n (body n (text_at pool i)) w'' w' h.room inner more ∙ ap (λ (at : ℕ). Err (record { fault = record { kind = faults.AttributeLength; at = at }; before = w'.uses })) (omega (arith, place))
-
-pub attribute_done : (pool : Pool) (body : ℕ → List ℕ → Reader) (w w'' w' : Walk) (i n : ℕ) → Header pool body w w'' i n
-    → walk (body n (text_at pool i)) (inside n w'') ≡ Ok w' → length w'.left ≡ 0 → walk (attribute_at pool body) w ≡ Ok (record { uses = w'.uses; at = w''.at + n; left = drop n w''.left })
-attribute_done pool body w w'' w' i n h inner none = h.is ∙ fence_walks n (body n (text_at pool i)) w'' w' h.room inner none
-
 -- ---- two layouts, one behind the other
 
 pub row_walks : (pool : Pool) (a b : Layout) (w w' : Walk) → walk (read pool a) w ≡ Ok w' → walk (read pool (Layout.row a b)) w ≡ walk (read pool b) w'
@@ -283,17 +260,6 @@ attributes_stop pool body w e h = then_fails (number_at w16 any) (λ t. times (v
 
 -- ---- the same for the tactics: a walk goes on, or stops
 
-abbrev pub onward : Result Walk Failed → (Walk → Result Walk Failed) → Result Walk Failed
-onward (Ok w) next = next w
-onward (Err e) next = Err e
-
-row_is_case : (pool : Pool) (a b : Layout) (w : Walk) (r : Result Walk Failed) → walk (read pool a) w ≡ r → walk (read pool (Layout.row a b)) w ≡ onward r (walk (read pool b))
-row_is_case pool a b w (Ok w') h = row_walks pool a b w w' h
-row_is_case pool a b w (Err e) h = row_fails pool a b w e h
-
-pub row_is : (pool : Pool) (a b : Layout) (w : Walk) → walk (read pool (Layout.row a b)) w ≡ onward (walk (read pool a) w) (walk (read pool b))
-row_is pool a b w = row_is_case pool a b w (walk (read pool a) w) refl
-
 pub row_walked : {T : Type 0} (result : Result T ReadFault) (spot : Spot) (us : List Used) (pool : Pool) (a b : Layout) (w w' : Walk) → walk (read pool a) w ≡ Ok w' → Walks result (walk (read pool b) w') spot us → Walks result (walk (read pool (Layout.row a b)) w) spot us
 row_walked result spot us pool a b w w' h k = rw (row_walks pool a b w w' h) k
 
@@ -315,25 +281,6 @@ times_stopped e us reader n i w total h so_far k = stops e _ _ us k (λ f p. tim
 
 -- ---- a tag and what it selects, for the tactics
 
-pub tagged_walked : {T : Type 0} (result : Result T ReadFault) (spot : Spot) (us : List Used) (pool : Pool) (check : Check) (branch : ℕ → Layout) (w : Walk) (tag : ℕ) → 1 ≤ length w.left → tag ≡ from_be_bytes w8 (take 1 w.left)
-    → check tag ≡ None → Walks result (walk (read pool (branch tag)) (record { uses = w.uses; at = w.at + 1; left = drop 1 w.left })) spot us → Walks result (walk (read pool (Layout.tagged check branch)) w) spot us
-tagged_walked result spot us pool check branch w tag room is ok h = rw (tagged_walks pool check branch w tag room is ok) h
-
-pub tagged_faulted : (pool : Pool) (check : Check) (branch : ℕ → Layout) (w : Walk) (tag : ℕ) (kind : FaultKind) → 1 ≤ length w.left → tag ≡ from_be_bytes w8 (take 1 w.left) → check tag ≡ Some kind
-    → Stops (read_faults.Malformed (record { kind = kind; at = w.at })) (walk (read pool (Layout.tagged check branch)) w) w.uses
-tagged_faulted pool check branch w tag kind room is bad = tagged_faults pool check branch w tag kind room is bad
-
 pub tagged_truncated : (pool : Pool) (check : Check) (branch : ℕ → Layout) (w : Walk) → length w.left < 1
     → Stops (read_faults.Malformed (record { kind = faults.Truncated; at = w.at })) (walk (read pool (Layout.tagged check branch)) w) w.uses
 tagged_truncated pool check branch w short = tagged_short pool check branch w short
-
--- ---- a field or method
-
-marked-walked : (us : List Used) (r : Result Got Failed) → walked us (marked r) ≡ walked us r
-marked-walked us (Ok got) = refl
-marked-walked us (Err e) = refl
-
--- a mark hands over what stands in it
-pub member_walks : (pool : Pool) (each : Layout) (w : Walk) → walk (read pool (Layout.member each)) w ≡ walk (read pool each) w
-unfolding walk read member_at
-member_walks pool each w = marked-walked w.uses (read pool each w.at w.left)

@@ -1,13 +1,10 @@
 -- Applications that are told alike.
-use Rattle.std.proofs.Common.{◌≡◌, ℕ, zero, suc, ◌<◌, true, List, [], ◌∷◌, ◌++◌, length, get_or, if◌then◌else◌, refl, sym, ap, ap₂, ◌∙◌, arith}
+use Rattle.std.proofs.Common.{◌≡◌, ℕ, zero, suc, ◌<◌, true, List, [], ◌∷◌, ◌++◌, length, get_or, if◌then◌else◌, sym, ap, ap₂, ◌∙◌, arith}
 use Rattle.std.proofs.Math.ListN.{set}
 use Rattle.desk_base.specs.Names.{Text}
 use Rattle.desk_graph.specs.Application.{Pair, defined_names, names_in, names, stranded_at, stranded_among}
 use Rattle.desk_graph.specs.Alike.{AreAlike}
 use Rattle.desk_graph.specs.declared.scanned.Scanned.{Scanned}
-
-pub itself : (xs : List Scanned) → AreAlike xs xs
-itself xs = record { names = refl; defined = refl; stranded = λ f defined. refl }
 
 pub joined : (xs ys zs : List Scanned) → AreAlike xs ys → AreAlike ys zs → AreAlike xs zs
 joined xs ys zs a b = record {

@@ -13,12 +13,11 @@ use Rattle.std.proofs.lemmas.List.{length-map, map-append, take_more}
 use Rattle.std.proofs.lemmas.Map.Text.{is_eq-slice_cmp}
 use Rattle.std.proofs.lemmas.Slice.Eq.{bytes_eq-Decides}
 use Rattle.desk_base.specs.Names.{Text}
-use Rattle.desk_base.specs.Paths.{full}
-use Rattle.desk_folders.specs.Contents.{Contents, File, IsListing, bytes_at, file_at, files_below, paths_below}
+use Rattle.desk_folders.specs.Contents.{Contents, File, IsListing, file_at, files_below, paths_below}
 use Rattle.desk_base.specs.Counts.{Rose-earlier}
 use Rattle.desk_ledger.specs.Digests.{HasTaken}
 use Rattle.desk_report.specs.declared.status.Status.{Status}
-use Rattle.desk_report.specs.declared.status.LimitKind.TheVariants.{RuleFiles, RuleSize}
+use Rattle.desk_report.specs.declared.status.LimitKind.TheVariants.{RuleFiles}
 use Rattle.desk_report.specs.declared.status.Status.TheVariants.{Done, Refusals, Memory, FolderFault, LedgerFault, OutputFault, Usage, NestedRoots, BadRules, Limit, PathClash, NameClash, Stranded, OtherRun, Moved}
 use Rattle.desk_rules.specs.Files.{Files}
 use Rattle.desk_rules.specs.RuleFiles.{rules_of_files}
@@ -27,14 +26,13 @@ use Rattle.desk_intake.specs.declared.rules.Ruled.{Ruled}
 use Rattle.desk_intake.specs.declared.rules.Taken.{Taken}
 use Rattle.desk_intake.specs.declared.halts.Halt.{Halt}
 use Rattle.desk_intake.specs.declared.halts.Halt.TheVariants as halt
-use Rattle.desk_readings.specs.Sizes.{within}
-use Rattle.desk_intake.specs.Limits.{most_rule_files, rule_size, rule_size_answer}
+use Rattle.desk_intake.specs.Limits.{most_rule_files, rule_size_answer}
 use Rattle.desk_intake.specs.Rulings.{adding_files, named_files, digest_entry, with_digest, ruled, ruled_by}
 use Rattle.desk_intake.specs.RuleFolders.{Takes, HasTakenAll, Free}
 use Rattle.desk_intake.specs.Apart.{AllApart, Misses}
 use Rattle.desk_intake.specs.Halts.{HaltsTakingOne, HaltsTaking, HaltsAtRules, HaltsBuilding}
 use Rattle.desk_readings.proofs.Fronts.{at_some, if_some, dropped_all, taken_all}
-use Rattle.desk_intake.proofs.Sizes.{within_none, rule_large, rule_fits, is_more, not_more}
+use Rattle.desk_intake.proofs.Sizes.{rule_fits, not_more}
 
 -- names in order differ
 less_differs : (x y : Text) → slice_cmp nat_cmp x y ≡ Less → x ≢ y
@@ -103,15 +101,6 @@ digest_more root m names i name old new lt is t h =
     ∙ ap (λ e. flat_map digest_entry (map (file_at root m) (take i names)) ++ e) (append-nil (digest_entry (file_at root m name)))))
     (t.digest _ h)
 
--- a rule file that is too large
-pub halts_large : (root path : Text) (told now : Option Contents) (f f' : ℕ) (text : Option Text) (h : Halt) → now ≡ told → IfSome told (λ m. text ≡ within rule_size (bytes_at m (full root path))) → text ≡ None
-    → h ≡ halt.Answer (Limit RuleSize path) → HaltsTakingOne root path told f f' h
-halts_large root path told now f f' text h same whole none e = subst (HaltsTakingOne root path told f f') (sym e) (
-  refl,
-  if_some _ told (λ m t more. rule_large (file_at root m path) more
-      (within_none rule_size (bytes_at m (full root path)) (sym none ∙ at_some (λ m. text ≡ within rule_size (bytes_at m (full root path))) told m t whole))),
-)
-
 -- where one of them halts
 pub halts_taking : (root : Text) (names : List Text) (i : ℕ) (name : Text) (told now : Option Contents) (f f1 f' : ℕ) (h : Halt) → f ≤ f1 → now ≡ told → i < length names → name ≡ get_or names i name
     → ((m : Contents) → told ≡ Some m → rule_size_answer (map (file_at root m) (drop i names)) ≡ rule_size_answer (files_below root m))
@@ -136,39 +125,6 @@ ruled_taken root m taken t few =
 listed_few : (root : Text) (m : Contents) (paths : List Text) → IsListing most_rule_files (paths_below root m) paths → length paths ≤ most_rule_files → (paths ≡ paths_below root m) × (length (paths_below root m) ≤ most_rule_files)
 listed_few root m paths (inl all) few = (all.1, all.0)
 listed_few root m paths (inr many) few = absurd (let k = many.1 in omega arith)
-
-listed_many : (root : Text) (m : Contents) (paths : List Text) → IsListing most_rule_files (paths_below root m) paths → most_rule_files < length paths → most_rule_files < length (paths_below root m)
-listed_many root m paths (inl all) many = absurd (let k = ap length all.1 in let n = all.0 in omega arith)
-listed_many root m paths (inr more) many = more.0
-
-pub rules_listed : (root : Text) (told : Option Contents) (paths : List Text) → IfSome told (λ m. IsListing most_rule_files (paths_below root m) paths) → length paths ≤ most_rule_files → IfSome told (λ m. paths ≡ paths_below root m)
-rules_listed root told paths listed few = if_some _ told (λ m t. (listed_few root m paths (at_some (λ m. IsListing most_rule_files (paths_below root m) paths) told m t listed) few).0)
-
--- too many rule files
-pub halts_many : (root : Text) (told : Option Contents) (paths : List Text) (f f' : ℕ) (h : Halt) → IfSome told (λ m. IsListing most_rule_files (paths_below root m) paths) → most_rule_files < length paths
-    → h ≡ halt.Answer (Limit RuleFiles root) → HaltsAtRules root told f f' h
-halts_many root told paths f f' h listed many e = subst (HaltsAtRules root told f f') (sym e) (
-  refl,
-  if_some _ told (λ m t.
-      let over = listed_many root m paths (at_some (λ m. IsListing most_rule_files (paths_below root m) paths) told m t listed) many in
-      let count : nat_lt most_rule_files (length (files_below root m)) ≡ true = is_more most_rule_files _ (subst (λ n. most_rule_files < n) (sym (length-map (paths_below root m) (file_at root m))) over) in
-      ap (λ o. ruled_by o (files_below root m)) (ap (λ b. if b then Some (Limit RuleFiles root) else rule_size_answer (files_below root m)) count)),
-)
-
--- one that is too large
-pub halts_taken : (root : Text) (told now : Option Contents) (paths : List Text) (f f1 f' : ℕ) (h : Halt) → f ≤ f1 → now ≡ told → IfSome told (λ m. IsListing most_rule_files (paths_below root m) paths) → length paths ≤ most_rule_files
-    → HaltsTaking root now f1 f' h → HaltsAtRules root told f f' h
-halts_taken root told now paths f f1 f' halt.Memory le same listed few g = tt
-halts_taken root told now paths f f1 f' halt.Folders le same listed few g = Rose-earlier f f1 f' le g
-halts_taken root told now paths f f1 f' halt.Ledger le same listed few g = absurd g
-halts_taken root told now paths f f1 f' (halt.Answer status) le same listed few g = (
-  g.0,
-  if_some _ told (λ m t.
-      let below = listed_few root m paths (at_some (λ m. IsListing most_rule_files (paths_below root m) paths) told m t listed) few in
-      let count : nat_lt most_rule_files (length (files_below root m)) ≡ false = not_more most_rule_files _ (subst (λ n. n ≤ most_rule_files) (sym (length-map (paths_below root m) (file_at root m))) below.1) in
-      ap (λ o. ruled_by o (files_below root m)) (ap (λ b. if b then Some (Limit RuleFiles root) else rule_size_answer (files_below root m)) count
-      ∙ at_some (λ m. rule_size_answer (files_below root m) ≡ Some status) now m (same ∙ t) g.1)),
-)
 
 -- the rules that are built of what was taken in
 pub built_ok : (root : Text) (told now : Option Contents) (paths : List Text) (taken : Taken) (r : Result (Box Ruled Global) Halt) → now ≡ told → IfSome told (λ m. IsListing most_rule_files (paths_below root m) paths) → length paths ≤ most_rule_files

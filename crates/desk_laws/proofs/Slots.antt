@@ -4,7 +4,7 @@ use Rattle.std.proofs.lemmas.List.{get_or_append_left, drop_at, map-append, leng
 use Rattle.desk_base.specs.declared.kinds.Tag.{Tag}
 use Rattle.desk_base.specs.declared.kinds.Used.{Used}
 use Rattle.desk_base.specs.Entries.{Entry, utf8, class, tag_of}
-use Rattle.desk_base.specs.Entries.{Pool, entry_at, tag_at, text_in}
+use Rattle.desk_base.specs.Entries.{Pool, entry_at, tag_at}
 use Rattle.desk_format.specs.Resolved.{Images}
 use Rattle.desk_format.specs.Split.{Want, kept_entry, kept, missing_texts, entry_of, split}
 use Rattle.desk_format.specs.NewPool.{Choice, wants, with_texts, new_texts, choice, new_pool, added}
@@ -34,11 +34,6 @@ entry_at-split ws pool (suc j) le =
     get_or_append_left (kept ws 1 pool) (map entry_of (missing_texts ws pool)) None j inside
     ∙ kept-at ws 1 pool j
     ∙ ap (λ (i : ℕ). option_map (kept_entry ws i) (get_or pool j None)) (omega arith)
-
-text_in-with : (g : Choice) (o : Option Entry) → text_in (option_map (with_texts g) o) ≡ text_in o
-text_in-with g None = refl
-text_in-with g (Some (utf8 t)) = refl
-text_in-with g (Some _) = refl
 
 tag_of-with : (g : Choice) (e : Entry) → tag_of (with_texts g e) ≡ tag_of e
 tag_of-with g (class i) = refl

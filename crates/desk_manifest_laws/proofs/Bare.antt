@@ -103,10 +103,6 @@ marks_onto mark b [] = refl
 marks_onto mark b (p ∷ []) = refl
 marks_onto mark b (p ∷ q ∷ ps) = refl
 
-marks_new : (mark : ℕ) (ps : List Text) → is_empty ps ≡ false → with_marks mark ([] ∷ ps) ≡ mark ∷ with_marks mark ps
-marks_new mark [] h = absurd cc
-marks_new mark (p ∷ ps) h = refl
-
 onto_filled : (b : ℕ) (ps : List Text) → is_empty (onto_first b ps) ≡ false
 onto_filled b [] = refl
 onto_filled b (p ∷ ps) = refl
@@ -117,14 +113,6 @@ cut_filled mark at (b ∷ t) = elim (is_outside at && b == mark) as (λ (c : Boo
   | true ↦ refl
   | false ↦ onto_filled b (cut mark (next at b) t)
 ]
-
--- a text is its parts with the marks between them
-pub marks-cut : (mark : ℕ) (at : Quoting) (t : Text) → with_marks mark (cut mark at t) ≡ t
-marks-cut mark at [] = refl
-marks-cut mark at (b ∷ t) = elim (is_outside at && b == mark) as (λ (c : Bool). (is_outside at && b == mark) ≡ c → with_marks mark (cond c ([] ∷ cut mark at t) (onto_first b (cut mark (next at b) t))) ≡ b ∷ t) [
-  | true ↦ λ e. marks_new mark (cut mark at t) (cut_filled mark at t) ∙ ap₂ (λ (x : ℕ) (s : Text). x ∷ s) (sym (eqb-true b mark (and_parts _ _ e).1)) (marks-cut mark at t)
-  | false ↦ λ e. marks_onto mark b (cut mark (next at b) t) ∙ ap (λ (s : Text). b ∷ s) (marks-cut mark (next at b) t)
-] refl
 
 marked : (mark : ℕ) (at : Quoting) (more : Text) → is_outside at ≡ true → cut mark at (mark ∷ more) ≡ [] ∷ cut mark at more
 marked mark at more h = ap (λ (c : Bool). cond c ([] ∷ cut mark at more) (onto_first mark (cut mark (next at mark) more))) (and_from _ _ h (eq-eqb mark mark refl))

@@ -1,14 +1,14 @@
 -- Texts that are too long, from the last use to the first.
-use Rattle.std.proofs.Common.{◌≡◌, ℕ, ◌+◌, ◌-◌, ◌<◌, ◌≤◌, ◌^◌, Bool, true, false, cond, ◌||◌, List, ◌∷◌, length, get_or, drop, min, Option, Some, None, refl, ap, sym, ◌∙◌, nat_eq, ltb, subst, All, arith}
+use Rattle.std.proofs.Common.{◌≡◌, ℕ, ◌+◌, ◌-◌, ◌<◌, ◌≤◌, ◌^◌, Bool, true, false, cond, ◌||◌, List, ◌∷◌, length, get_or, drop, Option, Some, None, refl, ap, sym, ◌∙◌, nat_eq, subst, All, arith}
 use denote.Ref.{Bor}
 use Rattle.std.proofs.lemmas.List.{drop_more}
-use Rattle.std.proofs.lemmas.Bool.{ne_eqb, eq-eqb, ltb-true, ltb-false, le-ltb}
+use Rattle.std.proofs.lemmas.Bool.{le-ltb}
 use Rattle.desk_base.specs.Names.{Text}
 use Rattle.desk_base.specs.Entries.{Pool, text_at}
 use Rattle.desk_format.specs.Split.{Want, wanted}
 use Rattle.desk_format.specs.NewClass.{is_long, any_long}
 use Rattle.desk_new_pool.specs.Wants.{image_or, image_is_long, want_of, wants_of, IsWanted}
-use Rattle.desk_new_pool.specs.Refusals.{lesser, IsLeastLong}
+use Rattle.desk_new_pool.specs.Refusals.{IsLeastLong}
 use Rattle.desk_new_pool.specs.declared.wants.WantedText.{WantedText}
 
 -- ---- one use before the others
@@ -27,36 +27,9 @@ short_here false c h = refl
 any_short : (j : ℕ) (w : Want) (ws : List Want) → is_long w.text ≡ false → any_long (wanted j (w ∷ ws)) ≡ any_long (wanted j ws)
 any_short j w ws h = any_at j w ws ∙ ap (λ (b : Bool). b || any_long (wanted j ws)) (short_here (nat_eq w.index j) (is_long w.text) h)
 
-any_here : (w : Want) (ws : List Want) → is_long w.text ≡ true → any_long (wanted w.index (w ∷ ws)) ≡ true
-any_here w ws h = any_at w.index w ws ∙ ap (λ (b : Bool). cond b (is_long w.text) false || any_long (wanted w.index ws)) (eq-eqb w.index w.index refl) ∙ ap (λ (b : Bool). b || any_long (wanted w.index ws)) h
-
-any_other : (j : ℕ) (w : Want) (ws : List Want) → (w.index ≡ j → ⊥) → any_long (wanted j (w ∷ ws)) ≡ any_long (wanted j ws)
-any_other j w ws ne = any_at j w ws ∙ ap (λ (b : Bool). cond b (is_long w.text) false || any_long (wanted j ws)) (ne_eqb w.index j ne)
-
-any_more : (j : ℕ) (w : Want) (ws : List Want) → any_long (wanted j ws) ≡ true → any_long (wanted j (w ∷ ws)) ≡ true
-any_more j w ws h = any_at j w ws ∙ ap (λ (b : Bool). cond (nat_eq w.index j) (is_long w.text) false || b) h ∙ or_true (cond (nat_eq w.index j) (is_long w.text) false) where
-  or_true : (a : Bool) → (a || true) ≡ true
-  or_true true = refl
-  or_true false = refl
-
 pub least_short : (w : Want) (ws : List Want) (o : Option ℕ) → is_long w.text ≡ false → IsLeastLong ws o → IsLeastLong (w ∷ ws) o
 least_short w ws None h k = λ i. any_short i w ws h ∙ k i
 least_short w ws (Some i) h k = (any_short i w ws h ∙ k.0, λ j lt. any_short j w ws h ∙ k.1 j lt)
-
-below_both : (w : Want) (ws : List Want) (i j : ℕ) → any_long (wanted i ws) ≡ true → ((m : ℕ) → m < i → any_long (wanted m ws) ≡ false) → is_long w.text ≡ true → (b : Bool) → ltb i w.index ≡ b
-    → IsLeastLong (w ∷ ws) (Some (min i w.index))
-below_both w ws i j here below h true p =
-    let lt : i < w.index = ltb-true i w.index p in
-    let is : min i w.index ≡ i = omega arith in
-    subst (λ (n : ℕ). IsLeastLong (w ∷ ws) (Some n)) (sym is) (any_more i w ws here, λ m less. any_other m w ws (λ e. absurd (omega arith)) ∙ below m less)
-below_both w ws i j here below h false p =
-    let le : w.index ≤ i = ltb-false i w.index p in
-    let is : min i w.index ≡ w.index = omega arith in
-    subst (λ (n : ℕ). IsLeastLong (w ∷ ws) (Some n)) (sym is) (any_here w ws h, λ m less. any_other m w ws (λ e. absurd (omega arith)) ∙ below m (omega arith))
-
-pub least_longer : (w : Want) (ws : List Want) (o : Option ℕ) → is_long w.text ≡ true → IsLeastLong ws o → IsLeastLong (w ∷ ws) (Some (lesser o w.index))
-least_longer w ws None h k = (any_here w ws h, λ j lt. any_other j w ws (λ e. absurd (omega arith)) ∙ k j)
-least_longer w ws (Some i) h k = below_both w ws i i k.0 k.1 h (ltb i w.index) refl
 
 -- ---- the image of a use
 
@@ -76,8 +49,3 @@ pub long_passed : (pool : Pool) (ws : List WantedText) (p : ℕ) (d : WantedText
     → IsLeastLong (wants_of pool (drop p ws)) o → IsLeastLong (wants_of pool (drop (p - 1) ws)) o
 long_passed pool ws p d o pos le all h k =
     subst (λ (l : List WantedText). IsLeastLong (wants_of pool l) o) (sym (from_one ws p d pos le)) (least_short (want_of pool (get_or ws (p - 1) d)) (wants_of pool (drop p ws)) o (long_want pool (get_or ws (p - 1) d) (all (p - 1) d (omega arith)) ∙ h) k)
-
-pub long_met : (pool : Pool) (ws : List WantedText) (p : ℕ) (d : WantedText) (o : Option ℕ) → 0 < p → p ≤ length ws → All (IsWanted pool) ws → image_is_long (get_or ws (p - 1) d).image ≡ true
-    → IsLeastLong (wants_of pool (drop p ws)) o → IsLeastLong (wants_of pool (drop (p - 1) ws)) (Some (lesser o (get_or ws (p - 1) d).used.index))
-long_met pool ws p d o pos le all h k =
-    subst (λ (l : List WantedText). IsLeastLong (wants_of pool l) (Some (lesser o (get_or ws (p - 1) d).used.index))) (sym (from_one ws p d pos le)) (least_longer (want_of pool (get_or ws (p - 1) d)) (wants_of pool (drop p ws)) o (long_want pool (get_or ws (p - 1) d) (all (p - 1) d (omega arith)) ∙ h) k)

@@ -4,7 +4,6 @@ use denote.Ref.{Bor}
 use Rattle.std.specs.Option.{is_some, option_copied}
 use Rattle.std.proofs.lemmas.List.{drop_more, take_at, drop_at, append_assoc, length-append}
 use Rattle.desk_base.specs.declared.kinds.Tag.{Tag}
-use Rattle.desk_base.specs.declared.kinds.Tag.TheVariants as tags
 use Rattle.desk_base.specs.Names.{Text}
 use Rattle.desk_base.specs.Entries.{Entry, utf8, integer, float, long, double, class, string, fieldref, methodref, interface_methodref, name_and_type, method_handle, method_type, dynamic, invoke_dynamic, module_named, package_named, tag_of, Pool, entry_at, tag_at, utf8_in, text_at, text_in}
 use Rattle.desk_format.specs.PoolBytes.{two, print_entry, print_slots}
@@ -73,9 +72,6 @@ short_in (Some _) h = omega arith
 pub short_at : (pool : Pool) (i : ℕ) → IsShaped false pool → length (text_at pool i) < 2 ^ 16
 short_at pool i shaped = short_in (entry_at pool i) (λ e h. sound_at false pool i e shaped h)
 
-pub not_empty : (e : Entry) → 0 < length (print_entry e)
-not_empty e = omega arith
-
 pub left_at : (pool : Pool) (i : ℕ) (e : Entry) (left more : List ℕ) → i < suc (length pool) → entry_at pool i ≡ Some e → left ≡ print_slots (drop i (None ∷ pool)) ++ more → left ≡ print_entry e ++ (print_slots (drop (i + 1) (None ∷ pool)) ++ more)
 left_at pool i e left more lt is h = h ∙ ap (λ (l : Pool). print_slots l ++ more) (rest_at pool i (Some e) lt is) ∙ append_assoc (print_entry e) (print_slots (drop (i + 1) (None ∷ pool))) more
 
@@ -115,9 +111,6 @@ renewed_two k n d bytes [] h = absurd (omega arith)
 renewed_two k n d bytes (m ∷ []) h = absurd (omega arith)
 renewed_two k n d bytes (m ∷ (p ∷ ns)) h = refl
 
-same_bytes : (bytes : List ℕ) (ns : List ℕ) → bytes ≡ renewed_bytes bytes None (take 0 ns)
-same_bytes bytes ns = refl
-
 new_text : (own : Text) (o : Option Text) (ns : List ℕ) → is_some o ≡ true → print_entry (put_entry o ns (utf8 own)) ≡ renewed_bytes (print_entry (utf8 own)) o (take 0 ns)
 new_text own None ns h = absurd cc
 new_text own (Some t) ns h = refl
@@ -143,25 +136,6 @@ new_entry (dynamic n i) o ns h le = with_none (dynamic n i) o ns (others (dynami
 new_entry (invoke_dynamic n i) o ns h le = with_none (invoke_dynamic n i) o ns (others (invoke_dynamic n i) o h refl) refl
 new_entry (module_named i) o ns h le = with_none (module_named i) o ns (others (module_named i) o h refl) (renewed_one 19 i (two i) ns le)
 new_entry (package_named i) o ns h le = with_none (package_named i) o ns (others (package_named i) o h refl) (renewed_one 20 i (two i) ns le)
-
-pub few_named : (tag : Tag) → named_texts tag ≤ 2
-few_named tags.Utf8 = omega arith
-few_named tags.Integer = omega arith
-few_named tags.Float = omega arith
-few_named tags.Long = omega arith
-few_named tags.Double = omega arith
-few_named tags.Class = omega arith
-few_named tags.String = omega arith
-few_named tags.Fieldref = omega arith
-few_named tags.Methodref = omega arith
-few_named tags.InterfaceMethodref = omega arith
-few_named tags.NameAndType = omega arith
-few_named tags.MethodHandle = omega arith
-few_named tags.MethodType = omega arith
-few_named tags.Dynamic = omega arith
-few_named tags.InvokeDynamic = omega arith
-few_named tags.Module = omega arith
-few_named tags.Package = omega arith
 
 -- ---- one entry written
 

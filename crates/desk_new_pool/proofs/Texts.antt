@@ -10,13 +10,9 @@ use Rattle.desk_format.specs.Split.{Want, wanted, holds, keep, kept}
 use Rattle.desk_laws.proofs.Slots.{length-kept, in_range}
 use Rattle.desk_new_pool.specs.Keeps.{Keeps, TextsAre}
 use Rattle.desk_new_pool.specs.declared.keeps.Keep.{Keep}
-use Rattle.desk_new_pool.specs.declared.keeps.Keep.TheVariants as keeps
 use Rattle.desk_new_pool.proofs.Wanted.{kept_text_at}
 
 -- ---- what a state says of the text that is kept
-
-pub keep_unused : (own : Text) (ts : List Text) → ts ≡ [] → keep own ts ≡ own
-keep_unused own ts e = rw e refl
 
 own_first : (own : Text) (ts : List Text) → holds ts own ≡ true → keep own ts ≡ own
 own_first own [] h = absurd cc
@@ -24,12 +20,6 @@ own_first own (t ∷ ts) h = rw h refl
 
 pub keep_own : (own : Text) (ts : List Text) → holds ts own ≡ true → keep own ts ≡ own
 keep_own own ts h = own_first own ts h
-
-image_first : (own t : Text) (ts rest : List Text) → holds ts own ≡ false → ts ≡ t ∷ rest → keep own ts ≡ t
-image_first own t ts rest h e = let no : holds (t ∷ rest) own ≡ false = rw e at h in rw e (rw no refl)
-
-pub keep_image : (own : Text) (ts : List Text) (t : Bor Text) → Keeps own ts (keeps.Image t) → keep own ts ≡ t.now
-keep_image own ts t h = image_first own t.now ts h.1.0 h.0 h.1.1
 
 in_entry : (o : Option Entry) → text_in o ≡ unwrap_or (utf8_in o) []
 in_entry None = refl

@@ -54,10 +54,6 @@ own_wanted ts own = holds-push ts own own ∙ ap (λ (b : Bool). holds ts own ||
 pub own_stays : (ts : List Text) (t own : Text) → holds ts own ≡ true → holds (ts ++ t ∷ []) own ≡ true
 own_stays ts t own h = holds-push ts t own ∙ ap (λ (b : Bool). b || bytes_eq t own) h
 
--- the first use, which wants another text
-pub first_image : (ts : List Text) (own : Text) (t : Bor Text) → ts ≡ [] → t.now ≢ own → Keeps own (ts ++ t.now ∷ []) (keeps.Image t)
-first_image ts own t none ne = rw none (or_false (bytes_eq t.now own) false (other t.now own ne) refl, ([], refl))
-
 -- a later use, which wants another text too
 pub image_stays : (ts : List Text) (own t : Text) (s : Bor Text) → Keeps own ts (keeps.Image s) → t ≢ own → Keeps own (ts ++ t ∷ []) (keeps.Image s)
 image_stays ts own t s h ne =
@@ -94,9 +90,6 @@ kept_text_at ws pool (suc i) = text_at_slot ws pool i
 
 pub after_none : (own : Text) (ts : List Text) (image : Option (Bor Text)) → image ≡ None → holds (ts ++ image_or own image ∷ []) own ≡ true
 after_none own ts image e = rw e (own_wanted ts own)
-
-pub after_unused : (own : Text) (ts : List Text) (image : Option (Bor Text)) (t : Bor Text) (k : Keep) → image ≡ Some t → k ≡ keeps.Unused → Differs own image → Keeps own ts k → Keeps own (ts ++ image_or own image ∷ []) (keeps.Image t)
-after_unused own ts image t k e is d h = rw e (first_image ts own t (rw is at h) (rw e at d))
 
 pub after_own : (own : Text) (ts : List Text) (image : Option (Bor Text)) (k : Keep) → k ≡ keeps.Own → Keeps own ts k → holds (ts ++ image_or own image ∷ []) own ≡ true
 after_own own ts image k is h = own_stays ts (image_or own image) own (rw is at h)

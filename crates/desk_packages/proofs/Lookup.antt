@@ -1,5 +1,5 @@
 -- A rename is found by the bytes of a path as it is picked for the path's package.
-use Rattle.std.proofs.Common.{◌≡◌, ◌<◌, ◌≤◌, ◌+◌, ◌-◌, ℕ, Bool, true, false, cond, not, ◌&&◌, ◌==◌, List, [], ◌∷◌, ◌++◌, length, take, drop, get_or, Option, Some, None, nat_lt, refl, sym, ap, ◌∙◌, ◌⊎◌, inl, inr, arith, length-append}
+use Rattle.std.proofs.Common.{◌≡◌, ◌<◌, ◌≤◌, ◌+◌, ◌-◌, ℕ, Bool, true, false, cond, not, ◌&&◌, ◌==◌, List, [], ◌∷◌, ◌++◌, length, take, drop, Option, Some, None, nat_lt, refl, sym, ap, ◌∙◌, ◌⊎◌, inl, inr, arith, length-append}
 use Rattle.std.specs.List.{list_all, slice_split, Contains}
 use Rattle.std.proofs.lemmas.Bool.{and_parts, and_from, both_ways, cases_lt, ltb-true, ltb-false}
 use Rattle.std.proofs.lemmas.Slice.Eq.{bytes_eq-Decides}
@@ -263,16 +263,3 @@ module _ (rs : List Renaming) (table : IsTable rs) (s : ℕ) (h : is_separator s
             | [] ↦ λ e. sym (append-nil b) ∙ sym e
             | y ∷ ys ↦ λ e. absurd (omega (arith, ap length e, length-append b (y ∷ ys)))
           ] (l.1)
-
--- at a place where a segment ends, what is found there and what is not
-pub ends_found : (rs : List Renaming) (s : ℕ) (path : Text) (n : ℕ) → EndsAt s path n → (r : Renaming) → IsSource rs s (take n path) true r → EndsBelow rs s path n r
-ends_found rs s path n ends r found =
-    let parts = and_parts _ _ found.is in
-    record { there = found.there; below = parts.0; spelled = (bytes_eq-Decides (written s r.source) (take n path)).0 parts.1; ends = ends }
-
-pub none_ends_missing : (rs : List Renaming) (s : ℕ) (path : Text) (n : ℕ) → NoSource rs s (take n path) true → NoneEnds rs s path n
-none_ends_missing rs s path n none r at =
-    none r record { there = at.there; is = and_from _ _ at.below ((bytes_eq-Decides (written s r.source) (take n path)).1 at.spelled) }
-
-pub none_ends_inside : (rs : List Renaming) (s : ℕ) (path : Text) (n : ℕ) → n < length path → (get_or path n 0 ≡ s → ⊥) → NoneEnds rs s path n
-none_ends_inside rs s path n within other r at = elim (at.ends) [ inl all ↦ omega arith | inr cut ↦ other cut.1 ]

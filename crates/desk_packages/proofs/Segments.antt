@@ -1,7 +1,7 @@
 -- Texts cut at a separator.
-use Rattle.std.proofs.Common.{◌≡◌, ◌<◌, ◌+◌, ℕ, Bool, true, false, cond, ◌==◌, [], ◌∷◌, ◌++◌, length, take, drop, get_or, refl, sym, ap, ◌∙◌, inl, inr, arith}
+use Rattle.std.proofs.Common.{◌≡◌, ◌<◌, ◌+◌, ℕ, Bool, true, false, cond, ◌==◌, [], ◌∷◌, ◌++◌, length, take, drop, refl, sym, ap, ◌∙◌, inl, inr, arith}
 use Rattle.std.specs.List.{list_all, slice_split, onto_first}
-use Rattle.std.proofs.lemmas.Bool.{and_parts, and_from, not_from_false, ne_eqb, eq-eqb, both_ways}
+use Rattle.std.proofs.lemmas.Bool.{and_parts, and_from, not_from_false, eq-eqb, both_ways}
 use Rattle.std.proofs.lemmas.List.{take-append-drop, drop_more}
 use Rattle.std.proofs.lemmas.List.Splits.{slice_split_at, slice_split_none, slice_split-cons_yes, slice_split-cons_no, length-slice_split}
 use Rattle.desk_base.specs.Names.{Text, Package, segments, front, is_name, is_whole}
@@ -56,10 +56,6 @@ whole_parts s (b ∷ text) h = ap front (whole_alone s b text h)
 pub front_parts : (s : ℕ) (part : Text → Bool) → part [] ≡ false → (text : Text) (n : ℕ) → is_name part s text ≡ true → IsFrontEnd s text n → front (segments s text) ≡ segments s (take n text)
 front_parts s part filled text n named (inl cut) = ap front (parts_last s part filled text n named cut) ∙ front-push (segments s (take n text)) (drop (n + 1) text)
 front_parts s part filled text n named (inr none) = whole_parts s text none.1 ∙ ap (λ (m : ℕ). segments s (take m text)) (sym none.0)
-
--- one more byte that is no separator
-pub whole_more : (s : ℕ) (text : Text) (n : ℕ) → n < length text → (get_or text n 0 ≡ s → ⊥) → is_whole s (drop (n + 1) text) ≡ true → is_whole s (drop n text) ≡ true
-whole_more s text n within other h = ap (is_whole s) (drop_more text n 0 within) ∙ and_from _ _ (not_from_false _ (ne_eqb (get_or text n 0) s other)) h
 
 onto_whole : (s b : ℕ) (ps : Package) → (b == s) ≡ false → list_all (is_whole s) ps ≡ true → list_all (is_whole s) (onto_first b ps) ≡ true
 onto_whole s b [] e h = and_from _ _ (and_from _ _ (not_from_false _ e) refl) refl

@@ -2,11 +2,11 @@
 use Rattle.std.proofs.Common.{◌≡◌, ℕ, zero, suc, Bool, true, false, cond, not, ◌&&◌, ◌||◌, ◌==◌, List, [], ◌∷◌, ◌++◌, length, take, drop, codes, refl, sym, ap, ◌∙◌, arith}
 use Rattle.std.specs.List.{list_all, ends_with}
 use Rattle.std.specs.Str.{bytes_eq}
-use Rattle.std.proofs.lemmas.Bool.{and_parts, or_parts, or_from, and_left, and_right, both_ways, false_from_ne_true, not-true}
+use Rattle.std.proofs.lemmas.Bool.{and_parts, or_parts, or_from, and_left, and_right, both_ways, false_from_ne_true}
 use Rattle.std.proofs.lemmas.Slice.Eq.{bytes_eq-Decides, ends_is}
 use Rattle.std.proofs.lemmas.Bool.Decides.{Decides-eqb}
 use Rattle.std.proofs.lemmas.List.Folds.{list_all-append}
-use Rattle.desk_base.specs.Names.{Text, Package, is_empty, is_identifier, is_identifier_byte, is_digit}
+use Rattle.desk_base.specs.Names.{Text, Package, is_empty, is_identifier, is_identifier_byte}
 use Rattle.desk_paths.specs.Paths.{is_archive, has_classes, is_number, ends_root, root_count}
 
 -- the two folders that stand before what follows
@@ -99,10 +99,6 @@ no_archive t h =
     (or_from (ends_with ◌==◌ t (codes ".jar")) (ends_with ◌==◌ t (codes ".war")) (no_suffix t 46 (codes "jar") refl h) (no_suffix t 46 (codes "war") refl h))
     (no_suffix t 46 (codes "ear") refl h))
     (no_suffix t 46 (codes "rar") refl h)
-
-pub no_number : (t : Text) → is_identifier t ≡ true → is_number t ≡ false
-no_number [] h = refl
-no_number (b ∷ t) h = and_left (is_digit b) (list_all is_digit t) (not-true (is_digit b) (and_parts (not (is_digit b)) (list_all is_identifier_byte (b ∷ t)) h).0)
 
 -- a text that is no identifier is none
 other_than : (t u : Text) → is_identifier u ≡ false → is_identifier t ≡ true → bytes_eq t u ≡ false

@@ -73,17 +73,6 @@ rest_at text from i order within =
     sym (take-append-drop (i - from) (drop from text))
     ∙ ap (λ (t : Text). take (i - from) (drop from text) ++ t) (drop-drop (i - from) from text ∙ ap (λ (n : ℕ). drop n text) there ∙ drop_more text i 0 within)
 
-pub walked_none : (path : Text) (w : Walk) → w.earlier.now ≡ [] → w.before.now ≡ [] → w.rest_at ≡ 0 → w.file_at ≡ 0 → IsWalked path w 0
-walked_none path w e b r f = record {
-  seen = [];
-  cut = ap (λ (n : ℕ). parts (drop n path)) (sym f);
-  last = λ k. (sym e k, sym b k);
-  file_is = f;
-  rest_is = r;
-  order = omega arith;
-  clear = ap (λ (n : ℕ). is_whole slash (take (0 - n) (drop n path))) f;
-}
-
 pub walked_on : (path : Text) (w : Walk) (i : ℕ) → IsWalked path w i → i < length path → (get_or path i 0 ≡ slash → ⊥) → IsWalked path w (i + 1)
 walked_on path w i so_far within other =
     let from = w.file_at in

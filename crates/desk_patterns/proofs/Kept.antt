@@ -4,8 +4,7 @@ use Rattle.std.specs.declared.cmp.Ordering.{Ordering}
 use Rattle.std.specs.Ordering.{nat_cmp, is_gt}
 use Rattle.std.specs.Cmp.Lexicographic.{slice_cmp}
 use Rattle.std.proofs.lemmas.Bool.{both_ways, cases_Bool, cases_lt}
-use Rattle.std.proofs.lemmas.List.{get_or-drop, length-set, length-replicate}
-use Rattle.std.proofs.Common.{replicate}
+use Rattle.std.proofs.lemmas.List.{get_or-drop, length-set}
 use Rattle.desk_base.specs.Names.{Text}
 use Rattle.desk_patterns.specs.TextRules.{TextRule, longest, source_at, StandsBehind}
 use Rattle.desk_patterns.specs.Tables.{starts, is_behind, last_start, first_byte, IsTable, IsTextTable}
@@ -14,7 +13,7 @@ use Rattle.desk_patterns.specs.FirstBytes.{is_first, NoneFirst}
 use Rattle.desk_patterns.specs.declared.text_rules.TextRule.{TextRule as KeptRule}
 use Rattle.desk_patterns.proofs.Lists.{seen_more, seen_there, map_length, length_more}
 use Rattle.desk_patterns.proofs.Starts.{start_byte}
-use Rattle.desk_patterns.proofs.Tables.{last_skips, longest_none, target_at, table_none, table_more, source_kept, source_added}
+use Rattle.desk_patterns.proofs.Tables.{last_skips, longest_none, target_at, table_more, source_kept, source_added}
 use Rattle.desk_patterns.proofs.FirstBytes.{first_kept}
 
 pub seen_length : (items : List KeptRule) → length (rules_seen items) ≡ length items
@@ -52,13 +51,6 @@ no_hit rules shorter firsts text k so gone =
 
 pub no_hits : (rules : List TextRule) (shorter : List ℕ) (firsts : List Bool) (text : Text) (from to : ℕ) → IsTextTable rules shorter firsts → NoneFirst firsts text from to → NoHits rules text from to
 no_hits rules shorter firsts text from to so none k l r = no_hit rules shorter firsts text k so (none k l r)
-
-pub text_table_none : (firsts : List Bool) → firsts ≡ replicate 256 false → IsTextTable [] [] firsts
-text_table_none firsts e = record {
-  table = table_none;
-  firsts_count = ap length e ∙ length-replicate {A = Bool} 256 false;
-  firsts_are = λ place h. absurd (omega arith);
-}
 
 front_byte : (t : Text) → t ≢ [] → slice_index t 0 ≡ first_byte t
 front_byte [] h = absurd (h refl)

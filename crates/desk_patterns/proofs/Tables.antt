@@ -79,14 +79,6 @@ cut_down rules text low high middle rising cut above below h = record {
   ];
 }
 
-pub cut_none : (rules : List TextRule) (text : Text) → IsCut rules text 0 (length rules)
-cut_none rules text = record {
-  order = omega arith;
-  within = omega arith;
-  before = λ k l. absurd (omega arith);
-  behind = λ k l r. absurd (omega arith);
-}
-
 -- sources behind a text don't start it
 pub last_of_cut : (text : Text) (rules : List TextRule) (n : ℕ) → IsCut rules text n n → last_start text rules (length rules) ≡ last_start text rules n
 last_of_cut text rules n cut = last_skips text rules n (length rules) cut.within (λ k l r. elim (cases_Bool (starts text (source_at rules k))) [
@@ -218,14 +210,6 @@ last_kept text rules last (suc n) h =
 filled : (s : Text) → s ≢ [] → is_empty s ≡ false
 filled [] h = absurd (h refl)
 filled (b ∷ s) h = refl
-
-pub table_none : IsTable [] []
-table_none = record {
-  sources = λ place h. absurd (omega arith);
-  rising = λ i j h k. absurd (omega arith);
-  shorter_count = refl;
-  shorter_are = λ place h. absurd (omega arith);
-}
 
 pub table_more : (rules : List TextRule) (shorter : List ℕ) (source target : Text) (last : ℕ) → IsTable rules shorter → source ≢ [] → StandsBehind rules source → last ≡ last_start source rules (length rules) → IsTable (rules ++ (source, target) ∷ []) (shorter ++ last ∷ [])
 table_more rules shorter source target last table some behind e =

@@ -1,5 +1,5 @@
 -- Escapes within a key or a value, as they are written.
-use Rattle.std.proofs.Common.{◌≡◌, ℕ, ◌+◌, ◌*◌, zero, suc, Bool, true, false, cond, ◌==◌, ◌||◌, [], ◌∷◌, ◌++◌, drop, Option, Some, None, Result, Ok, Err, refl, sym, ap, subst, ◌∙◌, append_assoc, append-nil}
+use Rattle.std.proofs.Common.{◌≡◌, ℕ, ◌+◌, ◌*◌, zero, suc, Bool, true, false, cond, ◌==◌, ◌||◌, [], ◌∷◌, drop, Option, Some, None, Result, Ok, Err, refl, sym, ap, subst, ◌∙◌, append-nil}
 use Rattle.std.proofs.lemmas.Bool.{eqb-true}
 use Rattle.std.specs.Prelude.{encode_utf8}
 use Rattle.desk_base.specs.Names.{Text}
@@ -176,10 +176,6 @@ stop_none Value = record { unescaped_is = refl; beyond_is = refl }
 pub stop_byte : (part : Part) (p : Placed) (l : Line) → is_stop_byte part p.byte ≡ true → IsStopped part (p ∷ l)
 stop_byte Key p l h = record { unescaped_is = ap (λ (x : Bool). unescaped 0 (cond x [] (p ∷ written_key (is_backslash p) l))) h; beyond_is = ap (λ (x : Bool). cond x (p ∷ l) (behind_key (is_backslash p) l)) h }
 stop_byte Value p l h = absurd cc
-
-pub before_before : (text piece : Text) (r : Result Text ℕ) → before (text ++ piece) r ≡ before text (before piece r)
-before_before text piece (Ok more) = ap Ok (append_assoc text piece more)
-before_before text piece (Err at) = refl
 
 pub before_end : (text : Text) → ◌≡◌ {A = Result Text ℕ} (before text (Ok [])) (Ok text)
 before_end text = ap Ok (append-nil text)

@@ -83,9 +83,6 @@ read_fault file done at start (Fault (Escape place)) well so white passed fault 
 read_fault file done at start (Fault (NotUtf8 place)) well so white passed fault = absurd fault
 read_fault file done at start Memory well so white passed fault = tt
 
-pub read_not_utf8 : (file : Text) (fault : PropFault) → is_utf8 file ≡ false → fault ≡ NotUtf8 (utf8_valid_len file) → properties file ≡ Err fault
-read_not_utf8 file fault bad e = properties_of file false bad ∙ ap Err (sym e)
-
 pub within_passed : (file : Text) (at : ℕ) → at ≤ length file → is_passed (natural_line_from file at) ≡ false → at < length file
 within_passed file at h go = elim (at == length file) as (λ (x : Bool). (at == length file) ≡ x → at < length file) [
   | true ↦ λ e. absurd (passed (sym (ap is_passed (last_at file at (omega (arith, eqb-true at (length file) e))).line) ∙ go))

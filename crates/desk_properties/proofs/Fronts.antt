@@ -85,9 +85,6 @@ pub record IsDigitsRead (file : Text) (from read number to : ℕ) : Type 0 where
   pub line : drop (4 - read) (line_from file to) ≡ drop 4 (line_from file from)
   pub behind : lines_behind file to ≡ lines_behind file from
 
-pub digits_none : (file : Text) (from : ℕ) → from ≤ length file → IsDigitsRead file from 0 0 from
-digits_none file from h = record { forward = omega arith; inside = h; small = omega arith; number_is = refl; line = refl; behind = refl }
-
 -- the line from a place on, where no line break stands, at its end
 empty_led : (file : Text) (at : ℕ) → length file ≤ at → line_from file at ≡ []
 empty_led file at h = (ended_at file at (last_at file at h).line).line

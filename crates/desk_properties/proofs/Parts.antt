@@ -7,7 +7,7 @@ use Rattle.desk_base.specs.Names.{Text}
 use Rattle.desk_properties.specs.Lines.{Placed, Line, is_backslash, is_white, is_white_byte, unindented}
 use Rattle.desk_properties.specs.Entries.{is_sign_byte, unsigned, written_value, hex_number, is_surrogate, escaped, Escape, escape_of, escape_of_number, before, unescaped}
 use Rattle.desk_properties.specs.Properties.{entry_from}
-use Rattle.desk_properties.specs.Reading.{natural_line_from, line_from, lines_behind, begins_break, is_stop, is_stop_byte, written, beyond, behind_byte, here, IsPair, IsResumed, IsNextLine, IsNumberRead, IsEscapeRead, IsEscapeFault, IsNextRead, IsNextFault, IsPartRead, IsPartFault, IsGapRead, IsSignRead, IsEntryRead, IsEntryFault}
+use Rattle.desk_properties.specs.Reading.{natural_line_from, line_from, lines_behind, begins_break, is_stop, is_stop_byte, written, beyond, behind_byte, here, IsPair, IsResumed, IsNextLine, IsNumberRead, IsEscapeRead, IsEscapeFault, IsNextRead, IsNextFault, IsPartRead, IsGapRead, IsSignRead, IsEntryRead}
 use Rattle.desk_properties.specs.declared.PropFault.TheVariants.{NotUtf8, Escape as BadEscape}
 use Rattle.desk_properties.specs.declared.PropError.{PropError}
 use Rattle.desk_properties.specs.declared.PropError.TheVariants.{Fault, Memory}
@@ -15,7 +15,7 @@ use Rattle.desk_properties.specs.declared.entries.Part.{Part}
 use Rattle.desk_properties.specs.declared.entries.Part.TheVariants.{Key, Value}
 use Rattle.desk_properties.proofs.Places.{last_at, IsPlain, plain_at, ended_at}
 use Rattle.desk_properties.proofs.Skips.{goes_on_at}
-use Rattle.desk_properties.proofs.Escapes.{escape_step, escape_fault, plain_step, IsStopped, stop_none, stop_byte, before_before, before_end}
+use Rattle.desk_properties.proofs.Escapes.{escape_step, escape_fault, plain_step, IsStopped, stop_none, stop_byte, before_end}
 use Rattle.desk_properties.proofs.Fronts.{nothing, something, front_of_byte, IsLed, led_at}
 
 -- bytes of a key or value were read
@@ -26,37 +26,6 @@ pub record IsPartSoFar (file : Text) (part : Part) (from : ℕ) (text : Text) (t
   pub text_is : before text (unescaped 0 (written part (line_from file to))) ≡ unescaped 0 (written part (line_from file from))
   pub line : beyond part (line_from file to) ≡ beyond part (line_from file from)
   pub behind : lines_behind file to ≡ lines_behind file from
-
-same_before : (r : Result Text ℕ) → before [] r ≡ r
-same_before (Ok t) = refl
-same_before (Err e) = refl
-
-pub part_none : (file : Text) (part : Part) (from to : ℕ) → IsResumed file from to → IsPartSoFar file part from [] to
-part_none file part from to resumed = record {
-  forward = resumed.forward;
-  inside = resumed.inside;
-  unbroken = resumed.unbroken;
-  text_is = same_before _ ∙ ap (λ (l : Line). unescaped 0 (written part l)) resumed.line;
-  line = ap (beyond part) resumed.line;
-  behind = resumed.behind;
-}
-
-pub part_more : (file : Text) (part : Part) (from : ℕ) (old new : Text) (at mid to : ℕ) → IsPartSoFar file part from old at → is_stop part (natural_line_from file at) ≡ false → IsNextRead file at old new mid → IsResumed file mid to → IsPartSoFar file part from new to
-part_more file part from old new at mid to so go next resumed = record {
-  forward = omega (arith, so.forward, next.forward, resumed.forward);
-  inside = resumed.inside;
-  unbroken = resumed.unbroken;
-  text_is = ap (λ (l : Line). before new (unescaped 0 (written part l))) resumed.line
-      ∙ ap (λ (t : Text). before t (unescaped 0 (written part (line_from file mid)))) next.text_is
-      ∙ before_before old next.piece (unescaped 0 (written part (line_from file mid)))
-      ∙ ap (before old) (sym (next.unescaped_is part go))
-      ∙ so.text_is;
-  line = ap (beyond part) resumed.line ∙ sym (next.beyond_is part go) ∙ so.line;
-  behind = resumed.behind ∙ next.behind ∙ so.behind;
-}
-
-pub part_fault : (file : Text) (part : Part) (from : ℕ) (text : Text) (at place : ℕ) → IsPartSoFar file part from text at → unescaped 0 (written part (line_from file at)) ≡ Err place → unescaped 0 (written part (line_from file from)) ≡ Err place
-part_fault file part from text at place so e = sym so.text_is ∙ ap (before text) e
 
 pub lt_from : (a b : ℕ) → a ≤ b → (a == b) ≡ false → a < b
 lt_from a b h e = grind (arith, tests)
@@ -226,12 +195,6 @@ escape_number file from number next old new pair letter read scalar text =
       behind = read.behind ∙ sym pair.behind;
     }
 
-pub escape_no_number : (file : Text) (from : ℕ) → IsPair file from → slice_index file (from + 1) ≡ 117 → hex_number 0 4 (line_from file (from + 2)) ≡ None → escape_of (behind_byte (line_from file from)) ≡ None
-escape_no_number file from pair letter none = ap (λ (m : Line). escape_of (behind_byte m)) pair.line ∙ escape_of_u file from letter ∙ ap escape_of_number none
-
-pub escape_surrogate : (file : Text) (from number next : ℕ) → IsPair file from → slice_index file (from + 1) ≡ 117 → IsNumberRead file (from + 2) number next → is_surrogate number ≡ true → escape_of (behind_byte (line_from file from)) ≡ None
-escape_surrogate file from number next pair letter read x = ap (λ (m : Line). escape_of (behind_byte m)) pair.line ∙ escape_of_u file from letter ∙ ap escape_of_number read.number_is ∙ ap (λ (y : Bool). cond y None (Some (record { text = encode_utf8 number; size = 5 }))) x
-
 pub next_escape : (file : Text) (from : ℕ) (old new : Text) (to : ℕ) → IsPair file from → IsEscapeRead file from old new to → IsNextRead file from old new to
 next_escape file from old new to pair read =
     let q : Placed = here file (from + 1) in
@@ -310,18 +273,6 @@ entry_read file from key value behind at end to h first sign second next =
       entry_is = ap (λ (r : Result Text ℕ). entry_from r (unescaped 0 (written_value (line_from file from)))) first.text_is ∙ ap (entry_from (Ok key)) value_is;
       lines = next.lines ∙ sym (ended_at file end (value_stops (natural_line_from file end) second.stopped)).behind ∙ second.behind ∙ sign.behind ∙ first.behind;
     }
-
-pub key_fault : (file : Text) (from : ℕ) (error : PropError) → IsPartFault file Key from error → IsEntryFault file from error
-key_fault file from (Fault (BadEscape at)) fault = ap (λ (r : Result Text ℕ). entry_from r (unescaped 0 (written_value (line_from file from)))) fault
-key_fault file from (Fault (NotUtf8 at)) fault = fault
-key_fault file from Memory fault = tt
-
-pub value_fault : (file : Text) (from : ℕ) (key : Text) (behind at : ℕ) (error : PropError) → IsPartRead file Key from key behind → IsSignRead file behind at → IsPartFault file Value at error → IsEntryFault file from error
-value_fault file from key behind at (Fault (BadEscape place)) first sign fault =
-    let value_line : line_from file at ≡ written_value (line_from file from) = sign.line ∙ ap (λ (l : Line). unindented (unsigned (unindented l))) first.line in
-    ap (λ (r : Result Text ℕ). entry_from r (unescaped 0 (written_value (line_from file from)))) first.text_is ∙ ap (entry_from (Ok key)) (sym (ap (unescaped 0) value_line) ∙ fault)
-value_fault file from key behind at (Fault (NotUtf8 place)) first sign fault = fault
-value_fault file from key behind at Memory first sign fault = tt
 
 pub unequal : (a b : ℕ) → a ≢ b → (a == b) ≡ false
 unequal a b h = elim (a == b) as (λ (x : Bool). (a == b) ≡ x → x ≡ false) [ true ↦ λ e. absurd (h (eqb-true a b e)) | false ↦ λ _. refl ] refl

@@ -99,9 +99,6 @@ pub record IsSame (file : Text) (from to : ℕ) : Type 0 where
 pub same_trans : (file : Text) (from mid to : ℕ) → IsSame file from mid → IsSame file mid to → IsSame file from to
 same_trans file from mid to a b = record { line = b.line ∙ a.line; behind = b.behind ∙ a.behind }
 
-unindented_same : (file : Text) (from to : ℕ) → IsUnindented file from to → natural_line_from file to ≡ unindented (natural_line_from file from) × natural_behind file to ≡ natural_behind file from
-unindented_same file from to h = (h.line, h.behind)
-
 pub break_line : (file : Text) (at to : ℕ) → IsByte file at → is_backslash (here file at) ≡ true → IsEnd file (at + 1) → IsUnindented file (at + 1 + end_size (drop (at + 1) file)) to → IsSame file at to
 unfolding line_from lines_behind
 break_line file at to byte h end white =

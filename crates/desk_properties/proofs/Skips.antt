@@ -4,7 +4,7 @@ use Rattle.std.proofs.lemmas.Bool.{eqb-true, and_parts, or_parts}
 use Rattle.std.proofs.lemmas.List.{length-drop}
 use Rattle.desk_base.specs.Names.{Text}
 use Rattle.desk_properties.specs.Lines.{Line, is_white_byte, is_end_byte, is_comment_byte, unindented, logical_lines}
-use Rattle.desk_properties.specs.Reading.{natural_from, natural_line_from, natural_behind, lines_from, end_size, begins_break, is_passed, here, IsUnindented, IsResumed, IsNextLine}
+use Rattle.desk_properties.specs.Reading.{natural_from, natural_line_from, natural_behind, lines_from, end_size, begins_break, is_passed, here, IsUnindented, IsNextLine}
 use Rattle.desk_properties.proofs.Natural.{drop_front}
 use Rattle.desk_properties.proofs.Places.{IsByte, byte_at, IsEnd, end_at, IsLast, last_at, IsSame, same_trans, break_line, break_last, natural_parts}
 
@@ -166,9 +166,6 @@ resume_more file from at size to so h e white =
       | inr some ↦ break_line file at to byte parts.backslash (end_at file (at + 1) some) (subst (λ (n : ℕ). IsUnindented file (at + 1 + n) to) e white)
     ] in
     record { forward = omega (arith, so.forward, white.forward); inside = white.inside; same = same_trans file from at to so.same same }
-
-pub resume_end : (file : Text) (from at : ℕ) → IsResumedSoFar file from at → begins_break (drop at file) ≡ false → IsResumed file from at
-resume_end file from at so h = record { forward = so.forward; inside = so.inside; line = so.same.line; behind = so.same.behind; unbroken = h }
 
 -- whether a natural line goes on is told by the byte there
 pub ends_at : (file : Text) (at : ℕ) → at < length file → is_end_byte (get_or file at 0) ≡ true → IsEnd file at

@@ -28,10 +28,6 @@ unchanged_name part filled rs s text n end none =
       | false ↦ λ other. refl
     ] refl
 
--- a text that is no name
-pub other_image : (part : Text → Bool) (rs : List Renaming) (s : ℕ) (text : Text) → is_name part s text ≡ false → name_image part s rs text ≡ text
-other_image part rs s text other = ap (λ (b : Bool). cond b (written s (refronted rs (segments s text))) text) other
-
 -- a text with more bytes behind it, from a place within it on
 pub drop_within : (k : ℕ) (a more : Text) → k ≤ length a → drop k (a ++ more) ≡ drop k a ++ more
 drop_within k a more h = grind (arith, common_steps)

@@ -13,14 +13,6 @@ pub writing-twice : (a b : Text) (told : Option Text) → writing b (writing a t
 writing-twice a b None = refl
 writing-twice a b (Some t) = ap Some (append_assoc t a b)
 
-pub writing-none : (told : Option Text) → told ≡ writing [] told
-writing-none None = refl
-writing-none (Some t) = ap Some (sym (append-nil t))
-
--- nothing was gathered yet
-pub Gathers-none : (waited : Text) (told : Option Text) → Gathers [] waited waited told told
-Gathers-none waited told = record { front = []; all = append-nil waited; is = writing-none told }
-
 joins : (w a b f v : Text) → w ++ a ≡ f ++ v → w ++ (a ++ b) ≡ f ++ (v ++ b)
 joins w a b f v e = sym (append_assoc w a b) ∙ ap (λ x. x ++ b) e ∙ append_assoc f v b
 
@@ -49,10 +41,6 @@ WritesFront-longer x y o p h = record {
   all = ap (λ t. t ++ y) h.all ∙ append_assoc h.front h.rest y;
   is = h.is;
 }
-
--- what was gathered is written
-pub Gathers-written : (a w v : Text) (o p q : Option Text) → Gathers a w v o p → q ≡ writing v p → q ≡ writing (w ++ a) o
-Gathers-written a w v o p q g e = e ∙ ap (writing v) g.is ∙ writing-twice g.front v o ∙ ap (λ t. writing t o) (sym g.all)
 
 pub Gathers-grows : (whole a b w v u : Text) (o p q : Option Text) → whole ≡ a ++ b → Gathers a w v o p → Gathers b v u p q → Gathers whole w u o q
 Gathers-grows whole a b w v u o p q e g h = subst (λ t. Gathers t w u o q) (sym e) (Gathers-more a b w v u o p q g h)

@@ -90,21 +90,7 @@ Puts old key answer new = (q : Key) → answer_at new q ≡ cond (is_eq (key_cmp
 pub puts : (old new : Table) (key : Key) (answer : Option Text) → tree.Updates code_cmp old new key (Some answer) → Puts old key answer new
 puts old new key answer up = λ q. sym (code_answer new q) ∙ up.0 q ∙ ap₂ (λ (b : Bool) (o : Option (Option Text)). cond b (Some answer) o) (ap is_eq (cmp_is key q)) (code_answer old q)
 
--- ---- no key
-
-pub sound_none : (im : Images) (pool : Pool) (table : Table) → tree.IsEmpty table → IsSoundTable im pool table
-sound_none im pool table e = λ key a h.
-    let none : answer_at table key ≡ None = ap (λ (es : List (Key × Option Text)). lookup (tree.is_at (key_cmp key)) es) e in
-    absurd cc
-
 -- ---- one key more
-
-same_by : (b : Bool) (table : Table) (key q : Key) → is_eq (key_cmp key q) ≡ b → is_some (answer_at table key) ≡ true → is_some (answer_at table q) ≡ (b || is_some (answer_at table q))
-same_by true table key q e h = subst (λ (k : Key). is_some (answer_at table k) ≡ true) (key_same key q e) h
-same_by false table key q e h = refl
-
-pub grows_same : (table : Table) (key : Key) → is_some (answer_at table key) ≡ true → Grows table key table
-grows_same table key h = λ q. same_by (is_eq (key_cmp key q)) table key q refl h
 
 some_by : (b : Bool) (answer : Option Text) (o : Option (Option Text)) → is_some (cond b (Some answer) o) ≡ (b || is_some o)
 some_by true answer o = refl

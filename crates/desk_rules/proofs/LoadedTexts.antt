@@ -1,5 +1,5 @@
 -- Files of text rules that are read, one after the other.
-use Rattle.std.proofs.Common.{◌≡◌, ◌<◌, ◌≤◌, ◌+◌, ℕ, zero, suc, Bool, true, false, cond, List, [], ◌∷◌, ◌++◌, length, map, take, drop, get_or, Option, Some, None, Result, Ok, Err, refl, sym, ap, subst, ◌∙◌, arith}
+use Rattle.std.proofs.Common.{◌≡◌, ◌<◌, ◌≤◌, ◌+◌, ℕ, zero, suc, Bool, true, false, cond, List, [], ◌∷◌, ◌++◌, length, map, take, drop, get_or, Some, Result, Ok, Err, refl, sym, ap, subst, ◌∙◌, arith}
 use Rattle.std.specs.Map.{lookup}
 use Rattle.std.specs.Str.{bytes_eq}
 use Rattle.std.specs.Ordering.{nat_cmp}
@@ -13,10 +13,8 @@ use Rattle.desk_patterns.specs.PatternTexts.{PatternText}
 use Rattle.desk_patterns.specs.SeenTexts.{text_seen, texts_seen, ArePlaces}
 use Rattle.desk_patterns.specs.declared.pattern_texts.PatternPlace.{PatternPlace}
 use Rattle.desk_rules.specs.Files.{Files}
-use Rattle.desk_rules.specs.Reads.{◌>>=◌}
-use Rattle.desk_rules.specs.TextFiles.{rule_texts, pattern_text, named_by}
+use Rattle.desk_rules.specs.TextFiles.{rule_texts, pattern_text}
 use Rattle.desk_rules.specs.LoadedTexts.{StandsAt, IsLoaded, GoesOn, IsPlaceOf, IsPatternAt}
-use Rattle.desk_rules.specs.declared.RuleFault.{RuleFault}
 use Rattle.desk_properties.specs.Properties.{Entry}
 use Rattle.std.specs.Prelude.{slice_get, OnOk, IfErr}
 use Rattle.desk_rules.proofs.TextTurns.{IsCollectedTo, collect_more}
@@ -72,9 +70,6 @@ stands_on files name old new place on at = record {
   there = at.there ∙ ap (λ (rules : List TextRule). Ok rules) (sym (goes_on_at old new place on at.within));
 }
 
-pub loaded_none : (files : Files) (places : List (Text × ℕ)) (rules : List (List TextRule)) → places ≡ [] → IsLoaded files places rules
-loaded_none files places rules none = record { each = λ name place h. absurd (let gone : ◌≡◌ {A = Option ℕ} None (Some place) = sym (ap (lookup (bytes_eq name)) none) ∙ h in cc gone) }
-
 pub place_found : (files : Files) (name : Text) (places : List (Text × ℕ)) (rules : List (List TextRule)) (place : ℕ) → IsLoaded files places rules → lookup (bytes_eq name) places ≡ Some place → IsPlaceOf files name rules places rules place
 place_found files name places rules place loaded h = record { loaded = loaded; goes_on = goes_on_same rules; stands = loaded.each name place h }
 
@@ -100,18 +95,6 @@ place_added files name old places rules new more place loaded read added here up
       within = omega (arith, here, length_one rules more);
       there = read ∙ ap (λ (rs : List TextRule). Ok rs) (sym (ap (λ (n : ℕ). get_or (rules ++ more ∷ []) n []) here ∙ last_one rules more []));
     }
-
--- a pattern whose file stands at a place
-pub pattern_placed : (files : Files) (key value name pattern : Text) (old : List (List TextRule)) (places : List (Text × ℕ)) (new : List (List TextRule)) (place : ℕ) → named_by files key value ≡ Ok name → pattern ≡ key → IsPlaceOf files name old places new place → IsPatternAt files key value old places new (record { pattern = pattern; file = place })
-pattern_placed files key value name pattern old places new place named is of = record {
-  loaded = of.loaded;
-  goes_on = of.goes_on;
-  within = of.stands.within;
-  read =
-      ap (λ (r : Result Text RuleFault). r >>= (λ n. rule_texts files n >>= (λ rules. Ok (key, rules)))) named
-      ∙ ap (λ (r : Result (List TextRule) RuleFault). r >>= (λ rules. Ok (key, rules))) of.stands.there
-      ∙ ap (λ (t : Text). Ok (t, get_or new place [])) (sym is);
-}
 
 -- patterns whose rules go on are the same
 pub patterns_on : (old new : List (List TextRule)) (patterns : List PatternPlace) → GoesOn old new → ArePlaces old patterns → texts_seen new patterns ≡ texts_seen old patterns

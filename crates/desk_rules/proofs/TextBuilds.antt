@@ -13,11 +13,6 @@ use Rattle.desk_rules.specs.declared.BuildFault.TheVariants.{Rules, Memory}
 use Rattle.desk_rules.proofs.Faults.{fault_first, fault_next, ok_next}
 use Rattle.desk_rules.proofs.TextTurns.{names_in_order}
 
--- what was read is no fault
-pub never_refused : {A B : Type 0} (r : Result A RuleFault) (a : A) (other : Result B RuleFault) (e : BuildFault) → r ≡ Ok a → IsFaultOf r e → IsFaultOf other e
-never_refused r a other (Rules fault) is h = absurd (cc (is, h))
-never_refused r a other Memory is h = tt
-
 -- what was read twice is the same
 pub read_again : {A : Type 0} (r : Result A RuleFault) (a b : A) → r ≡ Ok a → r ≡ Ok b → a ≡ b
 read_again r a b h k = cc

@@ -1,5 +1,5 @@
 -- Reading in turn, name by name and pattern by pattern.
-use Rattle.std.proofs.Common.{◌≡◌, ◌<◌, ◌≤◌, ◌+◌, ℕ, Bool, true, false, cond, List, [], ◌∷◌, ◌++◌, length, map, take, drop, get_or, Option, Some, None, Result, Ok, Err, refl, sym, ap, ◌∙◌}
+use Rattle.std.proofs.Common.{◌≡◌, ◌<◌, ◌≤◌, ◌+◌, ℕ, Bool, true, false, cond, List, [], ◌∷◌, ◌++◌, length, map, drop, get_or, Option, Some, None, Result, Ok, Err, refl, sym, ap, ◌∙◌}
 use Rattle.std.specs.Prelude.{slice_get}
 use Rattle.std.specs.Map.{lookup}
 use Rattle.std.specs.Str.{bytes_eq}
@@ -8,7 +8,7 @@ use Rattle.std.specs.Cmp.Lexicographic.{slice_cmp}
 use Rattle.std.specs.FinMap as finite
 use Rattle.std.specs.FinMap.{get-from_entries, same_map, slice_cmp-IsAntisymmetric, nat_cmp-IsAntisymmetric}
 use Rattle.std.proofs.lemmas.Cmp.{nat_list_cmp_total}
-use Rattle.std.proofs.lemmas.List.{append-nil, append_assoc, drop_more, drop_all, take_more}
+use Rattle.std.proofs.lemmas.List.{append-nil, append_assoc, drop_more, drop_all}
 use Rattle.std.proofs.lemmas.Option.{slice_get_within, get_or_from_slice_get, slice_get-get_or}
 use Rattle.std.proofs.lemmas.Slice.Eq.{bytes_eq-Decides}
 use Rattle.std.proofs.lemmas.Bool.Decides.{same_from_decides}
@@ -137,8 +137,3 @@ module _ (files : Files) (es : List Entry) where
 
   pub checked_end : (i : ℕ) → IsCheckedTo i → length es ≤ i → checked_texts files (map (λ e. e.0) es) ≡ Ok tt
   checked_end i so_far done = sym so_far.rest ∙ ap (λ (l : List Entry). checked_texts files (map (λ (e : Entry). e.0) l)) (drop_all i es done)
-
--- one more item of a list
-pub pushed : {A : Type 0} (xs : List A) (i : ℕ) (x : A) (old new : List A) → i < length xs → x ≡ get_or xs i x → old ≡ take i xs → new ≡ old ++ x ∷ [] → new ≡ take (i + 1) xs
-pushed {A = A} xs i x old new within is so_far more =
-    more ∙ ap (λ (l : List A). l ++ x ∷ []) so_far ∙ ap (λ (y : A). take i xs ++ y ∷ []) is ∙ sym (take_more xs i x within)

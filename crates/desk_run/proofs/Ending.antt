@@ -1,12 +1,11 @@
 -- From the plan and the writing to where a run stands, and to what is promised of it.
-use Rattle.std.proofs.Common.{◌≡◌, ◌⊎◌, inl, inr, ℕ, ◌+◌, ◌≤◌, List, [], ◌∷◌, ◌++◌, Option, Some, None, refl, sym, ap, ◌∙◌, subst, true, false, Bool, cond, append-nil, length, map, Result, Ok, Err}
+use Rattle.std.proofs.Common.{◌≡◌, ◌⊎◌, inl, inr, ℕ, ◌+◌, List, [], ◌∷◌, ◌++◌, Option, Some, refl, sym, ap, ◌∙◌, subst, true, false, Bool, cond, append-nil, length, map, Result, Ok, Err}
 use Rattle.std.specs.Prelude.{not, ◌&&◌, ◌||◌, count_by, is_ok, is_err, IsOkAnd, if◌then◌else◌}
 use Rattle.std.specs.List.{flat_map, fold, list_any, sum_by}
 use Rattle.std.proofs.lemmas.List.{length-map}
-use Rattle.desk_base.specs.Counts.{Rose-earlier}
 use Rattle.desk_base.specs.Names.{Text}
 use Rattle.desk_base.specs.Paths.{full}
-use Rattle.desk_batches.specs.Stops.{Broken, HasCause, StoppedAt}
+use Rattle.desk_batches.specs.Stops.{Broken, StoppedAt}
 use Rattle.desk_batches.specs.Turns.{outcome_of, outcome_of_plan}
 use Rattle.desk_batches.specs.Works.{Keep, Work, cleared, files_after, fresh, ledger_after, writes}
 use Rattle.desk_batches.specs.declared.noted.Noted.{Noted}
@@ -18,8 +17,7 @@ use Rattle.desk_file.specs.declared.images.Image.{Image}
 use Rattle.desk_folders.specs.Contents.{Contents, File, setting, files_below}
 use Rattle.desk_ledger.specs.declared.keeper.Header.{Header}
 use Rattle.desk_ledger.specs.declared.keeper.Held.{Held}
-use Rattle.desk_ledger.specs.declared.keeper.Row.{Row}
-use Rattle.desk_ledger.specs.Ledger.{Ledger, NoneWaits, Rows, with_header}
+use Rattle.desk_ledger.specs.Ledger.{Ledger, Rows, with_header}
 use Rattle.desk_report.specs.declared.lines.Detail.{Detail}
 use Rattle.desk_report.specs.declared.lines.Reason.{Reason}
 use Rattle.desk_report.specs.declared.lines.Summary.{Summary}
@@ -28,12 +26,11 @@ use Rattle.desk_report.specs.declared.status.Status.TheVariants.{Done, Refusals,
 use Rattle.desk_report.specs.Texts.{summary_text}
 use Rattle.desk_report.specs.Written.{WritesFront, writing}
 use Rattle.desk_rules.specs.Rules.{Rules}
-use Rattle.desk_words.specs.declared.roots.Roots.{Roots}
 use Rattle.desk_run.proofs.Splits.{Mapped, mapped}
-use Rattle.desk_run.specs.Answers.{names_answer, other_run, or_else, answer_of_run, first_answer, is_answer, AskedCause}
-use Rattle.desk_run.specs.Endings.{WhereTold, Tells, Planned, LedgerEarly, HaltsEarly, AllWritten, Finishes, Reported, ReportedOf, HasCauses, StandsAt, IsDone, IsSilent, IsTold, IsWritten, StandsAfter, is_final, Named, Committed}
+use Rattle.desk_run.specs.Answers.{names_answer, other_run, or_else, answer_of_run, first_answer, is_answer}
+use Rattle.desk_run.specs.Endings.{WhereTold, Tells, Planned, LedgerEarly, HaltsEarly, AllWritten, Finishes, Reported, ReportedOf, StandsAt, IsDone, IsTold, IsWritten, StandsAfter, is_final}
 use Rattle.desk_run.specs.Meaning.{run_of_asked}
-use Rattle.desk_run.specs.Named.{Asked, asked_roots}
+use Rattle.desk_run.specs.Named.{Asked}
 use Rattle.desk_run.specs.Notes.{measured_of, noted_by}
 use Rattle.desk_run.specs.Reports.{report_by, line_of, lines_of, file_line, summary_of, summary_by, ending, ending_by, outcome_line, is_written, was_kept, was_refused, number_in, renamed_uses, added_texts, number_in_file, number_of}
 use Rattle.desk_run.specs.Runs.{Run, is_kept_file, is_fresh, is_refused}
@@ -235,14 +232,6 @@ early_stands asked m0 l0 f' k' a b c d (halt.Answer status) f s =
     let u = unchanged asked m0 l0 f' k' f s.0 in
     record { m = u.m; l = u.l; folders = u.folders; ledger = u.ledger; holds = answer_stands asked m0 l0 u.m u.l status s.1.is u.holds }
 
--- an early answer is the first
-pub early_first : (asked : Asked) (m0 : Contents) (l0 : Ledger) (k' : Option Ledger) (a b c d : ℕ) (h : Halt) → HaltsEarly asked (Some m0) (Some l0) k' a b c d h → is_final (status_of_halt h) ≡ true
-    → status_of_halt h ≡ first_answer asked m0 l0
-early_first asked m0 l0 k' a b c d halt.Memory s e = cc
-early_first asked m0 l0 k' a b c d halt.Folders s e = cc
-early_first asked m0 l0 k' a b c d halt.Ledger s e = cc
-early_first asked m0 l0 k' a b c d (halt.Answer status) s e = sym (s.1.first m0 l0 refl refl)
-
 -- the report by outcomes is that of the run
 line_outcome : (path target : Text) (kept found : Bool) (o : Result Image Reason) → outcome_line path target (outcome_of_plan (cond kept Keep (fresh found o))) ≡ file_line path target kept o
 line_outcome path target true found o = refl
@@ -394,161 +383,6 @@ pub told_totals : (asked : Asked) (f0 f' : Option Contents) (k0 k' : Option Ledg
     → totals ≡ summary_by outcomes → WhereTold f0 k0 (λ m l. IsOkAnd (run_of_asked asked m) (λ run. totals ≡ summary_of run l.rows (files_below run.from m)))
 told_totals asked f0 f' k0 k' noted outcomes totals w e = λ m l ef ek. let x = w m l ef ek in ok_and (run_of_asked asked m) x.holds.done.run _ x.holds.done.ready.is (e ∙ x.holds.totals)
 
-pub told_named : (names : Roots) (old new : Option Text) (status : Status) → new ≡ Some names.ledger → IsTold status → Named (asked_roots names) old new status
-told_named names old new Done e t = e
-told_named names old new Refusals e t = e
-told_named names old new OutputFault e t = e
-told_named names old new Memory e t = absurd t
-told_named names old new (FolderFault done) e t = absurd t
-told_named names old new (LedgerFault done) e t = absurd t
-told_named names old new Usage e t = absurd t
-told_named names old new (NestedRoots first second) e t = absurd t
-told_named names old new (BadRules fault) e t = absurd t
-told_named names old new (OtherRun kept wanted) e t = absurd t
-told_named names old new (Limit kind path) e t = absurd t
-told_named names old new (PathClash first second) e t = absurd t
-told_named names old new (NameClash defined other image) e t = absurd t
-told_named names old new (Stranded path held) e t = absurd t
-told_named names old new (Moved path one other) e t = absurd t
-
-pub told_committed : (waiting : Option (List Row)) (status : Status) → NoneWaits waiting → IsTold status → Committed waiting status
-told_committed waiting Done n t = n
-told_committed waiting Refusals n t = n
-told_committed waiting OutputFault n t = n
-told_committed waiting Memory n t = tt
-told_committed waiting (FolderFault done) n t = tt
-told_committed waiting (LedgerFault done) n t = tt
-told_committed waiting Usage n t = tt
-told_committed waiting (NestedRoots first second) n t = tt
-told_committed waiting (BadRules fault) n t = tt
-told_committed waiting (OtherRun kept wanted) n t = tt
-told_committed waiting (Limit kind path) n t = tt
-told_committed waiting (PathClash first second) n t = tt
-told_committed waiting (NameClash defined other image) n t = tt
-told_committed waiting (Stranded path held) n t = tt
-told_committed waiting (Moved path one other) n t = tt
-
-pub told_causes : (asked : Asked) (told : Option Contents) (f f' k k' o o' : ℕ) (status : Status) → IsTold status → HasCauses (Err Done) None status 0 0 0 0 o o' → HasCauses asked told status f f' k k' o o'
-told_causes asked told f f' k k' o o' Done t c = tt
-told_causes asked told f f' k k' o o' Refusals t c = tt
-told_causes asked told f f' k k' o o' OutputFault t c = c
-told_causes asked told f f' k k' o o' Memory t c = absurd t
-told_causes asked told f f' k k' o o' (FolderFault done) t c = absurd t
-told_causes asked told f f' k k' o o' (LedgerFault done) t c = absurd t
-told_causes asked told f f' k k' o o' Usage t c = absurd t
-told_causes asked told f f' k k' o o' (NestedRoots first second) t c = absurd t
-told_causes asked told f f' k k' o o' (BadRules fault) t c = absurd t
-told_causes asked told f f' k k' o o' (OtherRun kept wanted) t c = absurd t
-told_causes asked told f f' k k' o o' (Limit kind path) t c = absurd t
-told_causes asked told f f' k k' o o' (PathClash first second) t c = absurd t
-told_causes asked told f f' k k' o o' (NameClash defined other image) t c = absurd t
-told_causes asked told f f' k k' o o' (Stranded path held) t c = absurd t
-told_causes asked told f f' k k' o o' (Moved path one other) t c = absurd t
-
--- ---- a run that ends before its report
-
-silent_reported : (asked : Asked) (f0 : Option Contents) (k0 : Option Ledger) (o o' : Option Text) (status : Status) → IsSilent status → o' ≡ o → ReportedOf asked f0 k0 o o' status
-silent_reported asked f0 k0 o o' Done s e = absurd s
-silent_reported asked f0 k0 o o' Refusals s e = absurd s
-silent_reported asked f0 k0 o o' OutputFault s e = absurd s
-silent_reported asked f0 k0 o o' Memory s e = e
-silent_reported asked f0 k0 o o' (FolderFault done) s e = e
-silent_reported asked f0 k0 o o' (LedgerFault done) s e = e
-silent_reported asked f0 k0 o o' Usage s e = e
-silent_reported asked f0 k0 o o' (NestedRoots first second) s e = e
-silent_reported asked f0 k0 o o' (BadRules fault) s e = e
-silent_reported asked f0 k0 o o' (OtherRun kept wanted) s e = e
-silent_reported asked f0 k0 o o' (Limit kind path) s e = e
-silent_reported asked f0 k0 o o' (PathClash first second) s e = e
-silent_reported asked f0 k0 o o' (NameClash defined other image) s e = e
-silent_reported asked f0 k0 o o' (Stranded path held) s e = e
-silent_reported asked f0 k0 o o' (Moved path one other) s e = e
-
-pub nothing_reported : (asked : Asked) (f0 : Option Contents) (k0 : Option Ledger) (o : Option Text) (status : Status) → IsSilent status → ReportedOf asked f0 k0 o o status
-nothing_reported asked f0 k0 o status s = silent_reported asked f0 k0 o o status s refl
-
-pub silent_committed : (waiting : Option (List Row)) (status : Status) → IsSilent status → Committed waiting status
-silent_committed waiting Done s = absurd s
-silent_committed waiting Refusals s = absurd s
-silent_committed waiting OutputFault s = absurd s
-silent_committed waiting Memory s = tt
-silent_committed waiting (FolderFault done) s = tt
-silent_committed waiting (LedgerFault done) s = tt
-silent_committed waiting Usage s = tt
-silent_committed waiting (NestedRoots first second) s = tt
-silent_committed waiting (BadRules fault) s = tt
-silent_committed waiting (OtherRun kept wanted) s = tt
-silent_committed waiting (Limit kind path) s = tt
-silent_committed waiting (PathClash first second) s = tt
-silent_committed waiting (NameClash defined other image) s = tt
-silent_committed waiting (Stranded path held) s = tt
-silent_committed waiting (Moved path one other) s = tt
-
--- a cause that doesn't speak of the output
-pub silent_causes : (asked : Asked) (told : Option Contents) (f f' k k' o o' : ℕ) (status : Status) → IsSilent status → HasCauses asked told status f f' k k' 0 0 → HasCauses asked told status f f' k k' o o'
-silent_causes asked told f f' k k' o o' Done s c = absurd s
-silent_causes asked told f f' k k' o o' Refusals s c = absurd s
-silent_causes asked told f f' k k' o o' OutputFault s c = absurd s
-silent_causes asked told f f' k k' o o' Memory s c = c
-silent_causes asked told f f' k k' o o' (FolderFault done) s c = c
-silent_causes asked told f f' k k' o o' (LedgerFault done) s c = c
-silent_causes asked told f f' k k' o o' Usage s c = c
-silent_causes asked told f f' k k' o o' (NestedRoots first second) s c = c
-silent_causes asked told f f' k k' o o' (BadRules fault) s c = c
-silent_causes asked told f f' k k' o o' (OtherRun kept wanted) s c = c
-silent_causes asked told f f' k k' o o' (Limit kind path) s c = c
-silent_causes asked told f f' k k' o o' (PathClash first second) s c = c
-silent_causes asked told f f' k k' o o' (NameClash defined other image) s c = c
-silent_causes asked told f f' k k' o o' (Stranded path held) s c = c
-silent_causes asked told f f' k k' o o' (Moved path one other) s c = c
-
--- an early end is silent
-answer_silent : (status : Status) → is_answer status ≡ true → IsSilent status
-answer_silent Usage e = tt
-answer_silent (NestedRoots first second) e = tt
-answer_silent (BadRules fault) e = tt
-answer_silent (OtherRun kept wanted) e = tt
-answer_silent (Limit kind path) e = tt
-answer_silent (PathClash first second) e = tt
-answer_silent (NameClash defined other image) e = tt
-answer_silent (Stranded path held) e = tt
-answer_silent (Moved path one other) e = cc
-answer_silent Done e = cc
-answer_silent Refusals e = cc
-answer_silent Memory e = tt
-answer_silent (FolderFault done) e = tt
-answer_silent (LedgerFault done) e = tt
-answer_silent OutputFault e = cc
-
-pub early_silent : (asked : Asked) (f0 : Option Contents) (k0 k' : Option Ledger) (a b c d : ℕ) (h : Halt) → HaltsEarly asked f0 k0 k' a b c d h → IsSilent (status_of_halt h)
-early_silent asked f0 k0 k' a b c d halt.Memory s = tt
-early_silent asked f0 k0 k' a b c d halt.Folders s = tt
-early_silent asked f0 k0 k' a b c d halt.Ledger s = tt
-early_silent asked f0 k0 k' a b c d (halt.Answer status) s = answer_silent status s.1.is
-
-answer_causes : (asked : Asked) (told : Option Contents) (status : Status) (f f' k k' o o' : ℕ) → is_answer status ≡ true → AskedCause asked status → HasCauses asked told status f f' k k' o o'
-answer_causes asked told Usage f f' k k' o o' e c = c
-answer_causes asked told (NestedRoots first second) f f' k k' o o' e c = c
-answer_causes asked told (BadRules fault) f f' k k' o o' e c = tt
-answer_causes asked told (OtherRun kept wanted) f f' k k' o o' e c = tt
-answer_causes asked told (Limit kind path) f f' k k' o o' e c = tt
-answer_causes asked told (PathClash first second) f f' k k' o o' e c = tt
-answer_causes asked told (NameClash defined other image) f f' k k' o o' e c = tt
-answer_causes asked told (Stranded path held) f f' k k' o o' e c = tt
-answer_causes asked told Done f f' k k' o o' e c = tt
-answer_causes asked told Refusals f f' k k' o o' e c = tt
-answer_causes asked told Memory f f' k k' o o' e c = tt
-answer_causes asked told (FolderFault done) f f' k k' o o' e c = cc
-answer_causes asked told (LedgerFault done) f f' k k' o o' e c = cc
-answer_causes asked told OutputFault f f' k k' o o' e c = cc
-answer_causes asked told (Moved path one other) f f' k k' o o' e c = cc
-
-pub early_causes : (asked : Asked) (f0 : Option Contents) (k0 k' : Option Ledger) (a b c d o o' : ℕ) (h : Halt) → HaltsEarly asked f0 k0 k' a b c d h → HasCauses asked f0 (status_of_halt h) a b c d o o'
-early_causes asked f0 k0 k' a b c d o o' halt.Memory s = tt
-early_causes asked f0 k0 k' a b c d o o' halt.Folders s = s.1
-early_causes asked f0 k0 k' a b c d o o' halt.Ledger s = s.1
-early_causes asked f0 k0 k' a b c d o o' (halt.Answer status) s = answer_causes asked f0 status a b c d o o' s.1.is s.1.cause
-
 -- ---- a stop of the writing
 
 -- where the writing stopped
@@ -557,27 +391,3 @@ stop_finishes to works stop.Memory done f f' k k' s = record { done = done; stop
 stop_finishes to works stop.Folders done f f' k k' s = s
 stop_finishes to works stop.Ledger done f f' k k' s = s
 stop_finishes to works (stop.Moved moved) done f f' k k' s = record { done = done; stopped = inl s }
-
-pub stop_silent : (why : Stop) (done : ℕ) → IsSilent (status_of_stop why done)
-stop_silent stop.Memory done = tt
-stop_silent stop.Folders done = tt
-stop_silent stop.Ledger done = tt
-stop_silent (stop.Moved moved) done = tt
-
-pub stop_first : (why : Stop) (done : ℕ) → is_final (status_of_stop why done) ≡ false
-stop_first stop.Memory done = refl
-stop_first stop.Folders done = refl
-stop_first stop.Ledger done = refl
-stop_first (stop.Moved moved) done = refl
-
-pub stop_named : (names : Roots) (why : Stop) (done : ℕ) (old new : Option Text) → new ≡ Some names.ledger → Named (asked_roots names) old new (status_of_stop why done)
-stop_named names stop.Memory done old new e = inr e
-stop_named names stop.Folders done old new e = inr e
-stop_named names stop.Ledger done old new e = inr e
-stop_named names (stop.Moved moved) done old new e = e
-
-pub stop_causes : (asked : Asked) (told : Option Contents) (why : Stop) (done f f' k0 k k' : ℕ) → k0 ≤ k → HasCause told why f f' k k' → HasCauses asked told (status_of_stop why done) f f' k0 k' 0 0
-stop_causes asked told stop.Memory done f f' k0 k k' le c = tt
-stop_causes asked told stop.Folders done f f' k0 k k' le c = c
-stop_causes asked told stop.Ledger done f f' k0 k k' le c = Rose-earlier k0 k k' le c
-stop_causes asked told (stop.Moved moved) done f f' k0 k k' le c = c

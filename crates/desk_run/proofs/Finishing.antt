@@ -1,7 +1,5 @@
 -- From what was gathered, planned and written to what a run promises.
-use Rattle.std.proofs.Common.{All, ◌≡◌, ℕ, ◌≤◌, ◌<◌, ◌^◌, true, List, length, map, Option, Some, None, refl, sym, ap, ◌∙◌, subst, IfSome, option_map}
-use Rattle.std.proofs.lemmas.List.{length-map}
-use Rattle.desk_base.specs.Counts.{Rose-earlier}
+use Rattle.std.proofs.Common.{All, ◌≡◌, ℕ, true, List, map, Option, Some, None, refl, ap, ◌∙◌, subst, IfSome, option_map}
 use Rattle.desk_base.specs.Names.{Text}
 use Rattle.desk_readings.proofs.Fronts.{at_some, if_some}
 use Rattle.desk_batches.specs.Notes.{IsNoteOf}
@@ -14,17 +12,15 @@ use Rattle.desk_file.specs.Linked.{image_in}
 use Rattle.desk_folders.specs.Contents.{Contents, files_below}
 use Rattle.desk_graph.specs.Graphs.{Graph, graph_of}
 use Rattle.desk_ledger.specs.Ledger.{Ledger, with_header}
-use Rattle.desk_report.specs.declared.status.Status.{Status}
-use Rattle.desk_report.specs.declared.status.Status.TheVariants.{Done, Refusals, Memory, FolderFault, LedgerFault, OutputFault, Usage, NestedRoots, BadRules, Limit, PathClash, NameClash, Stranded, OtherRun, Moved}
 use Rattle.desk_words.specs.Roots.{AreRoots}
 use Rattle.desk_words.specs.declared.roots.Roots.{Roots}
 use Rattle.desk_run.proofs.Ending.{finish_stands, is_written_all, stop_finishes}
 use Rattle.desk_run.proofs.Measures.{all_notes}
 use Rattle.desk_run.proofs.Preparing.{names_of, planned}
 use Rattle.desk_run.specs.Answers.{other_run}
-use Rattle.desk_run.specs.Endings.{AllWritten, GatheredFrom, HasCauses, HasGathered, IsWritten, Planned, StandsAfter, Tells, WhereTold}
+use Rattle.desk_run.specs.Endings.{AllWritten, GatheredFrom, HasGathered, IsWritten, Planned, StandsAfter, Tells, WhereTold}
 use Rattle.desk_run.specs.Meaning.{defined_in, finds_in}
-use Rattle.desk_run.specs.Named.{Asked, asked_roots}
+use Rattle.desk_run.specs.Named.{asked_roots}
 use Rattle.desk_run.specs.Notes.{measured_in, noted_by}
 use Rattle.desk_run.specs.Stops.{StopsAt, status_of_stop}
 use Rattle.desk_run.specs.Truth.{IsOurs}
@@ -35,9 +31,6 @@ pub gathered_notes : (names : Roots) (g : Gathered) (noted : List Noted) (told :
 gathered_notes names g noted told h e = if_some _ told (λ m t.
     let from = at_some (λ m. GatheredFrom names m g) told m t h.told_of in
     all_notes g.ruled.value.rules names.from m g.notes.files.items noted e from.files.are)
-
-pub few_noted : (g : Gathered) (noted : List Noted) → map measured_in noted ≡ g.notes.files.items → length g.notes.files.items < 2 ^ 32 → length noted < 2 ^ 32
-few_noted g noted e h = subst (λ n. n < 2 ^ 32) (sym (ap length e) ∙ length-map noted measured_in) h
 
 -- what is known where a run was planned, of these names that classes define
 pub record IsPlanned (names : Roots) (g : Gathered) (defined : List Text) (noted : List Noted) (f0 : Option Contents) (k0 k1 : Option Ledger) : Type 0 where
@@ -98,21 +91,3 @@ gathered_stopped names g defined noted why done f0 f' k0 k1 k' p stops = λ m l 
     (subst (λ o. StopsAt why names.to (works defined) done o f' (Some (with_header g.header l)) k') ef (subst (λ o. StopsAt why names.to (works defined) done f0 f' o k') (p.ledger ∙ ap (option_map (with_header g.header)) ek) s)) in
     finish_stands (asked_roots names) m l names.to g.header (works (defined_in g.notes.scanned.items)) f' k' (status_of_stop why done) (plan_at names g defined noted f0 k0 k1 m l ef ek p)
     (stop_finishes names.to (works (defined_in g.notes.scanned.items)) why done (Some m) f' (Some (with_header g.header l)) k' t)
-
--- a cause after a reading that let no count fall
-pub causes_later : (asked : Asked) (told : Option Contents) (f0 f f' k k' o o' : ℕ) (status : Status) → f0 ≤ f → HasCauses asked told status f f' k k' o o' → HasCauses asked told status f0 f' k k' o o'
-causes_later asked told f0 f f' k k' o o' (FolderFault done) le c = Rose-earlier f0 f f' le c
-causes_later asked told f0 f f' k k' o o' Done le c = c
-causes_later asked told f0 f f' k k' o o' Refusals le c = c
-causes_later asked told f0 f f' k k' o o' OutputFault le c = c
-causes_later asked told f0 f f' k k' o o' Memory le c = c
-causes_later asked told f0 f f' k k' o o' (LedgerFault done) le c = c
-causes_later asked told f0 f f' k k' o o' Usage le c = c
-causes_later asked told f0 f f' k k' o o' (NestedRoots first second) le c = c
-causes_later asked told f0 f f' k k' o o' (BadRules fault) le c = c
-causes_later asked told f0 f f' k k' o o' (OtherRun kept wanted) le c = c
-causes_later asked told f0 f f' k k' o o' (Limit kind path) le c = c
-causes_later asked told f0 f f' k k' o o' (PathClash first second) le c = c
-causes_later asked told f0 f f' k k' o o' (NameClash defined other image) le c = c
-causes_later asked told f0 f f' k k' o o' (Stranded path held) le c = c
-causes_later asked told f0 f f' k k' o o' (Moved path one other) le c = c

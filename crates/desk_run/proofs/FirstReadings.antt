@@ -2,7 +2,6 @@
 use Rattle.std.proofs.Common.{All, ◌≡◌, ◌≤◌, ◌<◌, ◌^◌, ℕ, Bool, true, false, not, List, [], ◌∷◌, ◌++◌, length, map, refl, sym, ap, ◌∙◌, subst, arith, cond, nat_lt, Option, Some, None, Result, Ok, Err, IfSome, IsSome}
 use Rattle.std.specs.Prelude.{if◌then◌else◌}
 use Rattle.std.specs.FinMap as fin
-use Rattle.std.proofs.lemmas.List.{length-map}
 use Rattle.std.proofs.lemmas.List.Elements.{All-cons, All-head, All-nil, All-tail}
 use Rattle.desk_base.specs.Counts.{Rose-earlier}
 use Rattle.desk_base.specs.Limits.{file_size}
@@ -163,6 +162,3 @@ all_read rules routes files e relative routed within =
             within = All-head IsWithin file files w;
           })
           (by files (All-tail (λ (route : Route). IsRelativeRoute route) file.route rest r) (All-tail (λ (route : Route). IsRouteBy rules route) file.route rest s) (All-tail IsWithin file files w))
-
-pub few_files : (routes : List Route) (files : List Measured) → map (λ (file : Measured). file.route) files ≡ routes → length files ≡ length routes
-few_files routes files e = sym (length-map files (λ (file : Measured). file.route)) ∙ ap length e

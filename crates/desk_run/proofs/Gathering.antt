@@ -1,5 +1,5 @@
 -- What was read makes a run, or an answer.
-use Rattle.std.proofs.Common.{All, ◌≡◌, ℕ, ◌≤◌, ◌<◌, ◌^◌, Bool, true, List, [], ◌∷◌, length, Option, Some, None, refl, sym, ap, ◌∙◌, map, Result, Ok, Err, IfOk, IfErr, IfSome}
+use Rattle.std.proofs.Common.{All, ◌≡◌, ℕ, ◌≤◌, ◌<◌, ◌^◌, true, List, [], ◌∷◌, length, Option, Some, None, refl, sym, ap, ◌∙◌, map, Result, Ok, Err, IfOk, IfErr, IfSome}
 use Rattle.desk_base.specs.Counts.{Rose-earlier}
 use Rattle.desk_base.specs.Names.{Text}
 use Rattle.desk_readings.proofs.Fronts.{at_some, if_some}
@@ -146,14 +146,6 @@ halts_sizes rules from told mid f f1 f' (halt.Answer status) le same clear g = (
       first_none _ _ (at_some (λ m. paths_answer from (target rules) (paths_below from m) ≡ None) told m t clear)
       ∙ first_some _ _ status (at_some (λ m. size_answer (is_whole rules) (files_below from m) ≡ Some status) mid m (same ∙ t) g.1)),
 )
-
--- they are too many, or a path is too long
-pub halts_paths : (from : Text) (target : Text → Text) (whole : Text → Bool) (told : Option Contents) (f f' : ℕ) (h : Halt) → HaltsWith (λ m. paths_answer from target (paths_below from m)) told f f' h → HaltsAtFiles from target whole told f f' h
-halts_paths from target whole told f f' halt.Memory g = tt
-halts_paths from target whole told f f' halt.Folders g = g
-halts_paths from target whole told f f' halt.Ledger g = absurd g
-halts_paths from target whole told f f' (halt.Answer status) g =
-    (g.0, if_some _ told (λ m t. first_some _ _ status (at_some (λ m. paths_answer from target (paths_below from m) ≡ Some status) told m t g.1)))
 
 pub err_reading : {T : Type 0} (asked : Asked) (names : Roots) (told : Option Contents) (f f' : ℕ) (r : Result T Halt) → asked ≡ Ok names
     → IfErr r (HaltsReadingAll names told f f') → IfErr r (HaltsGathering asked told f f')

@@ -1,5 +1,5 @@
 -- The run over a generated application: its files, its roots and its totals.
-use Rattle.std.proofs.Common.{◌≡◌, ℕ, Bool, true, false, List, [], ◌∷◌, ◌++◌, Option, Some, None, refl, sym, ap, ◌∙◌, subst, map, get_or, arith, Result, Ok, Err}
+use Rattle.std.proofs.Common.{◌≡◌, ℕ, Bool, true, false, List, [], ◌∷◌, ◌++◌, Option, Some, None, refl, sym, ap, ◌∙◌, subst, map, Result, Ok, Err}
 use Rattle.std.specs.Prelude.{◌||◌, IfOk, IsOkAnd, codes}
 use Rattle.std.specs.List.{list_all}
 use Rattle.std.specs.FinMap as fin
@@ -14,7 +14,6 @@ use Rattle.desk_ledger.specs.Ledger.{Ledger}
 use Rattle.desk_report.specs.declared.lines.Summary.{Summary}
 use Rattle.desk_report.specs.declared.status.Status.{Status}
 use Rattle.desk_words.specs.declared.roots.Roots.{Roots}
-use Rattle.desk_words.specs.Roots.{AreRoots, IsPathRoot, RootsApart}
 use Rattle.desk_run.specs.Named.{asked_roots}
 use Rattle.desk_run.specs.Runs.{Run}
 use Rattle.desk_run.specs.Meaning.{run_of_asked}
@@ -43,19 +42,6 @@ all_more (file ∷ files) last e h = let p = and_parts _ _ e in and_from _ _ p.0
 pub all_full : (n : ℕ) → list_all (λ (file : GenFile). is_relative_path file.path) (generated n) ≡ true → list_all (λ (file : GenFile). is_full_path file.path) (generated_files n) ≡ true
 all_full n e = all_more (map (placed (codes "in")) (generated n)) (placed (codes "rules") rule_file) (all_below_in (generated n) e) refl
 
--- paths stand below `out`, and none of them below `in` or `rules`
-below_out : IsPathRoot (codes "out")
-below_out path e = or_yes _ _ e
-
-in_and_out : RootsApart (codes "in") (codes "out")
-in_and_out p q rp rq e = let h : 105 ≡ 111 = ap (λ t. get_or t 0 0) e in omega (arith, h)
-
-rules_and_out : RootsApart (codes "rules") (codes "out")
-rules_and_out p q rp rq e = let h : 114 ≡ 111 = ap (λ t. get_or t 0 0) e in omega (arith, h)
-
-pub roots_in_memory : AreRoots generated_roots
-roots_in_memory = record { rules_is_root = refl; from_is_root = refl; below_to = below_out; apart = in_and_out; rules_apart = rules_and_out }
-
 contents_are : (n : ℕ) → filled (generated_files n) fin.empty ≡ generated_contents n
 unfolding generated_contents
 contents_are n = refl
@@ -82,7 +68,3 @@ totals_found n files roots f k (Ok totals) e s ef ek w =
     let P : Option Contents → Option Ledger → Type 0 = λ f k. WhereTold f k (λ m l. IsOkAnd (run_of_asked (asked_roots roots) m) (λ run. totals ≡ summary_of run l.rows (files_below run.from m))) in
     totals_told n files roots totals e s (subst (λ f. P f (Some (record { header = None; rows = fin.empty }))) ef (subst (λ k. P f k) ek w))
 totals_found n files roots f k (Err stop) e s ef ek w = tt
-
--- what is said of the totals is said of these
-pub of_totals : (n : ℕ) (totals : Summary) (P : Summary → Type 0) → generated_totals n ≡ Ok totals → P totals → IsOkAnd (generated_totals n) P
-of_totals n totals P e p = subst (λ r. IsOkAnd r P) (sym e) p

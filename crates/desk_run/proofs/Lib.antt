@@ -4,7 +4,6 @@ pub mod Truths
 pub mod Remaining
 pub mod FirstReadings
 pub mod Measures
-pub mod Clashing
 pub mod Reporting
 pub mod Gathering
 pub mod Preparing

@@ -50,12 +50,6 @@ is_sound file noted kept found relative within same way =
           (subst (λ (f : Measured). f.size ≤ most_of (way_by kept (not (is_copy file.route.treatment)) found)) (sym same) (size_fits file.size kept (is_copy file.route.treatment) found within));
     }
 
-pub all_relative : (rules : Rules) (files : List Measured) → All (IsRead rules) files → All (λ (file : Measured). IsRelativeRoute file.route) files
-all_relative rules files h = All-weaker (IsRead rules) (λ (file : Measured). IsRelativeRoute file.route) (λ (file : Measured) r. r.relative) files h
-
-pub all_within : (rules : Rules) (files : List Measured) → All (IsRead rules) files → All IsWithin files
-all_within rules files h = All-weaker (IsRead rules) IsWithin (λ (file : Measured) r. r.within) files h
-
 -- what holds of what was read holds of what was noted
 of_measured : (P : Measured → Type 0) (noted : List Noted) → All P (map measured_in noted) → All (λ (one : Noted). P (measured_in one)) noted
 of_measured P [] h = All-nil (λ (one : Noted). P (measured_in one))

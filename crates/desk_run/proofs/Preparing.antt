@@ -1,5 +1,5 @@
 -- From what was gathered and planned to a run that is ready.
-use Rattle.std.proofs.Common.{All, ◌≡◌, inl, inr, ℕ, true, List, [], ◌∷◌, Option, Some, None, refl, sym, ap, ◌∙◌, subst, map, Result, Ok, Err, IfSome}
+use Rattle.std.proofs.Common.{All, ◌≡◌, inl, inr, ℕ, true, List, [], ◌∷◌, Option, Some, None, refl, sym, ap, ◌∙◌, subst, map, Result, IfSome}
 use Rattle.std.proofs.lemmas.List.Elements.{All-head, All-tail}
 use Rattle.desk_base.specs.Names.{Text}
 use Rattle.desk_readings.proofs.Fronts.{at_some, if_some}
@@ -12,7 +12,6 @@ use Rattle.desk_file.specs.Linked.{image_in}
 use Rattle.desk_file.specs.declared.images.Image.{Image}
 use Rattle.desk_folders.specs.Contents.{Contents, File, file_at, files_below, paths_below}
 use Rattle.desk_ledger.specs.Ledger.{Ledger}
-use Rattle.desk_ledger.specs.declared.keeper.Header.{Header}
 use Rattle.desk_rename.specs.Images.{cls}
 use Rattle.desk_report.specs.declared.lines.Reason.{Reason}
 use Rattle.desk_report.specs.declared.status.Status.{Status}
@@ -23,15 +22,14 @@ use Rattle.desk_words.specs.Roots.{AreRoots}
 use Rattle.desk_words.specs.declared.roots.Roots.{Roots}
 use Rattle.desk_run.proofs.Measures.{works_noted}
 use Rattle.desk_run.specs.Answers.{clash_status, clash_answer, first_of, files_answer, names_answer, or_else, other_run, first_answer, answer_of_run, is_answer, AskedCause}
-use Rattle.desk_run.specs.Endings.{GatheredFrom, HasGathered, IsAnswer, IsReady, Planned, LedgerEarly, HaltsEarly, NamedBy, NamedByRoots, NamedEarly}
-use Rattle.desk_run.specs.Halts.{HaltsGathering, HaltsPlan, AnswersPlan, LedgerOwn, NamedAtPlan, is_ledger_status, is_names_status, is_early_answer}
+use Rattle.desk_run.specs.Endings.{GatheredFrom, HasGathered, IsAnswer, IsReady, Planned, LedgerEarly, HaltsEarly}
+use Rattle.desk_run.specs.Halts.{HaltsGathering, HaltsPlan, AnswersPlan, LedgerOwn, is_ledger_status, is_names_status, is_early_answer}
 use Rattle.desk_run.specs.Meaning.{defined_in, finds_in, header_of, run_of, run_of_asked}
 use Rattle.desk_run.specs.Named.{Asked, asked_roots}
 use Rattle.desk_run.specs.Notes.{IsRead, measured_of, noted_by}
 use Rattle.desk_run.specs.Reports.{ending}
 use Rattle.desk_run.specs.Runs.{Run, AllRelative, targets_of}
 use Rattle.desk_intake.specs.Apart.{AllApart as Distinct, Misses}
-use Rattle.desk_run.specs.Stops.{status_of_halt}
 use Rattle.desk_run.specs.Truth.{IsOurs}
 use Rattle.desk_run.specs.declared.gather.Gathered.{Gathered}
 use Rattle.desk_intake.specs.declared.rules.Ruled.{Ruled}
@@ -231,59 +229,3 @@ gather_early asked f0 k0 a b c d (halt.Answer status) g = (
     first = λ m l ef ek. at_some (λ m. (l : Ledger) → first_answer asked m l ≡ status) f0 m ef g.first l;
   },
 )
-
-early_named : (old : Option Text) (name : Text) (status : Status) → is_early_answer status ≡ true → NamedBy old old name status
-early_named old name Usage e = refl
-early_named old name (NestedRoots first second) e = refl
-early_named old name (BadRules fault) e = refl
-early_named old name (Limit kind path) e = refl
-early_named old name (PathClash first second) e = refl
-early_named old name (NameClash defined other image) e = cc
-early_named old name (Stranded path held) e = cc
-early_named old name (Moved path one other) e = cc
-early_named old name Done e = cc
-early_named old name Refusals e = cc
-early_named old name Memory e = cc
-early_named old name (FolderFault done) e = cc
-early_named old name (LedgerFault done) e = cc
-early_named old name OutputFault e = cc
-early_named old name (OtherRun kept wanted) e = cc
-
-pub gather_named : (asked : Asked) (f0 : Option Contents) (old : Option Text) (a b : ℕ) (h : Halt) → HaltsGathering asked f0 a b h → NamedEarly asked old old h
-gather_named asked f0 old a b h g = by (asked) h g where
-  by : (r : Result Roots Status) (h : Halt) → HaltsGathering asked f0 a b h → NamedByRoots old old (status_of_halt h) r
-  by (Err status) h g = refl
-  by (Ok roots) halt.Memory g = inl refl
-  by (Ok roots) halt.Folders g = inl refl
-  by (Ok roots) halt.Ledger g = inl refl
-  by (Ok roots) (halt.Answer status) g = early_named old roots.ledger status g.is
-
-pub plan_named : (asked : Asked) (names : Roots) (answer : Option Status) (header : Header) (k0 k1 : Option Ledger) (a b c d : ℕ) (old new : Option Text) (h : Halt) → asked ≡ Ok names → HaltsPlan answer header k0 k1 a b c d h
-    → NamedAtPlan old new names.ledger h → NamedEarly asked old new h
-plan_named asked names answer header k0 k1 a b c d old new h e g n = subst (NamedByRoots old new (status_of_halt h)) (sym e) (by h g n) where
-  answered : (status : Status) → AnswersPlan answer header k0 status → NamedAtPlan old new names.ledger (halt.Answer status) → NamedBy old new names.ledger status
-  answered (OtherRun kept wanted) g n = n
-  answered (NameClash defined other image) g n = n
-  answered (Stranded path held) g n = n
-  answered (Moved path one other) (inl a) n = cc
-  answered (Moved path one other) (inr b) n = cc
-  answered Usage g n = n
-  answered (NestedRoots first second) g n = n
-  answered (BadRules fault) g n = n
-  answered (Limit kind path) g n = n
-  answered (PathClash first second) g n = n
-  answered Done (inl a) n = cc
-  answered Done (inr b) n = cc
-  answered Refusals (inl a) n = cc
-  answered Refusals (inr b) n = cc
-  answered OutputFault (inl a) n = cc
-  answered OutputFault (inr b) n = cc
-  answered Memory g n = inl n
-  answered (FolderFault done) g n = inl n
-  answered (LedgerFault done) g n = inl n
-
-  by : (h : Halt) → HaltsPlan answer header k0 k1 a b c d h → NamedAtPlan old new names.ledger h → NamedBy old new names.ledger (status_of_halt h)
-  by halt.Memory g n = n
-  by halt.Folders g n = n
-  by halt.Ledger g n = n
-  by (halt.Answer status) g n = answered status g.1 n

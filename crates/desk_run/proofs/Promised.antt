@@ -38,7 +38,6 @@ use Rattle.desk_run.specs.Stops.{status_of_halt}
 use Rattle.desk_run.specs.Stands.{Unchanged, Between, Stands, Remains}
 use Rattle.desk_run.specs.Classes.{is_selected_class, HoldsNewClass, RenamesClasses, Classes}
 use Rattle.desk_run.specs.Meaning.{defined_in, run_of, run_of_asked}
-use Rattle.desk_run.specs.Answers.{first_answer}
 use Rattle.desk_run.specs.Endings.{WhereTold, Tells, Planned, HaltsEarly, Finishes, ReportedOf, HasCauses, StandsAt, IsDone, StandsAfter, is_final, Named}
 use Rattle.desk_run.specs.Clauses.{HoldsFiles, HoldsRows, Files, CompleteRows, TrueBehind, KeepsLedger, LedgerHolds, Output, Exact, RemainsAt, Left}
 use Rattle.desk_run.specs.Generated.{TellsTotals, Generates, generated_totals}
@@ -46,7 +45,7 @@ use Rattle.desk_run.proofs.After.{header_after}
 use Rattle.desk_run.proofs.Remaining.{remains_of, truth_of}
 use Rattle.desk_run.proofs.Sounding.{sound_of, true_behind}
 use Rattle.desk_run.proofs.Splits.{shorter_than}
-use Rattle.desk_run.proofs.Ending.{finish_stands, early_stands, early_first}
+use Rattle.desk_run.proofs.Ending.{finish_stands, early_stands}
 
 holds_files : (run : Run) (m0 : Contents) (l0 : Ledger) (m : Contents) (l : Ledger) → Between run m0 l0 m l (length (files_below run.from m0)) → HoldsFiles run m0 l0 m
 holds_files run m0 l0 m l b =
@@ -356,11 +355,6 @@ pub early_told : (asked : Asked) (f0 f' : Option Contents) (k0 k' : Option Ledge
 early_told asked f0 f' k0 k' m l a b c d h ef ek f s =
     early_stands asked m l f' k' a b c d h (f ∙ ef)
     (subst (λ x. HaltsEarly asked x (Some l) k' a b c d h) ef (subst (λ x. HaltsEarly asked f0 x k' a b c d h) ek s))
-
-pub early_told_first : (asked : Asked) (f0 : Option Contents) (k0 k' : Option Ledger) (m : Contents) (l : Ledger) (a b c d : ℕ) (h : Halt) → f0 ≡ Some m → k0 ≡ Some l
-    → HaltsEarly asked f0 k0 k' a b c d h → is_final (status_of_halt h) ≡ true → status_of_halt h ≡ first_answer asked m l
-early_told_first asked f0 k0 k' m l a b c d h ef ek s e =
-    early_first asked m l k' a b c d h (subst (λ x. HaltsEarly asked x (Some l) k' a b c d h) ef (subst (λ x. HaltsEarly asked f0 x k' a b c d h) ek s)) e
 
 -- ---- generate
 

@@ -45,9 +45,6 @@ pub record IsSkippedTo (text : Text) (before last : LineEnd) (rest : Text) : Typ
   pub all : list_all (λ l. is_continuation l.content) further ≡ true
   pub last_is : last ≡ end_behind before further
 
-pub skipped_none : (text : Text) (end : LineEnd) → IsSkippedTo text end end text
-skipped_none text end = record { further = []; lines_are = refl; all = refl; last_is = refl }
-
 pub one_more : (text : Text) (before last : LineEnd) (rest content : Text) (end : LineEnd) (more : Text) → IsSkippedTo text before last rest
     → lines rest ≡ line content end ∷ lines more → is_continuation content ≡ true → IsSkippedTo text before end more
 one_more text before last rest content end more k same is = record {

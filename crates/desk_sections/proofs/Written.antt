@@ -50,15 +50,9 @@ pieces_filled (suc count) limit t = elim (nat_le (length t) limit) as (λ (c : B
 pub bytes_step : (between last t : Text) (limit : ℕ) → limit < length t → 1 ≤ limit → folded_bytes between last (pieces (length t) limit t) ≡ take (cut_place limit t) t ++ (between ++ (32 ∷ folded_bytes between last (pieces (length (drop (cut_place limit t) t)) 71 (drop (cut_place limit t) t))))
 bytes_step between last t limit h k = ap (folded_bytes between last) (pieces_step limit t h k) ∙ bytes_more between last (take (cut_place limit t) t) (pieces (length (drop (cut_place limit t) t)) 71 (drop (cut_place limit t) t)) (pieces_filled (length (drop (cut_place limit t) t)) 71 (drop (cut_place limit t) t))
 
-pub bytes_last : (between last t : Text) (limit : ℕ) → length t ≤ limit → folded_bytes between last (pieces (length t) limit t) ≡ t ++ last
-bytes_last between last t limit h = ap (folded_bytes between last) (pieces_short (length t) limit t h)
-
 pub assoc4 : (o a b c : Text) → o ++ (a ++ (b ++ (32 ∷ c))) ≡ (((o ++ a) ++ b) ++ (32 ∷ [])) ++ c
 assoc4 o a b c =
     sym (append_assoc o a (b ++ (32 ∷ c))) ∙ sym (append_assoc (o ++ a) b (32 ∷ c)) ∙ sym (append_assoc ((o ++ a) ++ b) (32 ∷ []) c)
-
-pub written_last : (all out between last rest : Text) (limit : ℕ) → all ≡ out ++ folded_bytes between last (pieces (length rest) limit rest) → length rest ≤ limit → (out ++ rest) ++ last ≡ all
-written_last all out between last rest limit e h = append_assoc out rest last ∙ ap (λ (s : Text). out ++ s) (sym (bytes_last between last rest limit h)) ∙ sym e
 
 pub written_step : (all out between last rest : Text) (limit place : ℕ) (a b d r : Text) → all ≡ out ++ folded_bytes between last (pieces (length rest) limit rest) → limit < length rest → 1 ≤ limit → place ≡ cut_place limit rest → a ≡ out ++ take place rest → b ≡ a ++ between → d ≡ b ++ (32 ∷ []) → r ≡ drop place rest → all ≡ d ++ folded_bytes between last (pieces (length r) 71 r)
 written_step all out between last rest limit place a b d r e h k p ea eb ed er =

@@ -1,16 +1,12 @@
 -- Lists of rows: what the last one leaves, and their values.
-use Rattle.std.proofs.Common.{◌≡◌, ◌-◌, ◌+◌, ◌<◌, ℕ, List, [], ◌∷◌, ◌++◌, length, take, get_or, refl, ap, sym, ◌∙◌, arith, length-append}
-use Rattle.std.proofs.lemmas.List.{take_at, take_more}
+use Rattle.std.proofs.Common.{◌≡◌, ◌-◌, ◌+◌, ◌<◌, ℕ, List, [], ◌∷◌, ◌++◌, length, take, get_or, refl, ap, sym, ◌∙◌}
+use Rattle.std.proofs.lemmas.List.{take_more}
 use Rattle.sqlite.specs.Value.{owned}
 use Rattle.sqlite.specs.Values.{bound, bound_value}
 use Rattle.sqlite.specs.declared.types.Value.TheVariants.{Blob}
 use Rattle.sqlite.specs.declared.types.ValueRef.{ValueRef}
 use Rattle.desk_ledger.specs.declared.keeper.Row.{Row}
 use Rattle.desk_sqlite.specs.Statements.{output_of, values_in}
-
--- without its last, a list is what stood before that was added
-pub take_added : {X : Type 0} (xs : List X) (x : X) → take (length (xs ++ x ∷ []) - 1) (xs ++ x ∷ []) ≡ xs
-take_added xs x = take_at xs (x ∷ []) _ (let l = length-append xs (x ∷ []) in omega (arith, l))
 
 -- the values of a row behind others are behind theirs
 pub values_in-added : (rows : List Row) (row : Row) → values_in (rows ++ row ∷ []) ≡ values_in rows ++ (Blob row.target ∷ (Blob row.source ∷ (Blob row.digest.0 ∷ (output_of row.output ∷ []))))

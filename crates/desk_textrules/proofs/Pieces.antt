@@ -103,14 +103,6 @@ pub record IsReplacedTo (rules : List TextRule) (text : Text) (done : ℕ) (byte
   pub changed_is : count_changed (pieces rules text) ≡ changed + count_changed (pieces rules (drop done text))
   pub few : changed ≤ done
 
-pub replaced_none : (rules : List TextRule) (text bytes : Text) → bytes ≡ [] → IsReplacedTo rules text 0 bytes 0
-replaced_none rules text bytes none = record {
-  within = omega arith;
-  bytes_are = ap (λ (t : Text). t ++ replaced rules text) (sym none);
-  changed_is = omega arith;
-  few = omega arith;
-}
-
 pub replaced_more : (rules : List TextRule) (text : Text) (done : ℕ) (bytes : Text) (changed at taken : ℕ) (target next : Text) (more : ℕ) → IsReplacedTo rules text done bytes changed → IsSourceAt rules text done at taken target → next ≡ (bytes ++ bytes_in text done at) ++ target → more ≡ changed + cond (not (bytes_eq target (source_in text at taken))) 1 0 → IsReplacedTo rules text (at + taken) next more
 replaced_more rules text done bytes changed at taken target next more so is e counted =
     let rest : List Piece = pieces rules (drop (at + taken) text) in
@@ -162,9 +154,6 @@ all_counted rules text done bytes changed so none =
 pub record IsSettledTo (rules : List TextRule) (text : Text) (done : ℕ) : Type 0 where
   pub within : done ≤ length text
   pub same : unsettled rules text ≡ first_changed done (pieces rules (drop done text))
-
-pub settled_none : (rules : List TextRule) (text : Text) → IsSettledTo rules text 0
-settled_none rules text = record { within = omega arith; same = refl }
 
 next_source : (rules : List TextRule) (text : Text) (done at taken : ℕ) (target : Text) → IsSettledTo rules text done → IsSourceAt rules text done at taken target → unsettled rules text ≡ cond (bytes_eq target (source_in text at taken)) (first_changed (at + length (source_in text at taken)) (pieces rules (drop (at + taken) text))) (Some at)
 next_source rules text done at taken target so is =
