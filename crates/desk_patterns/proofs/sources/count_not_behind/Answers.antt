@@ -1,7 +1,7 @@
 use Rattle.std.proofs.Common.{◌+◌, ◌-◌, ◌/◌, ◌≡◌, ◌∙◌, ℕ, sym, ap, arith, Bool, true, false}
 use Rattle.std.specs.declared.cmp.Ordering.TheVariants.{Less, Equal, Greater}
 use Rattle.desk_patterns.specs.Seen.{rules_seen}
-use Rattle.desk_patterns.proofs.Tables.{cut_none, cut_up, cut_down}
+use Rattle.desk_patterns.proofs.Tables.{cut_up, cut_down}
 use Rattle.desk_patterns.proofs.Kept.{compared, seen_length}
 use Rattle.desk_patterns.proofs.sources.count_not_behind.Goals as goal
 

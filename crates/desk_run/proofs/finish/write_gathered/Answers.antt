@@ -1,7 +1,7 @@
 use Rattle.std.proofs.Common.{◌≡◌, ◌∙◌, ap, refl, sym, subst, rules}
 use Rattle.desk_rename.specs.Images.{cls}
-use Rattle.desk_run.proofs.Finishing.{few_noted, gathered_notes, gathered_stopped, gathered_written, is_planned}
-use Rattle.desk_run.proofs.Measures.{all_relative, all_routed, all_within}
+use Rattle.desk_run.proofs.Finishing.{gathered_notes, gathered_stopped, gathered_written, is_planned}
+use Rattle.desk_run.proofs.Measures.{all_routed}
 use Rattle.desk_run.proofs.Preparing.{plan_early}
 use Rattle.desk_run.proofs.Promised.{early_told}
 use Rattle.desk_run.specs.Endings.{HaltsEarly, StandsAfter, Tells}

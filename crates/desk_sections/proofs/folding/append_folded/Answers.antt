@@ -1,6 +1,6 @@
 use Rattle.std.proofs.Common.{◌++◌, ap, ◌∙◌, arith}
 use Rattle.std.proofs.lemmas.List.{take_rest}
-use Rattle.desk_sections.proofs.Written.{written_last, written_step}
+use Rattle.desk_sections.proofs.Written.{written_step}
 use Rattle.desk_sections.proofs.folding.append_folded.Goals as goal
 
 pub loop-limit-preserved : goal.loop-limit-preserved

@@ -1,5 +1,5 @@
 use Rattle.std.proofs.Common.{sym, ◌∙◌}
-use Rattle.desk_textrules.proofs.Pieces.{source_found, settled_none, settled_more, unsettled_here, all_settled}
+use Rattle.desk_textrules.proofs.Pieces.{source_found, settled_more, unsettled_here, all_settled}
 use Rattle.desk_textrules.proofs.texts.first_change.Goals as goal
 
 pub returns-then-changes-clause-first : goal.returns-then-changes-clause-first
