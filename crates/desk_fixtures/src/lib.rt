@@ -55,3 +55,16 @@ pub fn rule_set(alloc: Global, rows: &[(&[u8], &[u8])]) -> Result<Box<RuleSet>, 
     let rules = RuleSet::build(alloc, &files)?;
     Ok(Box::new(alloc, rules)?)
 }
+
+/// The rule set of the files whose names and contents these words are, in turns, in a box of its own. The fault is that of
+/// the files, or want of memory.
+pub fn rules_of(alloc: Global, words: &[Text]) -> Result<Box<RuleSet>, BuildFault> {
+    let mut files = RuleFiles::new(alloc);
+    for row in words.chunks_exact(2) {
+        if let [name, content] = row {
+            files = with_file(alloc, files, name.as_bytes(), content.as_bytes())?;
+        }
+    }
+    let rules = RuleSet::build(alloc, &files)?;
+    Ok(Box::new(alloc, rules)?)
+}
