@@ -3,11 +3,7 @@
 set -eu
 cd "$(dirname "$0")/../.."
 program=crates/migrate/out/migrate
-if [ ! -x "$program" ]; then
-  echo "building $program (each crate is proved first; this takes some minutes)" >&2
-  (cd crates/migrate && rt run >/dev/null) || true
-  [ -x "$program" ] || { echo "$program was not built" >&2; exit 1; }
-fi
+[ -x "$program" ] || tools/build.sh
 rm -rf build/first build/first.ledger build/first.ledger-wal
 mkdir -p build
 "$program" run --rules examples/first/rules --from examples/first/app --to build/first --ledger build/first.ledger
