@@ -5,10 +5,11 @@
 # usage: tools/build.sh
 set -eu
 cd "$(dirname "$0")/.."
-top=$PWD
 program=crates/migrate/out/migrate
+log=build/proofs.log
 room=$(mktemp -d)
-trap 'rm -rf "$room"' EXIT
+proving=
+trap '[ -z "$proving" ] || kill "$proving" 2>/dev/null || true; rm -rf "$room"' EXIT
 
 # A line for each crate that the program stands on, itself last, with its dependencies.
 needed() {
@@ -39,23 +40,25 @@ while IFS=: read -r name _; do
 done <"$room/crates.txt"
 
 echo "proving $total crates, the program last: some 15 minutes on four processors, 25 on two, where nothing is kept" >&2
-done_=0
-(cd "$room" && rt ci) >"$room/log" 2>&1 &
+ended=0
+mkdir -p build
+: >"$log"
+(cd "$room" && exec rt ci) >"$log" 2>&1 &
 proving=$!
-told() { grep -cE '^rt: [a-z_0-9]+ (proved$|is kept:)' "$room/log" || true; }
+told() { grep -cE '^rt: [a-z_0-9]+ (proved$|is kept:)' "$log" || true; }
 while kill -0 "$proving" 2>/dev/null; do
   now=$(told)
-  if [ "$now" -gt "$done_" ]; then
-    done_=$now
-    echo "$done_ of $total: $(grep -oE '^rt: [a-z_0-9]+ (proved$|is kept:)' "$room/log" | tail -1 | cut -d' ' -f2)" >&2
+  if [ "$now" -gt "$ended" ]; then
+    ended=$now
+    echo "$ended of $total: $(grep -oE '^rt: [a-z_0-9]+ (proved$|is kept:)' "$log" | tail -1 | cut -d' ' -f2)" >&2
   fi
   sleep 1
 done
 if ! wait "$proving" || [ ! -x "$room/$program" ]; then
-  cp "$room/log" "$top/build.log" 2>/dev/null || true
-  echo "$program was not built; build.log says why" >&2
+  echo "$program was not built; $log says why" >&2
   exit 1
 fi
+proving=
 mkdir -p crates/migrate/out
 cp "$room/$program" "$program.new"
 mv "$program.new" "$program"
