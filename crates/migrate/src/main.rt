@@ -2,81 +2,79 @@
 //! the status that the desk answers, and tells people on standard error what stands behind it.
 #![tactic(auto)]
 
-ghost use Rattle.std.specs.Prelude.{◌≡◌, ◌≢◌, IfOk, drop, map, string_bytes};
-ghost use Rattle.std.specs.Process.{exit_status};
-ghost use Rattle.desk_report.specs.Texts.{code_of};
-
-mod after;
-mod before;
-mod streams;
-mod telling;
-
-use after::tell_end;
-use before::guarded;
 use desk_base::{Memory, Text};
 use desk_disk::DiskFolders;
 use desk_notes::Overheard;
+use desk_program::{
+    Ending, Streams, exit_of, guarded, read_words, roots_of, tell_end, tell_unread, unread,
+};
 use desk_report::{Status, StdSink, write_fault};
 use desk_run::{FreeGate, desk};
 use desk_sqlite::SqliteKeeper;
-use desk_words::{Order, Roots, RootsFault, read_order};
-use std::alloc::Global;
-use std::io::ErrorKind;
+use desk_words::Roots;
 use std::process::ExitCode;
 use std::thread::Threads;
-use std::{env, io};
-use streams::Streams;
-use telling::tell_unread;
 
-/// Words as texts, as they were given.
-fn texts_of(alloc: Global, given: &[String]) -> Result<Vec<Text>, Memory>
-    ensures { IfOk result (λ words. words.items ≡ map string_bytes given.now) }
-{
-    let mut words = Vec::new(alloc);
-    for word in given {
-        words.push(Text::from_bytes(alloc, word.as_bytes())?)?;
-    }
-    Ok(words)
+/// The real outside of a run.
+#[derive(Drop)]
+struct Outside<'r> {
+    rt: &'r HostRuntime,
+    folders: DiskFolders<'r>,
+    keeper: SqliteKeeper<'r>,
+    out: Overheard<'r, StdSink<'r>>,
 }
 
-/// The words behind the program's name, as they were given.
-fn words_behind(alloc: Global, args: &[String]) -> Result<Vec<Text>, Memory>
-    ensures { IfOk result (λ words. words.items ≡ map string_bytes (drop 1 args.now)) }
-{
-    match args.split_first() {
-        Some((_, given)) => texts_of(alloc, given),
-        None => Ok(Vec::new(alloc)),
+impl<'r> Outside<'r> {
+    fn new(rt: &'r HostRuntime) -> Outside<'r> {
+        Outside {
+            rt,
+            folders: DiskFolders::new(rt),
+            keeper: SqliteKeeper::new(rt),
+            out: Overheard::new(rt, StdSink::new(rt)),
+        }
     }
-}
 
-fn read_words(rt: &HostRuntime) -> io::Result<Vec<Text>> {
-    let mut args = Vec::new(rt.alloc());
-    for arg in env::args(rt)? {
-        args.push(arg)?;
+    /// Guards a run, and shows its progress from then on; or writes the line of the status that it ends with before it begins.
+    fn begin(&mut self, roots: &Roots) -> Option<Status> {
+        let stopped = guarded(self.rt, roots, &mut self.folders);
+        match &stopped {
+            Some(status) => {
+                let _ = write_fault(status, &mut self.out);
+            }
+            None => self.folders.show_progress(),
+        }
+        stopped
     }
-    match words_behind(rt.alloc(), &args) {
-        Ok(words) => Ok(words),
-        Err(Memory) => Err(io::Error::from(ErrorKind::OutOfMemory)),
-    }
-}
 
-/// How a program ends whose words can't be read: for want of memory, or as words that mean no task.
-fn unread(kind: ErrorKind) -> Status
-    ensures memory { kind ≡ ErrorKind.OutOfMemory → result ≡ Status.Memory }
-    ensures other { kind ≢ ErrorKind.OutOfMemory → result ≡ Status.Usage }
-{
-    match kind {
-        ErrorKind::OutOfMemory => Status::Memory,
-        _ => Status::Usage,
+    /// Follows the words.
+    fn run<R: Threads + Sync>(&mut self, threads: &R, words: &[Text]) -> Status {
+        let status = desk(
+            threads,
+            self.rt.alloc(),
+            words,
+            &mut self.folders,
+            &mut self.keeper,
+            &mut self.out,
+            &FreeGate,
+        );
+        self.folders.end_progress();
+        self.keeper.remove_new_log();
+        status
     }
-}
 
-/// The roots of words that ask for a run.
-fn roots_of(alloc: Global, words: &[Text]) -> Result<Option<Roots>, Memory> {
-    match read_order(alloc, words) {
-        Ok(Order::Run { roots, .. }) => Ok(Some(roots)),
-        Err(RootsFault::Memory) => Err(Memory),
-        _ => Ok(None),
+    /// Tells what stands behind a status.
+    fn tell(&self, words: &[Text], roots: Option<&Roots>, status: &Status) {
+        tell_end(
+            self.rt,
+            &Ending {
+                words,
+                roots,
+                status,
+                folders: self.folders.last_fault(),
+                ledger: self.keeper.last_fault(),
+                notes: &self.out.notes,
+            },
+        );
     }
 }
 
@@ -85,39 +83,18 @@ fn follow<R: Threads + Sync>(
     rt: &HostRuntime,
     threads: &R,
     words: &[Text],
-    roots: &Option<Roots>,
+    roots: Option<&Roots>,
 ) -> Status {
-    let mut out = Overheard::new(rt, StdSink::new(rt));
-    let mut folders = DiskFolders::new(rt);
-    let mut keeper = SqliteKeeper::new(rt);
-    if let Some(roots) = roots {
-        if let Some(status) = guarded(rt, roots, &mut folders) {
-            let _ = write_fault(&status, &mut out);
-            tell_end(rt, words, &status, &folders, &keeper, &out.notes, None);
-            return status;
-        }
-        folders.show_progress();
-    }
-    let status = desk(
-        threads,
-        rt.alloc(),
-        words,
-        &mut folders,
-        &mut keeper,
-        &mut out,
-        &FreeGate,
-    );
-    folders.end_progress();
-    keeper.remove_new_log();
-    tell_end(
-        rt,
-        words,
-        &status,
-        &folders,
-        &keeper,
-        &out.notes,
-        roots.as_ref(),
-    );
+    let mut outside = Outside::new(rt);
+    let stopped = match roots {
+        Some(roots) => outside.begin(roots),
+        None => None,
+    };
+    let (status, roots) = match stopped {
+        Some(status) => (status, None),
+        None => (outside.run(threads, words), roots),
+    };
+    outside.tell(words, roots, &status);
     status
 }
 
@@ -134,16 +111,9 @@ fn run<R: Threads + Sync>(rt: &HostRuntime, threads: &R) -> Status {
         Err(error) => return end_without_task(rt, unread(error.kind())),
     };
     match roots_of(rt.alloc(), &words) {
-        Ok(roots) => follow(rt, threads, &words, &roots),
+        Ok(roots) => follow(rt, threads, &words, roots.as_ref()),
         Err(Memory) => end_without_task(rt, Status::Memory),
     }
-}
-
-/// The exit status that tells a status.
-fn exit_of(status: &Status) -> ExitCode
-    ensures { exit_status result ≡ code_of status.now }
-{
-    ExitCode::from(status.code())
 }
 
 fn main(rt: HostRuntime) -> ExitCode {

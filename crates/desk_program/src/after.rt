@@ -8,7 +8,6 @@ use desk_folders::{Folders, is_full};
 use desk_hints::{release_line, words_hint};
 use desk_notes::{Notes, rule_notes, unshown};
 use desk_report::Status;
-use desk_sqlite::SqliteKeeper;
 use desk_words::Roots;
 
 /// Writes the line of a fault that is remembered.
@@ -102,26 +101,35 @@ fn tell_words(rt: &HostRuntime, words: &[Text]) {
     }
 }
 
-/// Tells what stands behind a status: which call failed, which word stands against the run, what the report's lines say
-/// beside what they are for, and the hint of the status.
-pub fn tell_end(
-    rt: &HostRuntime,
-    words: &[Text],
-    status: &Status,
-    folders: &DiskFolders<'_>,
-    keeper: &SqliteKeeper<'_>,
-    notes: &Notes,
-    roots: Option<&Roots>,
-) {
-    match status {
-        Status::FolderFault { .. } => tell_fault(rt, folders.last_fault()),
-        Status::LedgerFault { .. } => tell_fault(rt, keeper.last_fault()),
-        Status::Usage => tell_words(rt, words),
+/// How a run ended.
+#[derive(Drop)]
+pub struct Ending<'a> {
+    /// The words that the program was given.
+    pub words: &'a [Text],
+    /// The roots of a run that was begun; none of other words.
+    pub roots: Option<&'a Roots>,
+    /// The status that the program ends with.
+    pub status: &'a Status,
+    /// What the folders refused last.
+    pub folders: Option<&'a Fault>,
+    /// What the ledger refused last.
+    pub ledger: Option<&'a Fault>,
+    /// What was noted of the report.
+    pub notes: &'a Notes,
+}
+
+/// Tells what stands behind an end: which call failed, which word stands against the run, what the report's lines say beside
+/// what they are for, and the hint of the status.
+pub fn tell_end(rt: &HostRuntime, ending: &Ending<'_>) {
+    match ending.status {
+        Status::FolderFault { .. } => tell_fault(rt, ending.folders),
+        Status::LedgerFault { .. } => tell_fault(rt, ending.ledger),
+        Status::Usage => tell_words(rt, ending.words),
         _ => {}
     }
-    tell_hint(rt, status);
-    match (status, roots) {
-        (Status::Done | Status::Refusals, Some(roots)) => tell_report(rt, roots, notes),
+    tell_hint(rt, ending.status);
+    match (ending.status, ending.roots) {
+        (Status::Done | Status::Refusals, Some(roots)) => tell_report(rt, roots, ending.notes),
         _ => {}
     }
 }

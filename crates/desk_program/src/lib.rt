@@ -1,0 +1,23 @@
+//! What the program does around the desk: it reads its words, holds the places of standard streams that it is started without,
+//! looks at the roots on the disk before a run, tells people on standard error what stands behind the end of one, and exits with
+//! the status that the desk answered.
+//!
+//! ```text
+//! let words = read_words(&rt)?;                            // what stands behind the program's name
+//! let roots = roots_of(alloc, &words)?;                    // the roots, where the words ask for a run
+//! guarded(&rt, &roots, &mut folders)                       // the status that a run ends with before it begins, if it does
+//! exit_of(&status)
+//! ```
+#![tactic(auto)]
+
+mod after;
+mod before;
+mod streams;
+mod telling;
+mod words;
+
+pub use after::{Ending, tell_end};
+pub use before::guarded;
+pub use streams::Streams;
+pub use telling::tell_unread;
+pub use words::{exit_of, read_words, roots_of, unread};

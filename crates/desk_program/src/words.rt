@@ -1,0 +1,73 @@
+//! The words that the program was given, and the status that it exits with.
+
+ghost use Rattle.std.specs.Prelude.{◌≡◌, ◌≢◌, IfOk, drop, map, string_bytes};
+ghost use Rattle.std.specs.Process.{exit_status};
+ghost use Rattle.desk_report.specs.Texts.{code_of};
+
+use desk_base::{Memory, Text};
+use desk_report::Status;
+use desk_words::{Order, Roots, RootsFault, read_order};
+use std::alloc::Global;
+use std::io::ErrorKind;
+use std::process::ExitCode;
+use std::{env, io};
+
+/// Words as texts, as they were given.
+fn texts_of(alloc: Global, given: &[String]) -> Result<Vec<Text>, Memory>
+    ensures { IfOk result (λ words. words.items ≡ map string_bytes given.now) }
+{
+    let mut words = Vec::new(alloc);
+    for word in given {
+        words.push(Text::from_bytes(alloc, word.as_bytes())?)?;
+    }
+    Ok(words)
+}
+
+/// The words behind the program's name, as they were given.
+fn words_behind(alloc: Global, args: &[String]) -> Result<Vec<Text>, Memory>
+    ensures { IfOk result (λ words. words.items ≡ map string_bytes (drop 1 args.now)) }
+{
+    match args.split_first() {
+        Some((_, given)) => texts_of(alloc, given),
+        None => Ok(Vec::new(alloc)),
+    }
+}
+
+/// The words behind the program's name. Errors are want of memory, and a word that isn't in UTF-8.
+pub fn read_words(rt: &HostRuntime) -> io::Result<Vec<Text>> {
+    let mut args = Vec::new(rt.alloc());
+    for arg in env::args(rt)? {
+        args.push(arg)?;
+    }
+    match words_behind(rt.alloc(), &args) {
+        Ok(words) => Ok(words),
+        Err(Memory) => Err(io::Error::from(ErrorKind::OutOfMemory)),
+    }
+}
+
+/// How a program ends whose words can't be read: for want of memory, or as words that mean no task.
+pub fn unread(kind: ErrorKind) -> Status
+    ensures memory { kind ≡ ErrorKind.OutOfMemory → result ≡ Status.Memory }
+    ensures other { kind ≢ ErrorKind.OutOfMemory → result ≡ Status.Usage }
+{
+    match kind {
+        ErrorKind::OutOfMemory => Status::Memory,
+        _ => Status::Usage,
+    }
+}
+
+/// The roots of words that ask for a run; none of others. The only error is want of memory.
+pub fn roots_of(alloc: Global, words: &[Text]) -> Result<Option<Roots>, Memory> {
+    match read_order(alloc, words) {
+        Ok(Order::Run { roots, .. }) => Ok(Some(roots)),
+        Err(RootsFault::Memory) => Err(Memory),
+        _ => Ok(None),
+    }
+}
+
+/// The exit status that tells a status.
+pub fn exit_of(status: &Status) -> ExitCode
+    ensures { exit_status result ≡ code_of status.now }
+{
+    ExitCode::from(status.code())
+}
