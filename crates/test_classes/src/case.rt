@@ -1,6 +1,6 @@
 //! What the lines of a case have taken so far.
 
-use crate::commands::{Command, command_of};
+use crate::commands::{ClassQuestion, Command, PoolQuestion, command_of};
 use crate::words::{number, word};
 use crate::{classes, pools, told, walks};
 use desk_base::{Memory, Text};
@@ -24,27 +24,25 @@ impl Case {
         }
     }
 
-    /// Takes bytes as those of a class, and tells whether they are one.
-    fn take_class(&mut self, bytes: &[u8], out: &mut String) -> Result<(), Memory> {
+    /// Takes bytes.
+    fn take(&mut self, bytes: &[u8]) -> Result<(), Memory> {
         self.bytes = Text::from_bytes(self.alloc, bytes)?;
-        classes::tell(self.alloc, bytes, out)
-    }
-
-    /// Takes bytes as those of a pool, and tells whether they hold one.
-    fn take_pool(&mut self, bytes: &[u8], out: &mut String) -> Result<(), Memory> {
-        self.bytes = Text::from_bytes(self.alloc, bytes)?;
-        pools::tell(self.alloc, bytes, out)
+        Ok(())
     }
 
     /// Obeys a command on the bytes that were taken.
     fn obey(&self, command: Command, words: &[Text], out: &mut String) -> Result<(), Memory> {
         let (alloc, bytes) = (self.alloc, self.bytes.as_bytes());
         match command {
+            Command::Pool => pools::ask(alloc, bytes, PoolQuestion::Whether, words, out),
+            Command::Class | Command::Servlet => {
+                classes::ask(alloc, bytes, ClassQuestion::Whether, out)
+            }
             Command::OfPool(question) => pools::ask(alloc, bytes, question, words, out),
-            Command::Walk(part) => walks::tell(alloc, part, bytes, word(words, 0), out),
+            Command::Walk(walk) => walks::tell(alloc, walk, bytes, word(words, 0), out),
             Command::OfClass(question) => classes::ask(alloc, bytes, question, out),
             Command::Cuts => classes::tell_cuts(alloc, bytes, out),
-            _ => classes::tell_faults_with_255(alloc, bytes, number(words, 0), out),
+            Command::FaultsWith255 => classes::tell_faults(alloc, bytes, number(words, 0), out),
         }
     }
 }
@@ -60,10 +58,10 @@ impl Answers for Case {
             return told::text(out, "no such command");
         };
         match command {
-            Command::Pool => self.take_pool(word(words, 1), out),
-            Command::Class => self.take_class(word(words, 1), out),
-            Command::Servlet => self.take_class(&SERVLET, out),
-            _ => self.obey(command, words.get(1..).unwrap_or(&[]), out),
+            Command::Pool | Command::Class => self.take(word(words, 1))?,
+            Command::Servlet => self.take(&SERVLET)?,
+            _ => (),
         }
+        self.obey(command, words.get(1..).unwrap_or(&[]), out)
     }
 }

@@ -13,22 +13,6 @@ fn class_of(alloc: Global, bytes: &[u8]) -> Result<Box<ClassView<'_>>, ReadFault
     Ok(Box::new(alloc, class)?)
 }
 
-/// The fault of bytes; none where they are a class.
-fn fault_of(alloc: Global, bytes: &[u8]) -> Option<ReadFault> {
-    match class_of(alloc, bytes) {
-        Ok(_) => None,
-        Err(fault) => Some(fault),
-    }
-}
-
-/// Tells whether bytes are a class.
-pub fn tell(alloc: Global, bytes: &[u8], out: &mut String) -> Result<(), Memory> {
-    match fault_of(alloc, bytes) {
-        None => told::text(out, "reads"),
-        Some(fault) => told::fault(out, fault),
-    }
-}
-
 /// Tells the names that a class holds, in byte order.
 fn tell_class_names(alloc: Global, class: &ClassView<'_>, out: &mut String) -> Result<(), Memory> {
     let names = class.class_names(alloc)?;
@@ -55,12 +39,13 @@ fn answer(
     out: &mut String,
 ) -> Result<(), Memory> {
     match question {
+        ClassQuestion::Whether => told::text(out, "reads"),
         ClassQuestion::Bytes => told::bytes(out, class.bytes()),
         ClassQuestion::Body => told::value(out, &class.body_at()),
         ClassQuestion::Name => told::bytes(out, class.name()),
         ClassQuestion::Count => told::value(out, &class.pool().count()),
         ClassQuestion::Members => told::each(out, class.members()),
-        ClassQuestion::Uses => told::uses(out, class.uses()),
+        ClassQuestion::Uses => told::each(out, class.uses()),
         ClassQuestion::ClassNames => tell_class_names(alloc, class, out),
         ClassQuestion::HeldNames => tell_held_names(alloc, class, out),
     }
@@ -76,6 +61,14 @@ pub fn ask(
     match class_of(alloc, bytes) {
         Ok(class) => answer(alloc, &class, question, out),
         Err(fault) => told::fault(out, fault),
+    }
+}
+
+/// The fault of bytes; none where they are a class.
+fn fault_of(alloc: Global, bytes: &[u8]) -> Option<ReadFault> {
+    match class_of(alloc, bytes) {
+        Ok(_) => None,
+        Err(fault) => Some(fault),
     }
 }
 
@@ -114,7 +107,7 @@ fn faults_with_255(alloc: Global, bytes: &[u8]) -> Result<u16, Memory> {
 }
 
 /// Tells whether more than so many faults are found with 255 in place of each byte in turn.
-pub fn tell_faults_with_255(
+pub fn tell_faults(
     alloc: Global,
     bytes: &[u8],
     count: u16,

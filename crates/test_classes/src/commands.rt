@@ -1,8 +1,12 @@
 //! The commands by their names.
 
+use desk_attrs::Place;
+
 /// What a command asks of a pool.
 #[derive(Clone, Copy)]
 pub enum PoolQuestion {
+    /// Whether the bytes hold one.
+    Whether,
     Count,
     Uses,
     Tag,
@@ -11,21 +15,28 @@ pub enum PoolQuestion {
     Check,
 }
 
-/// What a command walks over.
+/// A part of an attribute.
 #[derive(Clone, Copy)]
 pub enum Part {
     Element,
     Frames,
     TypeAnnotations,
     ParameterAnnotations,
-    ClassAttribute,
-    MethodAttribute,
-    MethodAttributes,
+}
+
+/// What a command walks over.
+#[derive(Clone, Copy)]
+pub enum Walk {
+    Part(Part),
+    Attribute(Place),
+    Attributes(Place),
 }
 
 /// What a command asks of a class.
 #[derive(Clone, Copy)]
 pub enum ClassQuestion {
+    /// Whether the bytes hold one.
+    Whether,
     Bytes,
     Body,
     Name,
@@ -41,7 +52,7 @@ pub enum ClassQuestion {
 pub enum Command {
     Pool,
     OfPool(PoolQuestion),
-    Walk(Part),
+    Walk(Walk),
     Class,
     Servlet,
     OfClass(ClassQuestion),
@@ -58,16 +69,28 @@ const COMMANDS: &[(&[u8], Command)] = &[
     (b"text", Command::OfPool(PoolQuestion::Text)),
     (b"class-name", Command::OfPool(PoolQuestion::ClassName)),
     (b"check", Command::OfPool(PoolQuestion::Check)),
-    (b"element", Command::Walk(Part::Element)),
-    (b"frames", Command::Walk(Part::Frames)),
-    (b"type-annotations", Command::Walk(Part::TypeAnnotations)),
+    (b"element", Command::Walk(Walk::Part(Part::Element))),
+    (b"frames", Command::Walk(Walk::Part(Part::Frames))),
+    (
+        b"type-annotations",
+        Command::Walk(Walk::Part(Part::TypeAnnotations)),
+    ),
     (
         b"parameter-annotations",
-        Command::Walk(Part::ParameterAnnotations),
+        Command::Walk(Walk::Part(Part::ParameterAnnotations)),
     ),
-    (b"class-attribute", Command::Walk(Part::ClassAttribute)),
-    (b"method-attribute", Command::Walk(Part::MethodAttribute)),
-    (b"method-attributes", Command::Walk(Part::MethodAttributes)),
+    (
+        b"class-attribute",
+        Command::Walk(Walk::Attribute(Place::OfClass)),
+    ),
+    (
+        b"method-attribute",
+        Command::Walk(Walk::Attribute(Place::OfMethod)),
+    ),
+    (
+        b"method-attributes",
+        Command::Walk(Walk::Attributes(Place::OfMethod)),
+    ),
     (b"class", Command::Class),
     (b"servlet", Command::Servlet),
     (b"bytes", Command::OfClass(ClassQuestion::Bytes)),

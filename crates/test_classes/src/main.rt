@@ -2,7 +2,7 @@
 //!
 //! ```text
 //! pool BYTES                     takes bytes, and tells whether a constant pool stands behind their first 8
-//! pool-count | pool-uses         the pool's count; its uses of texts, each by its place, its index and its role
+//! pool-count | pool-uses         the pool's count; its uses of texts
 //! tag INDEX                      the tag of an entry of the pool
 //! text INDEX                     the text of a Utf8
 //! class-name INDEX               the text that a Class leads to

@@ -33,14 +33,6 @@ pub fn pool_of(alloc: Global, bytes: &[u8]) -> Result<Box<Pool<'_>>, ReadFault> 
     Ok(Box::new(alloc, pool)?)
 }
 
-/// Tells whether bytes hold a pool.
-pub fn tell(alloc: Global, bytes: &[u8], out: &mut String) -> Result<(), Memory> {
-    match pool_of(alloc, bytes) {
-        Ok(_) => told::text(out, "reads"),
-        Err(fault) => told::fault(out, fault),
-    }
-}
-
 /// Tells why an index doesn't fit the use kind of a name.
 fn tell_misfit(pool: &Pool<'_>, index: u16, name: &[u8], out: &mut String) -> Result<(), Memory> {
     match kind_of(name) {
@@ -58,8 +50,9 @@ fn answer(
 ) -> Result<(), Memory> {
     let index = number(words, 0);
     match question {
+        PoolQuestion::Whether => told::text(out, "reads"),
         PoolQuestion::Count => told::value(out, &pool.count()),
-        PoolQuestion::Uses => told::uses(out, pool.uses()),
+        PoolQuestion::Uses => told::each(out, pool.uses()),
         PoolQuestion::Tag => told::value(out, &pool.tag(index)),
         PoolQuestion::Text => told::optional(out, pool.utf8(index)),
         PoolQuestion::ClassName => told::optional(out, pool.name_of_class(index)),

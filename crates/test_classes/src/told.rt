@@ -1,6 +1,6 @@
 //! The lines of answers.
 
-use desk_base::{Malformed, Memory, ReadFault, Used};
+use desk_base::{Malformed, Memory, ReadFault};
 use std::fmt::Debug;
 use test_cases::Shown;
 
@@ -34,17 +34,6 @@ pub fn each<T: Debug>(out: &mut String, values: &[T]) -> Result<(), Memory> {
     }
     for one in values {
         value(out, one)?;
-    }
-    Ok(())
-}
-
-/// Tells each use of a text by its place, its index and its role, or that there is none.
-pub fn uses(out: &mut String, uses: &[Used]) -> Result<(), Memory> {
-    if uses.is_empty() {
-        return text(out, "no use");
-    }
-    for used in uses {
-        writeln!(out, "  {} {} {:?}", used.at, used.index, used.role)?;
     }
     Ok(())
 }
