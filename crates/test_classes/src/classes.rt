@@ -64,19 +64,11 @@ pub fn ask(
     }
 }
 
-/// The fault of bytes; none where they are a class.
-fn fault_of(alloc: Global, bytes: &[u8]) -> Option<ReadFault> {
+/// What is wrong with bytes; none where they are a class.
+fn kind_of_fault(alloc: Global, bytes: &[u8]) -> Option<FaultKind> {
     match class_of(alloc, bytes) {
-        Ok(_) => None,
-        Err(fault) => Some(fault),
-    }
-}
-
-/// Whether bytes are cut within an item.
-fn is_truncated(alloc: Global, bytes: &[u8]) -> bool {
-    match fault_of(alloc, bytes) {
-        Some(ReadFault::Malformed(Malformed { kind, at: _ })) => kind == FaultKind::Truncated,
-        _ => false,
+        Err(ReadFault::Malformed(Malformed { kind, at: _ })) => Some(kind),
+        _ => None,
     }
 }
 
@@ -84,26 +76,11 @@ fn is_truncated(alloc: Global, bytes: &[u8]) -> bool {
 pub fn tell_cuts(alloc: Global, bytes: &[u8], out: &mut String) -> Result<(), Memory> {
     let mut truncated = 0u32;
     for length in 0..bytes.len() {
-        if is_truncated(alloc, &bytes[..length]) {
+        if kind_of_fault(alloc, &bytes[..length]) == Some(FaultKind::Truncated) {
             truncated = truncated.saturating_add(1);
         }
     }
     Ok(writeln!(out, "  {truncated} of {} are truncated", bytes.len())?)
-}
-
-/// How many faults are found with 255 in place of each byte in turn.
-fn faults_with_255(alloc: Global, bytes: &[u8]) -> Result<u16, Memory> {
-    let mut faults = 0u16;
-    for place in 0..bytes.len() {
-        let mut changed = bytes.to_vec(alloc)?;
-        if let Some(byte) = changed.get_mut(place) {
-            *byte = 255;
-        }
-        if let Some(ReadFault::Malformed(_)) = fault_of(alloc, &changed) {
-            faults = faults.saturating_add(1);
-        }
-    }
-    Ok(faults)
 }
 
 /// Tells whether more than so many faults are found with 255 in place of each byte in turn.
@@ -113,6 +90,15 @@ pub fn tell_faults(
     count: u16,
     out: &mut String,
 ) -> Result<(), Memory> {
-    let more = faults_with_255(alloc, bytes)? > count;
-    told::text(out, if more { "more" } else { "not more" })
+    let mut faults = 0u16;
+    for place in 0..bytes.len() {
+        let mut changed = bytes.to_vec(alloc)?;
+        if let Some(byte) = changed.get_mut(place) {
+            *byte = 255;
+        }
+        if kind_of_fault(alloc, &changed).is_some() {
+            faults = faults.saturating_add(1);
+        }
+    }
+    told::text(out, if faults > count { "more" } else { "not more" })
 }

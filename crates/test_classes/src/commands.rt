@@ -1,6 +1,7 @@
 //! The commands by their names.
 
 use desk_attrs::Place;
+use desk_base::UseKind;
 
 /// What a command asks of a pool.
 #[derive(Clone, Copy)]
@@ -12,7 +13,7 @@ pub enum PoolQuestion {
     Tag,
     Text,
     ClassName,
-    Check,
+    Check(UseKind),
 }
 
 /// A part of an attribute.
@@ -68,7 +69,22 @@ const COMMANDS: &[(&[u8], Command)] = &[
     (b"tag", Command::OfPool(PoolQuestion::Tag)),
     (b"text", Command::OfPool(PoolQuestion::Text)),
     (b"class-name", Command::OfPool(PoolQuestion::ClassName)),
-    (b"check", Command::OfPool(PoolQuestion::Check)),
+    (
+        b"check-class",
+        Command::OfPool(PoolQuestion::Check(UseKind::Class)),
+    ),
+    (
+        b"check-class-name",
+        Command::OfPool(PoolQuestion::Check(UseKind::ClassName)),
+    ),
+    (
+        b"check-class-name-or-none",
+        Command::OfPool(PoolQuestion::Check(UseKind::ClassNameOrNone)),
+    ),
+    (
+        b"check-field-descriptor",
+        Command::OfPool(PoolQuestion::Check(UseKind::FieldDescriptor)),
+    ),
     (b"element", Command::Walk(Walk::Part(Part::Element))),
     (b"frames", Command::Walk(Walk::Part(Part::Frames))),
     (

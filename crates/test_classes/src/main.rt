@@ -6,7 +6,7 @@
 //! tag INDEX                      the tag of an entry of the pool
 //! text INDEX                     the text of a Utf8
 //! class-name INDEX               the text that a Class leads to
-//! check INDEX KIND               why an index doesn't fit a use kind
+//! check-class | check-class-name | check-class-name-or-none | check-field-descriptor INDEX      why an index doesn't fit
 //! element BYTES                  walks over an element value by the pool that was taken, and tells its fault, or how many
 //!                                bytes are left and which texts are used
 //! frames | type-annotations | parameter-annotations BYTES                        the same of these parts
