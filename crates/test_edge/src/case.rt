@@ -4,8 +4,7 @@ use crate::commands::{COMMANDS, Command};
 use crate::words::{named, word};
 use crate::{disk, faults, hints, names, places, reports, told};
 use desk_base::{Memory, Text};
-use desk_hints::words_hint;
-use desk_notes::rule_notes;
+use desk_notes::{is_archive, is_signature, rule_notes, slip_of};
 use desk_report::Line;
 use test_cases::Answers;
 
@@ -19,7 +18,12 @@ pub struct Case<'r> {
 
 /// Whether a text holds another.
 fn holds(text: &[u8], part: &[u8]) -> bool {
-    (0..text.len()).any(|at| text[at..].starts_with(part))
+    for at in 0..text.len() {
+        if text[at..].starts_with(part) {
+            return true;
+        }
+    }
+    false
 }
 
 impl<'r> Case<'r> {
@@ -32,9 +36,20 @@ impl<'r> Case<'r> {
         }
     }
 
-    /// Takes a text, and tells whether it is lines for people.
-    fn take(&mut self, text: Text, out: &mut String) -> Result<(), Memory> {
-        self.taken = text;
+    /// The text that a command takes.
+    fn text_by(&self, command: Command, words: &[Text], out: &mut String) -> Result<Text, Memory> {
+        let alloc = self.rt.alloc();
+        match command {
+            Command::Words => hints::said(alloc, words),
+            Command::RuleNotes => rule_notes(alloc, word(words, 0)),
+            Command::Notes => reports::noted(alloc, word(words, 0)),
+            _ => reports::overhear(self.rt, &self.lines, out),
+        }
+    }
+
+    /// Takes the text of a command, and tells whether it is lines for people.
+    fn take(&mut self, command: Command, words: &[Text], out: &mut String) -> Result<(), Memory> {
+        self.taken = self.text_by(command, words, out)?;
         let bytes = self.taken.as_bytes();
         if bytes.is_empty() {
             told::text(out, "nothing")
@@ -45,43 +60,16 @@ impl<'r> Case<'r> {
         }
     }
 
-    /// Takes what is said of words.
-    fn take_words(&mut self, words: &[Text], out: &mut String) -> Result<(), Memory> {
-        match words_hint(self.rt.alloc(), words)? {
-            Some(line) => self.take(line, out),
-            None => told::text(out, "no line"),
-        }
-    }
-
-    /// Takes what is noted of a file of renames.
-    fn take_rule_notes(&mut self, file: &[u8], out: &mut String) -> Result<(), Memory> {
-        let text = rule_notes(self.rt.alloc(), file)?;
-        self.take(text, out)
-    }
-
-    /// Takes what is noted of a report.
-    fn take_notes(&mut self, report: &[u8], out: &mut String) -> Result<(), Memory> {
-        let text = reports::noted(self.rt.alloc(), report)?;
-        self.take(text, out)
-    }
-
-    /// Writes the lines that were put, and takes what is noted of them.
-    fn overhear(&mut self, out: &mut String) -> Result<(), Memory> {
-        let text = reports::overhear(self.rt, &self.lines, out)?;
-        self.take(text, out)
-    }
-
     /// Obeys a command.
     fn obey(&mut self, command: Command, words: &[Text], out: &mut String) -> Result<(), Memory> {
         let alloc = self.rt.alloc();
         match command {
-            Command::Words => self.take_words(words, out),
-            Command::RuleNotes => self.take_rule_notes(word(words, 0), out),
-            Command::Notes => self.take_notes(word(words, 0), out),
             Command::Copied => reports::put_copied(alloc, &mut self.lines, words),
             Command::Kept => reports::put_kept(alloc, &mut self.lines, words),
             Command::Unsettled => reports::put_unsettled(alloc, &mut self.lines, words),
-            Command::Overhear => self.overhear(out),
+            Command::Words | Command::RuleNotes | Command::Notes | Command::Overhear => {
+                self.take(command, words, out)
+            }
             Command::Holds => told::is_so(out, holds(self.taken.as_bytes(), word(words, 0))),
             _ => tell(self.rt, command, words, out),
         }
@@ -103,11 +91,12 @@ fn tell(
         Command::ReleaseLine => hints::tell_release_line(alloc, words, out),
         Command::Fault => faults::tell_fault(alloc, words, out),
         Command::ReportLine => names::tell_said(word(words, 0), out),
-        Command::Archive => names::tell_archive(word(words, 0), out),
-        Command::Signature => names::tell_signature(word(words, 0), out),
-        Command::Slip => names::tell_slip(word(words, 0), out),
+        Command::Archive => told::is_so(out, is_archive(word(words, 0))),
+        Command::Signature => told::is_so(out, is_signature(word(words, 0))),
+        Command::Slip => told::value(out, &slip_of(word(words, 0))),
         Command::Unshown => names::tell_unshown(alloc, word(words, 0), out),
         Command::LiesIn => places::tell_lies_in(alloc, words, out),
+        Command::Roots => disk::tell_nested(rt, words, out),
         _ => disk::obey(rt, command, words, out),
     }
 }

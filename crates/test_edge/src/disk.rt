@@ -5,6 +5,7 @@ use crate::told;
 use crate::words::text;
 use desk_base::{Memory, Text};
 use desk_places::{Place, Places, first_nested, place_of};
+use std::io::ErrorKind;
 use std::os::unix::fs::symlink;
 use std::{fs, io, process};
 
@@ -14,76 +15,61 @@ fn path_of(rt: &HostRuntime, name: &str) -> Result<String, Memory> {
     Ok(format!(in rt.alloc(); "places-{process}/{name}")?)
 }
 
-/// Tells the error of what was done, if there is one.
-fn tell_done(done: io::Result<()>, out: &mut String) -> Result<(), Memory> {
-    match done {
-        Ok(()) => Ok(()),
-        Err(error) => Ok(writeln!(out, "  {error}")?),
-    }
-}
-
-/// The place of the root that a word names.
-fn found(rt: &HostRuntime, name: &str) -> Result<Option<Place>, Memory> {
+/// The place of the root of a name.
+fn found(rt: &HostRuntime, name: &str) -> Result<Option<Box<Place>>, Memory> {
     let path = path_of(rt, name)?;
     let path = Text::from_bytes(rt.alloc(), path.as_bytes())?;
-    Ok(place_of(rt, &path).unwrap_or(None))
+    match place_of(rt, &path) {
+        Ok(Some(place)) => Ok(Some(Box::new(rt.alloc(), place)?)),
+        _ => Ok(None),
+    }
 }
 
 /// The places of rules, source, target and ledger.
 fn places_of(rt: &HostRuntime, words: &[Text]) -> Result<Option<Box<Places>>, Memory> {
-    let rules = found(rt, text(words, 0))?;
-    let from = found(rt, text(words, 1))?;
-    let to = found(rt, text(words, 2))?;
-    let ledger = found(rt, text(words, 3))?;
-    let (Some(rules), Some(from), Some(to), Some(ledger)) = (rules, from, to, ledger) else {
+    let (Some(rules), Some(from)) = (found(rt, text(words, 0))?, found(rt, text(words, 1))?) else {
+        return Ok(None);
+    };
+    let (Some(to), Some(ledger)) = (found(rt, text(words, 2))?, found(rt, text(words, 3))?) else {
         return Ok(None);
     };
     let places = Places {
-        rules,
-        from,
-        to,
-        ledger,
+        rules: Box::into_inner(rules),
+        from: Box::into_inner(from),
+        to: Box::into_inner(to),
+        ledger: Box::into_inner(ledger),
     };
     Ok(Some(Box::new(rt.alloc(), places)?))
 }
 
 /// Tells the first pair of roots of which one lies in the other.
-fn tell_nested(rt: &HostRuntime, words: &[Text], out: &mut String) -> Result<(), Memory> {
+pub fn tell_nested(rt: &HostRuntime, words: &[Text], out: &mut String) -> Result<(), Memory> {
     match places_of(rt, words)? {
         Some(places) => told::value(out, &first_nested(&places)),
         None => told::text(out, "no place"),
     }
 }
 
-/// Makes a folder.
-fn make_folder(rt: &HostRuntime, words: &[Text], out: &mut String) -> Result<(), Memory> {
-    let path = path_of(rt, text(words, 0))?;
-    tell_done(fs::create_dir_all(rt, path.as_str()), out)
+/// Makes a folder or a link at a path, or removes the folder that stands there.
+fn change(rt: &HostRuntime, command: Command, path: &str, words: &[Text]) -> io::Result<()> {
+    match command {
+        Command::Folder => fs::create_dir_all(rt, path),
+        Command::Link => symlink(rt, text(words, 1), path),
+        Command::Remove => fs::remove_dir_all(rt, path),
+        _ => Err(io::Error::from(ErrorKind::Unsupported)),
+    }
 }
 
-/// Makes a link: what it holds, and its path.
-fn make_link(rt: &HostRuntime, words: &[Text], out: &mut String) -> Result<(), Memory> {
-    let path = path_of(rt, text(words, 1))?;
-    tell_done(symlink(rt, text(words, 0), path.as_str()), out)
-}
-
-/// Removes all that was made.
-fn remove(rt: &HostRuntime, out: &mut String) -> Result<(), Memory> {
-    let path = path_of(rt, "")?;
-    tell_done(fs::remove_dir_all(rt, path.as_str()), out)
-}
-
-/// Obeys a command about roots on the disk.
+/// Obeys a command about roots on the disk. What the disk refuses is told.
 pub fn obey(
     rt: &HostRuntime,
     command: Command,
     words: &[Text],
     out: &mut String,
 ) -> Result<(), Memory> {
-    match command {
-        Command::Folder => make_folder(rt, words, out),
-        Command::Link => make_link(rt, words, out),
-        Command::Roots => tell_nested(rt, words, out),
-        _ => remove(rt, out),
+    let path = path_of(rt, text(words, 0))?;
+    match change(rt, command, path.as_str(), words) {
+        Ok(()) => Ok(()),
+        Err(error) => Ok(writeln!(out, "  {error}")?),
     }
 }

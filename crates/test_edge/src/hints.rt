@@ -4,7 +4,7 @@ use crate::statuses::{STATUSES, status_of};
 use crate::told;
 use crate::words::{named, number, word};
 use desk_base::{Memory, Text};
-use desk_hints::{HINTS, hint_of, release_line, release_of};
+use desk_hints::{HINTS, hint_of, release_line, release_of, words_hint};
 use std::alloc::Global;
 use std::str;
 
@@ -14,12 +14,16 @@ fn is_hint(text: &[u8]) -> bool {
     let Ok(text) = str::from_utf8(text) else {
         return false;
     };
-    let lines = text.split('\n').filter(|line| !line.is_empty()).count();
+    let (mut lines, mut is_short) = (0_u32, true);
+    for line in text.split('\n') {
+        lines = lines.saturating_add(u32::from(!line.is_empty()));
+        is_short = is_short && line.len() <= 160;
+    }
     text.starts_with("migrate: ")
         && text.ends_with('\n')
         && lines == 2
         && text.contains("\n         ")
-        && text.split('\n').all(|line| line.len() <= 160)
+        && is_short
 }
 
 /// How many of the hints have this text.
@@ -69,4 +73,12 @@ pub fn tell_release_line(alloc: Global, words: &[Text], out: &mut String) -> Res
     let major = u16::try_from(number(words, 1)).unwrap_or(0);
     let line = release_line(alloc, word(words, 0), major)?;
     told::line(out, line.as_bytes())
+}
+
+/// What is said of words that ask for nothing; nothing where it can't be told.
+pub fn said(alloc: Global, words: &[Text]) -> Result<Text, Memory> {
+    match words_hint(alloc, words)? {
+        Some(line) => Ok(line),
+        None => Ok(Text::empty(alloc)),
+    }
 }

@@ -24,9 +24,9 @@
 //! holds PART                                 whether what was taken holds this
 //! lies-in NODES REST NODES REST              whether a place lies in another
 //! folder PATH                                makes a folder
-//! link TO PATH                               makes a link
+//! link PATH TO                               makes a link at a path, which leads there
 //! roots RULES FROM TO LEDGER                 the first pair of roots of which one lies in the other
-//! remove                                     removes the folders and links
+//! remove                                     removes all folders and links
 //! ```
 #![tactic(auto)]
 

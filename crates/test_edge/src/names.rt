@@ -1,8 +1,8 @@
-//! What is read from lines of a report, from names and from keys.
+//! What is read from lines of a report, and from texts that are shown.
 
 use crate::told;
 use desk_base::Memory;
-use desk_notes::{Said, is_archive, is_signature, read_line, slip_of, unshown};
+use desk_notes::{Said, read_line, unshown};
 use std::alloc::Global;
 use test_cases::Shown;
 
@@ -17,21 +17,6 @@ pub fn tell_said(line: &[u8], out: &mut String) -> Result<(), Memory> {
         }
         Said::Other => told::text(out, "other"),
     }
-}
-
-/// Tells whether a path is that of an archive.
-pub fn tell_archive(path: &[u8], out: &mut String) -> Result<(), Memory> {
-    told::is_so(out, is_archive(path))
-}
-
-/// Tells whether a path is that of a signature.
-pub fn tell_signature(path: &[u8], out: &mut String) -> Result<(), Memory> {
-    told::is_so(out, is_signature(path))
-}
-
-/// Tells why a key looks like a slip.
-pub fn tell_slip(key: &[u8], out: &mut String) -> Result<(), Memory> {
-    told::value(out, &slip_of(key))
 }
 
 /// Tells the text that is shown so.
