@@ -1,61 +1,48 @@
 //! Lines of faults.
 
-use desk_base::Text;
+use crate::told;
+use crate::words::{named, number, word};
+use desk_base::{Memory, Text};
 use desk_faults::{Cause, Fault, Tried, fault_line};
+use std::alloc::Global;
 use std::io::Error;
-use std::test::Fail;
 
-/// What was tried, the path, the cause, and the line.
-const LINES: &[(Tried, &[u8], Cause, &[u8])] = &[
-    (
-        Tried::Listing,
-        b"app/link",
-        Cause::Link,
-        b"migrate: listing app/link: it is a symbolic link, which isn't followed\n",
-    ),
-    (
-        Tried::Reading,
-        b"app/pipe",
-        Cause::Special,
-        b"migrate: reading app/pipe: it is neither a file nor a folder\n",
-    ),
-    (
-        Tried::Making,
-        b"to/a b",
-        Cause::Folder,
-        b"migrate: making to/a\\20b: it is a folder\n",
-    ),
-    (
-        Tried::Opening,
-        b"",
-        Cause::Busy,
-        b"migrate: opening the ledger \\-: another program has it open\n",
-    ),
-    (
-        Tried::Keeping,
-        b"ledger",
-        Cause::Full,
-        b"migrate: writing the ledger ledger: No space left on device\n",
-    ),
+/// What was tried, by its name.
+const TRIED: &[(&[u8], Tried)] = &[
+    (b"listing", Tried::Listing),
+    (b"reading", Tried::Reading),
+    (b"making", Tried::Making),
+    (b"opening", Tried::Opening),
+    (b"keeping", Tried::Keeping),
 ];
 
-#[test]
-fn a_line_says_what_was_tried_where_and_why(rt: HostRuntime) -> Result<(), Fail> {
-    for (tried, path, cause, line) in LINES {
-        let path = Text::from_bytes(rt.alloc(), path)?;
-        let fault = Fault::of(rt.alloc(), *tried, &path, *cause)?;
-        assert!(rt; fault_line(rt.alloc(), &fault)?.as_bytes() == *line);
+/// The causes that aren't the system's, by their names.
+const CAUSES: &[(&[u8], Cause)] = &[
+    (b"link", Cause::Link),
+    (b"special", Cause::Special),
+    (b"folder", Cause::Folder),
+    (b"busy", Cause::Busy),
+    (b"full", Cause::Full),
+];
+
+/// The cause that these words name; `system` and a number is an error of Linux.
+fn cause_of(words: &[Text]) -> Option<Cause> {
+    if word(words, 0) == b"system".as_slice() {
+        let number = i32::try_from(number(words, 1)).unwrap_or(0);
+        return Some(Cause::System(Error::from_raw_os_error(number)));
     }
-    Ok(())
+    named(CAUSES, word(words, 0))
 }
 
-#[test]
-fn the_words_of_the_system_stand_without_its_number(rt: HostRuntime) -> Result<(), Fail> {
-    let path = Text::from_bytes(rt.alloc(), b"app/x.class")?;
-    // EACCES of Linux
-    let denied = Cause::System(Error::from_raw_os_error(13));
-    let fault = Fault::of(rt.alloc(), Tried::Reading, &path, denied)?;
-    let line = fault_line(rt.alloc(), &fault)?;
-    assert!(rt; line.as_bytes() == b"migrate: reading app/x.class: Permission denied\n".as_slice());
-    Ok(())
+/// Tells the line of a fault.
+pub fn tell_fault(alloc: Global, words: &[Text], out: &mut String) -> Result<(), Memory> {
+    let [tried, path, cause @ ..] = words else {
+        return told::text(out, "no fault");
+    };
+    let (Some(tried), Some(cause)) = (named(TRIED, tried.as_bytes()), cause_of(cause)) else {
+        return told::text(out, "no such fault");
+    };
+    let fault = Box::new(alloc, Fault::of(alloc, tried, path, cause)?)?;
+    let line = fault_line(alloc, &fault)?;
+    told::line(out, line.as_bytes())
 }

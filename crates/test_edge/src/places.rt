@@ -1,114 +1,56 @@
-//! Roots that are one on the disk, in folders of this process alone.
+//! Places, and which of them lies in another.
 
-use desk_base::{Text, TextList};
-use desk_places::{Node, Pair, Place, Places, first_nested, place_of};
+use crate::told;
+use crate::words::{number_in, text};
+use desk_base::{Memory, Text, TextList};
+use desk_places::{Node, Place};
 use std::alloc::Global;
-use std::test::Fail;
-use std::{fs, process};
 
-/// A place: its node and those above it by their numbers, and the segments behind it.
-fn place(alloc: Global, nodes: &[u64], rest: &[&[u8]]) -> Result<Place, Fail> {
-    let node = |inode: u64| Node { device: 1, inode };
+/// The node that is written as its inode, on device 1, or as `DEVICE:INODE`.
+fn node_of(text: &str) -> Node {
+    let (device, inode) = text.split_once(':').unwrap_or(("1", text));
+    Node {
+        device: u64::from(number_in(device)),
+        inode: u64::from(number_in(inode)),
+    }
+}
+
+/// The nodes above a place, behind the first of these.
+fn nodes_above(alloc: Global, nodes: &str) -> Result<Vec<Node>, Memory> {
     let mut above = Vec::new(alloc);
-    for inode in nodes.iter().skip(1) {
-        above.push(node(*inode))?;
+    for node in nodes.split(',').skip(1) {
+        above.push(node_of(node))?;
     }
+    Ok(above)
+}
+
+/// The segments of a path.
+fn segments_of(alloc: Global, path: &str) -> Result<TextList, Memory> {
     let mut segments = TextList::empty(alloc);
-    for segment in rest {
-        segments.push(Text::from_bytes(alloc, segment)?)?;
+    for segment in path.split('/') {
+        if !segment.is_empty() {
+            segments.push(Text::from_bytes(alloc, segment.as_bytes())?)?;
+        }
     }
-    Ok(Place {
-        nearest: node(nodes.first().copied().unwrap_or(0)),
+    Ok(segments)
+}
+
+/// A place: its node and those above it, joined by `,`, and the path behind it.
+fn place(alloc: Global, nodes: &str, rest: &str) -> Result<Box<Place>, Memory> {
+    let nearest = node_of(nodes.split(',').next().unwrap_or(""));
+    let above = nodes_above(alloc, nodes)?;
+    let rest = segments_of(alloc, rest)?;
+    let place = Place {
+        nearest,
         above,
-        rest: segments,
-    })
-}
-
-/// Two places by their nodes and segments, and whether the first lies in the second.
-const LYING: &[(&[u64], &[&[u8]], &[u64], &[&[u8]], bool)] = &[
-    (&[5, 2], &[], &[5, 2], &[], true),
-    (&[7, 5, 2], &[], &[5, 2], &[], true),
-    (&[5, 2], &[], &[7, 5, 2], &[], false),
-    (&[7, 5, 2], &[b"a"], &[5, 2], &[], true),
-    (&[5, 2], &[b"a", b"b"], &[5, 2], &[b"a"], true),
-    (&[5, 2], &[b"a"], &[5, 2], &[b"a", b"b"], false),
-    (&[5, 2], &[b"ab"], &[5, 2], &[b"a"], false),
-    (&[7, 5, 2], &[b"a"], &[5, 2], &[b"a"], false),
-    (&[6, 2], &[], &[5, 2], &[], false),
-];
-
-#[test]
-fn a_place_lies_in_what_is_above_it(rt: HostRuntime) -> Result<(), Fail> {
-    for (nodes, rest, others, behind, lies) in LYING {
-        let inner = place(rt.alloc(), nodes, rest)?;
-        let outer = place(rt.alloc(), others, behind)?;
-        assert_eq!(rt; inner.lies_in(&outer), *lies);
-    }
-    Ok(())
-}
-
-#[test]
-fn nodes_of_other_devices_are_others(rt: HostRuntime) -> Result<(), Fail> {
-    let inner = place(rt.alloc(), &[5, 2], &[])?;
-    let mut outer = place(rt.alloc(), &[5, 2], &[])?;
-    outer.nearest.device = 2;
-    assert!(rt; !inner.lies_in(&outer));
-    Ok(())
-}
-
-/// The place of a path below the folder of a test.
-fn found(rt: &HostRuntime, root: &str, name: &str) -> Result<Place, Fail> {
-    let path = format!(in rt.alloc(); "{root}/{name}")?;
-    let path = Text::from_bytes(rt.alloc(), path.as_bytes())?;
-    Ok(place_of(rt, &path)?.ok_or("no place")?)
-}
-
-/// The first pair of roots of these names that is nested.
-fn nested(rt: &HostRuntime, root: &str, names: &[&str; 4]) -> Result<Option<Pair>, Fail> {
-    let [rules, from, to, ledger] = names;
-    let places = Places {
-        rules: found(rt, root, rules)?,
-        from: found(rt, root, from)?,
-        to: found(rt, root, to)?,
-        ledger: found(rt, root, ledger)?,
+        rest,
     };
-    Ok(first_nested(&places))
+    Ok(Box::new(alloc, place)?)
 }
 
-/// Rules, source, target and ledger below the folder of a test, in which `link` is a link to `app`; and the first pair of them of
-/// which one lies in the other where it may not.
-const ROOTS: &[([&str; 4], Option<Pair>)] = &[
-    (["rules", "app", "to", "ledger"], None),
-    (["rules", "app", "link", "ledger"], Some(Pair::FromTo)),
-    (["rules", "app", "link/new/x", "ledger"], Some(Pair::FromTo)),
-    (
-        ["rules", "link/WEB-INF", "app", "ledger"],
-        Some(Pair::FromTo),
-    ),
-    (["link", "to", "app/x", "ledger"], Some(Pair::RulesTo)),
-    (["rules", "app", "to", "link/l"], Some(Pair::LedgerFrom)),
-    (["rules", "app", "to", "to/l"], Some(Pair::LedgerTo)),
-    (["link", "rules", "to", "app/l"], Some(Pair::LedgerRules)),
-    (["rules", "app", "to", "tol"], None),
-];
-
-/// Makes the folders of a test, and the link in them.
-fn make_folders(rt: &HostRuntime, root: &str) -> Result<(), Fail> {
-    for folder in ["app/WEB-INF", "rules"] {
-        fs::create_dir_all(rt, format!(in rt.alloc(); "{root}/{folder}")?.as_str())?;
-    }
-    let link = format!(in rt.alloc(); "{root}/link")?;
-    std::os::unix::fs::symlink(rt, "app", link.as_str())?;
-    Ok(())
-}
-
-#[test]
-fn links_are_followed(rt: HostRuntime) -> Result<(), Fail> {
-    let root = format!(in rt.alloc(); "places-{}", process::id(rt.process()))?;
-    make_folders(&rt, root.as_str())?;
-    for (names, pair) in ROOTS {
-        assert_eq!(rt; nested(&rt, root.as_str(), names)?, *pair);
-    }
-    fs::remove_dir_all(&rt, root.as_str())?;
-    Ok(())
+/// Tells whether a place lies in another: nodes and rest of the one, and of the other.
+pub fn tell_lies_in(alloc: Global, words: &[Text], out: &mut String) -> Result<(), Memory> {
+    let inner = place(alloc, text(words, 0), text(words, 1))?;
+    let outer = place(alloc, text(words, 2), text(words, 3))?;
+    told::is_so(out, inner.lies_in(&outer))
 }

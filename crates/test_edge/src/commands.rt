@@ -1,0 +1,56 @@
+//! The commands by their names.
+
+/// A command of a case.
+#[derive(Clone, Copy)]
+pub enum Command {
+    Hints,
+    Hint,
+    Release,
+    ReleaseLine,
+    Fault,
+    ReportLine,
+    Archive,
+    Signature,
+    Slip,
+    Unshown,
+    LiesIn,
+    Folder,
+    Link,
+    Roots,
+    Remove,
+    Words,
+    RuleNotes,
+    Notes,
+    Copied,
+    Kept,
+    Unsettled,
+    Overhear,
+    Holds,
+}
+
+/// The name of each command.
+pub const COMMANDS: &[(&[u8], Command)] = &[
+    (b"hints", Command::Hints),
+    (b"hint", Command::Hint),
+    (b"release", Command::Release),
+    (b"release-line", Command::ReleaseLine),
+    (b"fault", Command::Fault),
+    (b"report-line", Command::ReportLine),
+    (b"archive", Command::Archive),
+    (b"signature", Command::Signature),
+    (b"slip", Command::Slip),
+    (b"unshown", Command::Unshown),
+    (b"lies-in", Command::LiesIn),
+    (b"folder", Command::Folder),
+    (b"link", Command::Link),
+    (b"roots", Command::Roots),
+    (b"remove", Command::Remove),
+    (b"words", Command::Words),
+    (b"rule-notes", Command::RuleNotes),
+    (b"notes", Command::Notes),
+    (b"copied", Command::Copied),
+    (b"kept", Command::Kept),
+    (b"unsettled", Command::Unsettled),
+    (b"overhear", Command::Overhear),
+    (b"holds", Command::Holds),
+];

@@ -1,0 +1,26 @@
+//! What is read from lines of a report, and from texts that are shown.
+
+use crate::told;
+use desk_base::Memory;
+use desk_notes::{Said, read_line, unshown};
+use std::alloc::Global;
+use test_cases::Shown;
+
+/// Tells what a line of a report says.
+pub fn tell_said(line: &[u8], out: &mut String) -> Result<(), Memory> {
+    match read_line(line) {
+        Said::Copied(path) => Ok(writeln!(out, "  copied {}", Shown(path))?),
+        Said::Kept => told::text(out, "kept"),
+        Said::Refused { path, reason, kind } => {
+            let (path, reason, kind) = (Shown(path), Shown(reason), Shown(kind));
+            Ok(writeln!(out, "  refused {path} {reason} {kind}")?)
+        }
+        Said::Other => told::text(out, "other"),
+    }
+}
+
+/// Tells the text that is shown so.
+pub fn tell_unshown(alloc: Global, shown: &[u8], out: &mut String) -> Result<(), Memory> {
+    let text = unshown(alloc, shown)?;
+    told::bytes(out, text.as_bytes())
+}
