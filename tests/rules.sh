@@ -13,7 +13,7 @@ python3 tools/rules.py "$place/written"
 : >"$place/nothing"
 diff -r "$place/written" rules >"$place/got" 2>&1
 same "the ready rules and tools/rules.py" "$place/nothing" "$place/got"
-diff -r crates/test_ready/data/rules rules >"$place/got" 2>&1
+diff -r crates/test_runs/data/rules rules >"$place/got" 2>&1
 same "the ready rules that the gate tries" "$place/nothing" "$place/got"
 echo "$passed passed, $failed failed"
 [ "$failed" = 0 ]
