@@ -16,11 +16,12 @@ pub struct Case {
     rules: Option<Box<RuleSet>>,
 }
 
-/// Tells why no rule set was built.
-fn tell_fault(fault: &BuildFault, out: &mut String) -> Result<(), Memory> {
-    match fault {
-        BuildFault::Rules(fault) => rule_sets::tell_fault(fault, out),
-        BuildFault::Memory => Err(Memory),
+/// Tells whether a rule set was built, or why it wasn't.
+fn tell_built(built: &Result<Box<RuleSet>, BuildFault>, out: &mut String) -> Result<(), Memory> {
+    match built {
+        Ok(_) => told::text(out, "built"),
+        Err(BuildFault::Rules(fault)) => rule_sets::tell_fault(fault, out),
+        Err(BuildFault::Memory) => Err(Memory),
     }
 }
 
@@ -32,16 +33,10 @@ impl Case {
 
     /// Builds the rule set of the files whose names and contents these words are.
     fn build(&mut self, words: &[Text], out: &mut String) -> Result<(), Memory> {
-        match rules_of(self.alloc, words) {
-            Ok(rules) => {
-                self.rules = Some(rules);
-                told::text(out, "built")
-            }
-            Err(fault) => {
-                self.rules = None;
-                tell_fault(&fault, out)
-            }
-        }
+        let built = rules_of(self.alloc, words);
+        let answer = tell_built(&built, out);
+        self.rules = built.ok();
+        answer
     }
 
     /// Obeys a command that needs no rule set.

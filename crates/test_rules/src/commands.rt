@@ -71,11 +71,23 @@ const COMMANDS: &[(&[u8], Command)] = &[
 
 /// The name of each command that goes by the rule set.
 const COMMANDS_BY_RULES: &[(&[u8], Command)] = &[
-    (b"package", Command::LookUp(LookUp::Package(Separator::Slash))),
-    (b"dotted-package", Command::LookUp(LookUp::Package(Separator::Dot))),
+    (
+        b"package",
+        Command::LookUp(LookUp::Package(Separator::Slash)),
+    ),
+    (
+        b"dotted-package",
+        Command::LookUp(LookUp::Package(Separator::Dot)),
+    ),
     (b"is-source", Command::LookUp(LookUp::Source)),
-    (b"import-version", Command::LookUp(LookUp::Version(Side::Import))),
-    (b"export-version", Command::LookUp(LookUp::Version(Side::Export))),
+    (
+        b"import-version",
+        Command::LookUp(LookUp::Version(Side::Import)),
+    ),
+    (
+        b"export-version",
+        Command::LookUp(LookUp::Version(Side::Export)),
+    ),
     (b"bundle", Command::LookUp(LookUp::Bundle)),
     (b"direct", Command::LookUp(LookUp::Direct)),
     (b"selected", Command::LookUp(LookUp::Selected)),

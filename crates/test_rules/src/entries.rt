@@ -9,13 +9,11 @@ use desk_entries::{
 };
 use std::alloc::Global;
 
-/// Tells the segments of a rename's packages, and its reach.
+/// Tells a rename's reach, and the segments of its two packages.
 fn tell_rename(rename: &Rename, out: &mut String) -> Result<(), Memory> {
-    write!(out, "  {:?}", rename.reach)?;
-    told::each(out, rename.source.as_slice())?;
-    write!(out, " to")?;
-    told::each(out, rename.target.as_slice())?;
-    Ok(out.push('\n')?)
+    told::value(out, &rename.reach)?;
+    told::words(out, rename.source.as_slice())?;
+    told::words(out, rename.target.as_slice())
 }
 
 /// Tells the versions of imports and exports.
@@ -52,12 +50,7 @@ fn tell_check(check: Result<(), EntryFault>, out: &mut String) -> Result<(), Mem
 }
 
 /// Reads an entry as a rename, and tells it.
-fn read_as_rename(
-    alloc: Global,
-    key: &[u8],
-    value: &[u8],
-    out: &mut String,
-) -> Result<(), Memory> {
+fn read_as_rename(alloc: Global, key: &[u8], value: &[u8], out: &mut String) -> Result<(), Memory> {
     match read_rename(alloc, key, value) {
         Ok(rename) => tell_rename(&rename, out),
         Err(error) => tell_error(error, out),
@@ -78,12 +71,7 @@ fn read_as_versions(
 }
 
 /// Reads an entry as an update of a bundle, and tells it.
-fn read_as_update(
-    alloc: Global,
-    key: &[u8],
-    value: &[u8],
-    out: &mut String,
-) -> Result<(), Memory> {
+fn read_as_update(alloc: Global, key: &[u8], value: &[u8], out: &mut String) -> Result<(), Memory> {
     match read_update(alloc, key, value) {
         Ok(update) => tell_update(&update, out),
         Err(error) => tell_error(error, out),

@@ -15,7 +15,7 @@
 //! check-text-rule KEY
 //! rules NAME CONTENT ..                      builds the rule set of these files, by which the commands below go, or tells
 //!                                            their fault
-//! package PATH | dotted-package NAME         how many bytes of a package are exchanged, and for which segments
+//! package PATH | dotted-package NAME         how many bytes of a package are exchanged, and for how many segments
 //! is-source NAME                             whether a name is the source of a rename
 //! import-version | export-version PACKAGE    its version
 //! bundle NAME                                its new name and version

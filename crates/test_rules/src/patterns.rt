@@ -11,19 +11,23 @@ pub fn tell_fits(words: &[Text], out: &mut String) -> Result<(), Memory> {
     told::value(out, &fits(word(words, 0), word(words, 1)))
 }
 
-/// The selection by patterns, each with `!` behind it where it excludes, or with another word.
-fn selection_of(alloc: Global, words: &[Text]) -> Result<Box<Selection>, Memory> {
-    let mut selection = Box::new(alloc, Selection::new(alloc))?;
+/// Adds patterns to a selection, each with `!` behind it where it excludes, or with another word.
+fn add_patterns(alloc: Global, selection: &mut Selection, words: &[Text]) -> Result<(), Memory> {
     for row in words.chunks_exact(2) {
         let excludes = word(row, 1) == b"!".as_slice();
-        let mark = if excludes { Mark::Exclude } else { Mark::Include };
+        let mark = if excludes {
+            Mark::Exclude
+        } else {
+            Mark::Include
+        };
         selection.push(Text::from_bytes(alloc, word(row, 0))?, mark)?;
     }
-    Ok(selection)
+    Ok(())
 }
 
 /// Tells whether a path is selected: the words are the path, and patterns with their marks.
 pub fn tell_selects(alloc: Global, words: &[Text], out: &mut String) -> Result<(), Memory> {
-    let selection = selection_of(alloc, words.get(1..).unwrap_or(&[]))?;
+    let mut selection = Box::new(alloc, Selection::new(alloc))?;
+    add_patterns(alloc, &mut selection, words.get(1..).unwrap_or(&[]))?;
     told::value(out, &selection.selects(word(words, 0)))
 }

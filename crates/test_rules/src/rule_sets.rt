@@ -5,19 +5,24 @@ use crate::told;
 use crate::words::{place, word};
 use desk_base::{Memory, Text};
 use desk_packages::Separator;
-use desk_rules::{PropFault, RuleFault, RuleSet, TextRules};
-use test_cases::Shown;
+use desk_rules::{PropFault, RuleFault, RuleSet, TextHit, TextRules};
+use std::fmt::Debug;
+
+/// Tells what is wrong with rule files, and the two texts that say where.
+fn tell_where<T: Debug>(
+    what: &T,
+    first: &Text,
+    second: &Text,
+    out: &mut String,
+) -> Result<(), Memory> {
+    told::value(out, what)?;
+    told::pair(out, first.as_bytes(), second.as_bytes())
+}
 
 /// Tells the fault of a file of properties.
 fn tell_properties(file: &Text, fault: PropFault, out: &mut String) -> Result<(), Memory> {
-    let file = Shown(file.as_bytes());
-    Ok(writeln!(out, "  properties {file} {fault:?}")?)
-}
-
-/// Tells what is wrong, and the two words that say where.
-fn tell_bad(what: &str, first: &Text, second: &Text, out: &mut String) -> Result<(), Memory> {
-    let (first, second) = (Shown(first.as_bytes()), Shown(second.as_bytes()));
-    Ok(writeln!(out, "  {what} {first} {second}")?)
+    told::value(out, &fault)?;
+    told::bytes(out, file.as_bytes())
 }
 
 /// Tells the fault of rule files.
@@ -25,30 +30,28 @@ pub fn tell_fault(fault: &RuleFault, out: &mut String) -> Result<(), Memory> {
     match fault {
         RuleFault::NoRenames => told::text(out, "no renames"),
         RuleFault::Properties { file, fault } => tell_properties(file, *fault, out),
-        RuleFault::BadKey { file, key } => tell_bad("bad key", file, key, out),
-        RuleFault::BadValue { file, key } => tell_bad("bad value", file, key, out),
-        RuleFault::MissingText { key, name } => tell_bad("missing text", key, name, out),
+        RuleFault::BadKey { file, key } => tell_where(&"bad key", file, key, out),
+        RuleFault::BadValue { file, key } => tell_where(&"bad value", file, key, out),
+        RuleFault::MissingText { key, name } => tell_where(&"missing text", key, name, out),
         RuleFault::Chain {
             kind,
             first,
             second,
-        } => told::value_of(out, kind, first, second),
+        } => tell_where(kind, first, second, out),
     }
 }
 
-/// Tells how many bytes of a package are exchanged, and for which segments.
+/// Tells how many bytes of a package are exchanged, and for how many segments.
 fn tell_package(
     rules: &RuleSet,
     path: &[u8],
     separator: Separator,
     out: &mut String,
 ) -> Result<(), Memory> {
-    let Some(front) = rules.package(path, separator) else {
-        return told::text(out, "none");
-    };
-    write!(out, "  {}", front.taken)?;
-    told::each(out, front.segments.as_slice())?;
-    Ok(out.push('\n')?)
+    match rules.package(path, separator) {
+        Some(front) => told::value(out, &(front.taken, front.segments.len())),
+        None => told::text(out, "none"),
+    }
 }
 
 /// Tells what a bundle is updated to.
@@ -59,13 +62,19 @@ fn tell_bundle(rules: &RuleSet, name: &[u8], out: &mut String) -> Result<(), Mem
     }
 }
 
-/// Tells how many bytes the longest source has that stands at a place of a text, and its target.
+/// Tells how many bytes are exchanged, and what takes their place.
+fn tell_hit(hit: TextHit<'_>, out: &mut String) -> Result<(), Memory> {
+    told::value(out, &hit.taken)?;
+    told::bytes(out, hit.target)
+}
+
+/// Tells the longest source that stands at a place of a text.
 fn tell_source(texts: &TextRules, text: &[u8], at: usize, out: &mut String) -> Result<(), Memory> {
     if at > text.len() {
         return told::text(out, "a place behind the text");
     }
     match texts.longest(text, at) {
-        Some(hit) => Ok(writeln!(out, "  {} {}", hit.taken, Shown(hit.target))?),
+        Some(hit) => tell_hit(hit, out),
         None => told::text(out, "none"),
     }
 }

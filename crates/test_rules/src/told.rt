@@ -27,29 +27,18 @@ pub fn pair(out: &mut String, first: &[u8], second: &[u8]) -> Result<(), Memory>
     Ok(writeln!(out, "  {} {}", Shown(first), Shown(second))?)
 }
 
-/// Tells a value, as a fault or a kind, and two words.
-pub fn value_of<T: Debug>(
-    out: &mut String,
-    value: &T,
-    first: &Text,
-    second: &Text,
-) -> Result<(), Memory> {
-    write!(out, "  {value:?}")?;
-    let (first, second) = (first.as_bytes(), second.as_bytes());
-    Ok(writeln!(out, " {} {}", Shown(first), Shown(second))?)
-}
-
 /// Tells a value, as a fault or a kind.
 pub fn value<T: Debug>(out: &mut String, value: &T) -> Result<(), Memory> {
     Ok(writeln!(out, "  {value:?}")?)
 }
 
-/// Tells each of some words on the line that is begun.
-pub fn each(out: &mut String, words: &[Text]) -> Result<(), Memory> {
+/// Tells each of some words, in one line.
+pub fn words(out: &mut String, words: &[Text]) -> Result<(), Memory> {
+    out.push(' ')?;
     for word in words {
         write!(out, " {}", Shown(word.as_bytes()))?;
     }
-    Ok(())
+    Ok(out.push('\n')?)
 }
 
 /// Tells a new name, and a version, where there is one.
