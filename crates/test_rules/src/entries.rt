@@ -1,85 +1,114 @@
-//! Entries of rule files, and which of them are refused.
+//! Entries of rule files, each a key and a value.
 
+use crate::commands::Entry;
+use crate::told;
+use desk_base::Memory;
 use desk_entries::{
-    EntryError, EntryFault, check_string, check_text_rule, read_mark, read_rename, read_text_name,
-    read_update, read_versions,
+    EntryError, EntryFault, Rename, Update, Versions, check_string, check_text_rule, read_mark,
+    read_rename, read_text_name, read_update, read_versions,
 };
-use desk_packages::Reach;
-use desk_patterns::Mark;
-use std::test::Fail;
+use std::alloc::Global;
 
-#[test]
-fn renames_have_packages_on_both_sides(rt: HostRuntime) -> Result<(), Fail> {
-    let rename = read_rename(rt.alloc(), b"javax.servlet.*", b"jakarta.servlet \t")
-        .ok()
-        .ok_or("no rename")?;
-    assert_eq!(rt; rename.reach, Reach::Below);
-    assert_eq!(rt; rename.source.len(), 2);
-    let last = rename.target.get(1).ok_or("no segment")?;
-    assert_eq!(rt; last.as_bytes(), b"servlet".as_slice());
-    let exact = read_rename(rt.alloc(), b"a", b"b").ok().ok_or("no rename")?;
-    assert_eq!(rt; exact.reach, Reach::Exact);
-    let key = Some(EntryError::Fault(EntryFault::Key));
-    let value = Some(EntryError::Fault(EntryFault::Value));
-    assert_eq!(rt; read_rename(rt.alloc(), b"a..b", b"9").err(), key);
-    assert_eq!(rt; read_rename(rt.alloc(), b".*", b"b").err(), key);
-    assert_eq!(rt; read_rename(rt.alloc(), b"a", b"b.*").err(), value);
-    assert_eq!(rt; read_rename(rt.alloc(), b"a", b"").err(), value);
-    assert_eq!(rt; read_rename(rt.alloc(), b"a", b"b\xC3").err(), value);
-    assert!(rt; read_rename(rt.alloc(), b"a", b"b\xC3\xA9").is_ok());
-    Ok(())
+/// Tells a rename's reach, and the segments of its two packages.
+fn tell_rename(rename: &Rename, out: &mut String) -> Result<(), Memory> {
+    told::value(out, &rename.reach)?;
+    told::words(out, rename.source.as_slice())?;
+    told::words(out, rename.target.as_slice())
 }
 
-#[test]
-fn versions_and_updates_may_have_two_parts(rt: HostRuntime) -> Result<(), Fail> {
-    let one = read_versions(rt.alloc(), b"jakarta.servlet", b"5.0.0\t ")
-        .ok()
-        .ok_or("no versions")?;
-    assert_eq!(rt; one.imported.as_bytes(), b"5.0.0".as_slice());
-    assert_eq!(rt; one.exported.as_bytes(), b"5.0.0".as_slice());
-    let two = read_versions(rt.alloc(), b"jakarta.servlet", b"[5,6);5.1")
-        .ok()
-        .ok_or("no versions")?;
-    assert_eq!(rt; two.imported.as_bytes(), b"[5,6)".as_slice());
-    assert_eq!(rt; two.exported.as_bytes(), b"5.1".as_slice());
-    let value = Some(EntryError::Fault(EntryFault::Value));
-    assert_eq!(rt; read_versions(rt.alloc(), b"a", b"1;2;3").err(), value);
-    assert_eq!(rt; read_versions(rt.alloc(), b"a", b";2").err(), value);
-    let update = read_update(
-        rt.alloc(),
-        b"javax.servlet-api",
-        b"jakarta.servlet-api;5.0.0",
+/// Tells the versions of imports and exports.
+fn tell_versions(versions: &Versions, out: &mut String) -> Result<(), Memory> {
+    told::pair(
+        out,
+        versions.imported.as_bytes(),
+        versions.exported.as_bytes(),
     )
-    .ok()
-    .ok_or("no update")?;
-    assert_eq!(rt; update.name.as_bytes(), b"jakarta.servlet-api".as_slice());
-    assert!(rt; update.version.is_some());
-    assert!(rt; read_update(rt.alloc(), b"a", b"b").is_ok());
-    assert_eq!(rt; read_update(rt.alloc(), b"a", b"b;").err(), value);
-    Ok(())
 }
 
-#[test]
-fn strings_patterns_and_text_rules(rt: HostRuntime) -> Result<(), Fail> {
-    assert_eq!(rt; check_string(b"javax/servlet/F", b""), Ok(()));
-    assert_eq!(rt; check_string(b"", b"a"), Err(EntryFault::Key));
-    assert_eq!(rt;
-        check_string(b"a", b"\xF0\x9F\x98\x80"),
-        Err(EntryFault::Value)
-    );
-    assert_eq!(rt; check_string(b"a", b"\x80"), Err(EntryFault::Value));
-    assert_eq!(rt; check_string(b"a\x80", b"\xC3\xA9"), Ok(()));
-    assert_eq!(rt; check_string(b"a\0", b"\0"), Err(EntryFault::Key));
-    assert_eq!(rt; read_mark(b"legacy/*", b" "), Ok(Mark::Include));
-    assert_eq!(rt; read_mark(b"legacy/*", b"! "), Ok(Mark::Exclude));
-    assert_eq!(rt; read_mark(b"legacy/*", b"!!"), Err(EntryFault::Value));
-    assert_eq!(rt; read_mark(b"", b"!"), Err(EntryFault::Key));
-    let name = read_text_name(b"*.xml", b"xml.properties ")
-        .ok()
-        .ok_or("no name")?;
-    assert_eq!(rt; name, b"xml.properties".as_slice());
-    assert!(rt; read_text_name(b"", b"x").is_err());
-    assert_eq!(rt; check_text_rule(b"a"), Ok(()));
-    assert_eq!(rt; check_text_rule(b""), Err(EntryFault::Key));
-    Ok(())
+/// Tells the name and the version of an update.
+fn tell_update(update: &Update, out: &mut String) -> Result<(), Memory> {
+    match &update.version {
+        Some(version) => told::update(out, update.name.as_bytes(), Some(version.as_bytes())),
+        None => told::update(out, update.name.as_bytes(), None),
+    }
+}
+
+/// Tells which of key and value is at fault.
+fn tell_error(error: EntryError, out: &mut String) -> Result<(), Memory> {
+    match error {
+        EntryError::Fault(fault) => told::value(out, &fault),
+        EntryError::Memory => Err(Memory),
+    }
+}
+
+/// Tells whether there is a fault, and which.
+fn tell_check(check: Result<(), EntryFault>, out: &mut String) -> Result<(), Memory> {
+    match check {
+        Ok(()) => told::text(out, "well"),
+        Err(fault) => told::value(out, &fault),
+    }
+}
+
+/// Reads an entry as a rename, and tells it.
+fn read_as_rename(alloc: Global, key: &[u8], value: &[u8], out: &mut String) -> Result<(), Memory> {
+    match read_rename(alloc, key, value) {
+        Ok(rename) => tell_rename(&rename, out),
+        Err(error) => tell_error(error, out),
+    }
+}
+
+/// Reads an entry as versions, and tells them.
+fn read_as_versions(
+    alloc: Global,
+    key: &[u8],
+    value: &[u8],
+    out: &mut String,
+) -> Result<(), Memory> {
+    match read_versions(alloc, key, value) {
+        Ok(versions) => tell_versions(&versions, out),
+        Err(error) => tell_error(error, out),
+    }
+}
+
+/// Reads an entry as an update of a bundle, and tells it.
+fn read_as_update(alloc: Global, key: &[u8], value: &[u8], out: &mut String) -> Result<(), Memory> {
+    match read_update(alloc, key, value) {
+        Ok(update) => tell_update(&update, out),
+        Err(error) => tell_error(error, out),
+    }
+}
+
+/// Reads an entry as a pattern's mark, and tells it.
+fn read_as_mark(key: &[u8], value: &[u8], out: &mut String) -> Result<(), Memory> {
+    match read_mark(key, value) {
+        Ok(mark) => told::value(out, &mark),
+        Err(fault) => told::value(out, &fault),
+    }
+}
+
+/// Reads an entry as a pattern's file of text rules, and tells its name.
+fn read_as_text_name(key: &[u8], value: &[u8], out: &mut String) -> Result<(), Memory> {
+    match read_text_name(key, value) {
+        Ok(name) => told::bytes(out, name),
+        Err(fault) => told::value(out, &fault),
+    }
+}
+
+/// Reads a key and a value, and tells what they say, or which of them is at fault.
+pub fn tell_entry(
+    alloc: Global,
+    entry: Entry,
+    key: &[u8],
+    value: &[u8],
+    out: &mut String,
+) -> Result<(), Memory> {
+    match entry {
+        Entry::Rename => read_as_rename(alloc, key, value, out),
+        Entry::Versions => read_as_versions(alloc, key, value, out),
+        Entry::Update => read_as_update(alloc, key, value, out),
+        Entry::Mark => read_as_mark(key, value, out),
+        Entry::TextName => read_as_text_name(key, value, out),
+        Entry::String => tell_check(check_string(key, value), out),
+        Entry::TextRule => tell_check(check_text_rule(key), out),
+    }
 }
