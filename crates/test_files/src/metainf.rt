@@ -1,92 +1,36 @@
-//! Service files and their images.
+//! Service files and manifests, and their images.
 
-ghost use Rattle.std.specs.Prelude.{◌≤◌, length};
-ghost use Rattle.desk_base.specs.Limits.{file_size};
-
-use desk_base::{Changed, FILE_SIZE};
-use desk_fixtures::rule_set;
+use crate::words::content;
+use desk_base::{Changed, Memory, Text};
+use desk_manifest::migrate_manifest;
 use desk_metainf::{MetaFault, migrate_service};
-use desk_rules::{BuildFault, RuleSet};
+use desk_rules::RuleSet;
 use std::alloc::Global;
-use std::test::Fail;
+use test_cases::Shown;
 
-/// The rules of these tests.
-fn build(alloc: Global) -> Result<Box<RuleSet>, BuildFault> {
-    rule_set(
-        alloc,
-        &[(b"renames.properties", b"javax.servlet=jakarta.servlet")],
-    )
+/// Tells an image and how much of it changed, or why there is none.
+fn tell(found: Result<Changed, MetaFault>, out: &mut String) -> Result<(), Memory> {
+    match found {
+        Ok(Changed { bytes, changed }) => {
+            writeln!(out, "  {changed} {}", Shown(bytes.as_bytes()))?
+        }
+        Err(fault) => writeln!(out, "  {fault:?}")?,
+    }
+    Ok(())
 }
 
-/// Whether a service file has this image, with so many changed names.
-fn gives(
+/// Answers a command on service files and manifests.
+pub fn answer(
     alloc: Global,
     rules: &RuleSet,
-    text: &[u8],
-    image: &[u8],
-    changed: u32,
-) -> Result<bool, MetaFault> {
-    if text.len() > FILE_SIZE {
-        return Ok(false);
+    command: &[u8],
+    words: &[Text],
+    out: &mut String,
+) -> Result<bool, Memory> {
+    match (command, words) {
+        (b"service", [text]) => tell(migrate_service(alloc, rules, content(text)), out)?,
+        (b"manifest", [text]) => tell(migrate_manifest(alloc, rules, content(text)), out)?,
+        _ => return Ok(false),
     }
-    let found = migrate_service(alloc, rules, text)?;
-    Ok(found.bytes.as_bytes() == image && found.changed == changed)
-}
-
-/// The fault of a service file, if it has one.
-fn fault(alloc: Global, rules: &RuleSet, text: &[u8]) -> Option<MetaFault>
-    requires { length text.now ≤ file_size }
-{
-    match migrate_service(alloc, rules, text) {
-        Ok(
-            Changed {
-                bytes: _,
-                changed: _,
-            },
-        ) => None,
-        Err(fault) => Some(fault),
-    }
-}
-
-/// Service files, each with its image and how many of its names changed.
-const IMAGES: &[(&[u8], &[u8], u32)] = &[
-    (b"javax.servlet.F\n", b"jakarta.servlet.F\n", 1),
-    (
-        b"web.Init # first\njavax.servlet.X",
-        b"web.Init # first\njakarta.servlet.X",
-        1,
-    ),
-    (
-        b"\tjavax.servlet.X\t# x\r\n\rjavax.servlet.Y",
-        b"\tjakarta.servlet.X\t# x\r\n\rjakarta.servlet.Y",
-        2,
-    ),
-    (b"# javax.servlet.X\n", b"# javax.servlet.X\n", 0),
-    (b"", b"", 0),
-];
-
-#[test]
-fn provider_names_are_exchanged(rt: HostRuntime) -> Result<(), Fail> {
-    let alloc = rt.alloc();
-    let rules = build(alloc)?;
-    for (text, image, changed) in IMAGES {
-        assert!(rt; gives(alloc, &rules, text, image, *changed)?, "{text:?}");
-    }
-    Ok(())
-}
-
-#[test]
-fn a_blank_within_a_name_is_a_bad_line(rt: HostRuntime) -> Result<(), Fail> {
-    let alloc = rt.alloc();
-    let rules = build(alloc)?;
-    assert_eq!(rt;
-        fault(alloc, &rules, b"web.Init x"),
-        Some(MetaFault::BadLine { at: 0 })
-    );
-    assert_eq!(rt;
-        fault(alloc, &rules, b"a.B\r\n web.Init\tx\n"),
-        Some(MetaFault::BadLine { at: 5 })
-    );
-    assert_eq!(rt; fault(alloc, &rules, b"web.Init # x y\n"), None);
-    Ok(())
+    Ok(true)
 }
