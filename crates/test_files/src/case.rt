@@ -1,11 +1,14 @@
 //! What the lines of a case have made so far.
 
-use crate::{files, graphs, metainf, paths, pools, put, rewriting, texts};
+use crate::commands::{Command, command_of};
+use crate::words::{content, word};
+use crate::{files, graphs, images, paths, pools, put, rewriting, told};
 use desk_base::{Memory, Text};
 use desk_fixtures::rules_of;
 use desk_graph::Scanned;
 use desk_rules::RuleSet;
 use std::alloc::Global;
+use std::mem;
 use test_cases::Answers;
 
 /// The rule set of a case, and the classes that were put into its application.
@@ -28,84 +31,67 @@ impl Case {
 
     /// Builds the rule set of the files whose names and contents these words are.
     fn build(&mut self, words: &[Text], out: &mut String) -> Result<(), Memory> {
-        match rules_of(self.alloc, words) {
-            Ok(rules) => {
-                self.rules = Some(rules);
-                out.push_str("  built\n")?;
-            }
-            Err(fault) => writeln!(out, "  {fault:?}")?,
-        }
-        Ok(())
+        self.rules = rules_of(self.alloc, words).ok();
+        let built = self.rules.is_some();
+        told::text(out, if built { "built" } else { "no rule set" })
     }
 
-    /// Puts what is kept of a file, where there is a rule set.
-    fn keep(&mut self, path: &Text, bytes: &Text, out: &mut String) -> Result<(), Memory> {
-        match &self.rules {
-            Some(rules) => put::kept(self.alloc, rules, &mut self.classes, path, bytes, out),
-            None => Ok(writeln!(out, "  no rules")?),
-        }
-    }
-
-    /// Answers a command by the rule set.
-    fn answer_by(
-        &self,
-        rules: &RuleSet,
-        command: &[u8],
-        words: &[Text],
-        out: &mut String,
-    ) -> Result<bool, Memory> {
+    /// Obeys a command that needs no rule set.
+    fn obey(&mut self, command: Command, words: &[Text], out: &mut String) -> Result<(), Memory> {
         let alloc = self.alloc;
-        let classes = self.classes.as_slice();
-        Ok(
-            paths::answer(alloc, rules, command, words, out)?
-                || metainf::answer(alloc, rules, command, words, out)?
-                || texts::answer(alloc, rules, command, words, out)?
-                || rewriting::answer(alloc, rules, command, words, out)?
-                || graphs::answer(alloc, rules, classes, command, words, out)?
-                || files::answer(alloc, rules, classes, command, words, out)?,
-        )
-    }
-
-    /// Answers a command by the rule set, where there is one.
-    fn answer_with_rules(
-        &self,
-        command: &[u8],
-        words: &[Text],
-        out: &mut String,
-    ) -> Result<bool, Memory> {
-        match &self.rules {
-            Some(rules) => self.answer_by(rules, command, words, out),
-            None => Ok(false),
+        match command {
+            Command::Rules => self.build(words, out),
+            Command::Place => paths::tell_place(word(words, 0), out),
+            Command::Twins => pools::tell_twins(alloc, words, out),
+            Command::Body => pools::tell_body(alloc, out),
+            Command::Class => put::class(alloc, &mut self.classes, words, out),
+            Command::Scan => put::scanned(alloc, &mut self.classes, words, out),
+            _ => self.obey_by_rules(command, words, out),
         }
     }
 
-    /// Answers a command that changes the case.
-    fn answer_change(
+    /// Obeys a command that goes by the rule set.
+    fn obey_by_rules(
         &mut self,
-        command: &[u8],
+        command: Command,
         words: &[Text],
         out: &mut String,
-    ) -> Result<bool, Memory> {
-        match (command, words) {
-            (b"rules", files) => self.build(files, out)?,
-            (b"class", [selection, path, name, held @ ..]) => {
-                put::class(
-                    self.alloc,
-                    &mut self.classes,
-                    selection,
-                    path,
-                    name,
-                    held,
-                    out,
-                )?
+    ) -> Result<(), Memory> {
+        let alloc = self.alloc;
+        let Some(rules) = &self.rules else {
+            return told::text(out, "no rule set");
+        };
+        match command {
+            Command::Goes => paths::tell_goal(alloc, rules, word(words, 0), out),
+            Command::Service => images::tell_service(alloc, rules, content(words, 0), out),
+            Command::Manifest => images::tell_manifest(alloc, rules, content(words, 0), out),
+            Command::Text => images::tell_text(alloc, rules, words, out),
+            Command::Longest => images::tell_longest(rules, words, out),
+            Command::Treated => files::tell_treatment(alloc, rules, word(words, 0), out),
+            Command::Graph | Command::File => {
+                let classes = mem::replace(&mut self.classes, Vec::new(alloc));
+                ask_graph(alloc, rules, classes, command, words, out)
             }
-            (b"scan", [selection, path, bytes]) => {
-                put::scanned(self.alloc, &mut self.classes, selection, path, bytes, out)?
-            }
-            (b"keep", [path, bytes]) => self.keep(path, bytes, out)?,
-            _ => return Ok(false),
+            _ => rewriting::obey(alloc, rules, command, words, out),
         }
-        Ok(true)
+    }
+}
+
+/// Takes the classes of a case, and asks their graph.
+fn ask_graph(
+    alloc: Global,
+    rules: &RuleSet,
+    classes: Vec<Scanned>,
+    command: Command,
+    words: &[Text],
+    out: &mut String,
+) -> Result<(), Memory> {
+    match graphs::graph_of(alloc, rules, classes) {
+        Ok(graph) => match command {
+            Command::File => files::tell_file(alloc, rules, &graph, words, out),
+            _ => graphs::tell_graph(alloc, &graph, words, out),
+        },
+        Err(fault) => graphs::tell_fault(&fault, out),
     }
 }
 
@@ -117,16 +103,9 @@ impl Answers for Case {
     }
 
     fn answer(&mut self, words: &[Text], out: &mut String) -> Result<(), Memory> {
-        if let Some((command, words)) = words.split_first() {
-            let command = command.as_bytes();
-            let known = self.answer_change(command, words, out)?
-                || paths::answer_place(command, words, out)?
-                || pools::answer(self.alloc, command, words, out)?
-                || self.answer_with_rules(command, words, out)?;
-            if !known {
-                out.push_str("  no such command\n")?;
-            }
+        match command_of(word(words, 0)) {
+            Some(command) => self.obey(command, words.get(1..).unwrap_or(&[]), out),
+            None => told::text(out, "no such command"),
         }
-        Ok(())
     }
 }

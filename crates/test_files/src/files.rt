@@ -3,119 +3,69 @@
 ghost use Rattle.std.specs.Prelude.{◌≡◌, ◌≤◌, length};
 ghost use Rattle.desk_base.specs.Limits.{file_size};
 
-use crate::graphs::{graph_of, tell_fault};
-use crate::words::content;
+use crate::told;
+use crate::words::{content, word};
 use desk_base::{Memory, Text};
 use desk_file::{Image, Route, is_whole, migrate_file, route_of, target_of, treatment_of};
 use desk_folders::is_relative;
-use desk_graph::{ClassGraph, Scanned};
+use desk_graph::ClassGraph;
 use desk_rules::RuleSet;
 use std::alloc::Global;
 use test_cases::Shown;
 
-/// The route of a file.
-pub fn routed(alloc: Global, rules: &RuleSet, path: &Text) -> Result<Route, Memory> {
-    let path = Text::from_bytes(alloc, path.as_bytes())?;
+/// Tells where a file goes, how it is treated there, and by both calls whether it is read whole.
+pub fn tell_treatment(
+    alloc: Global,
+    rules: &RuleSet,
+    path: &[u8],
+    out: &mut String,
+) -> Result<(), Memory> {
+    let path = Text::from_bytes(alloc, path)?;
     let target = target_of(alloc, rules, &path)?;
     let treatment = treatment_of(rules, &path, &target);
-    Ok(Route {
-        path,
-        target,
-        treatment,
-    })
+    let whole = [is_whole(rules, &path, &target), treatment.is_whole()];
+    let to = Shown(target.as_bytes());
+    Ok(writeln!(out, "  {to} {treatment:?} {whole:?}")?)
 }
 
-/// Tells how a file is treated, and by both calls whether it is read whole.
-fn tell_treatment(
-    alloc: Global,
-    rules: &RuleSet,
-    path: &Text,
-    out: &mut String,
-) -> Result<(), Memory> {
-    let target = target_of(alloc, rules, path)?;
-    let treatment = treatment_of(rules, path, &target);
-    let whole = is_whole(rules, path, &target);
-    writeln!(out, "  {treatment:?} {whole} {}", treatment.is_whole())?;
-    Ok(())
+/// Tells a target, what an image is made of, and its bytes.
+fn tell_image(target: &[u8], image: &Image, out: &mut String) -> Result<(), Memory> {
+    let (to, bytes) = (Shown(target), Shown(image.bytes.as_bytes()));
+    Ok(writeln!(out, "  {to} {:?} {bytes}", image.detail)?)
 }
 
-/// Tells where a file goes.
-fn tell_target(
-    alloc: Global,
-    rules: &RuleSet,
-    path: &Text,
-    out: &mut String,
-) -> Result<(), Memory> {
-    let target = target_of(alloc, rules, path)?;
-    writeln!(out, "  {}", Shown(target.as_bytes()))?;
-    Ok(())
-}
-
-/// Tells where a file goes and how it is treated there.
-fn tell_route(alloc: Global, rules: &RuleSet, path: &Text, out: &mut String) -> Result<(), Memory> {
-    let path = Text::from_bytes(alloc, path.as_bytes())?;
-    if !is_relative(path.as_bytes()) {
-        return Ok(writeln!(out, "  not a relative path")?);
-    }
-    let route = route_of(alloc, rules, path)?;
-    let target = Shown(route.target.as_bytes());
-    writeln!(out, "  {target} {:?}", route.treatment)?;
-    Ok(())
-}
-
-/// Tells what becomes of a file in the application of a graph.
-fn tell_outcome(
+/// Tells what becomes of a file along its route, in the application of a graph.
+fn tell_routed(
     alloc: Global,
     rules: &RuleSet,
     graph: &ClassGraph<'_>,
-    path: &Text,
+    route: &Route,
     bytes: &[u8],
     out: &mut String,
 ) -> Result<(), Memory>
     requires size { length bytes.now ≤ file_size }
     requires graph { graph.now.renames ≡ rules.now.renames }
 {
-    let route = routed(alloc, rules, path)?;
-    match migrate_file(alloc, rules, graph, &route, bytes) {
-        Ok(Image { bytes, detail }) => {
-            let target = Shown(route.target.as_bytes());
-            writeln!(out, "  {target} {detail:?} {}", Shown(bytes.as_bytes()))?
-        }
-        Err(fault) => writeln!(out, "  {fault:?}")?,
-    }
-    Ok(())
-}
-
-/// Tells what becomes of a file in the application of these classes.
-fn tell_file(
-    alloc: Global,
-    rules: &RuleSet,
-    classes: &[Scanned],
-    path: &Text,
-    bytes: &Text,
-    out: &mut String,
-) -> Result<(), Memory> {
-    match graph_of(alloc, rules, classes) {
-        Ok(graph) => tell_outcome(alloc, rules, &graph, path, content(bytes), out),
-        Err(fault) => tell_fault(&fault, out),
+    match migrate_file(alloc, rules, graph, route, bytes) {
+        Ok(image) => tell_image(route.target.as_bytes(), &image, out),
+        Err(fault) => told::value(out, &fault),
     }
 }
 
-/// Answers a command on files.
-pub fn answer(
+/// Tells what becomes of a file in the application of a graph: the words are its path and its bytes.
+pub fn tell_file(
     alloc: Global,
     rules: &RuleSet,
-    classes: &[Scanned],
-    command: &[u8],
+    graph: &ClassGraph<'_>,
     words: &[Text],
     out: &mut String,
-) -> Result<bool, Memory> {
-    match (command, words) {
-        (b"treated", [path]) => tell_treatment(alloc, rules, path, out)?,
-        (b"target", [path]) => tell_target(alloc, rules, path, out)?,
-        (b"route", [path]) => tell_route(alloc, rules, path, out)?,
-        (b"file", [path, bytes]) => tell_file(alloc, rules, classes, path, bytes, out)?,
-        _ => return Ok(false),
+) -> Result<(), Memory>
+    requires { graph.now.renames ≡ rules.now.renames }
+{
+    let path = word(words, 0);
+    if !is_relative(path) {
+        return told::text(out, "not a relative path");
     }
-    Ok(true)
+    let route = route_of(alloc, rules, Text::from_bytes(alloc, path)?)?;
+    tell_routed(alloc, rules, graph, &route, content(words, 1), out)
 }

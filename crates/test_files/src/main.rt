@@ -11,32 +11,30 @@
 //! manifest CONTENT                           a manifest's image, and how many of its headers changed
 //! text PATH TARGET CONTENT                   a text's image by the text rules of a path and its target
 //! longest PATH TEXT AT                       the longest source at a place of a text
+//! twins AT DESCRIPTOR ..                     the first two methods of one name that share a descriptor
+//! body                                       a body with new indices
 //! rewrite CONTENT                            what a class becomes
 //! rewrite-as CONTENT WANTED                  whether it becomes these bytes
 //! rewrite-servlet                            the same of the servlet of `worked_classes`
-//! rewrite-servlet-with-255                   whether the servlet is answered with 255 in place of any byte
-//! twins AT DESCRIPTOR ..                     the first two members of one name that share a descriptor
-//! body                                       a body with new indices
-//! class selected|unselected PATH NAME ..     puts a class that holds these names
+//! rewrite-servlet-with-255                   at how many places the servlet is answered with 255 in place of the byte there
+//! class selected|unselected PATH NAME ..     puts a class of this name that holds these names
 //! scan selected|unselected PATH CONTENT      puts what a scan keeps of a class
-//! keep PATH CONTENT                          puts what is kept of a file
-//! graph                                      whether the classes that were put have a graph
-//! image NAME, node NAME, links CONTENT       what their graph says
-//! treated PATH                               how a file is treated, and whether it is read whole
-//! target PATH, route PATH                    where a file goes
+//! graph image|node|links WORD ..             takes the classes that were put, and asks their graph
+//! treated PATH                               where a file goes, how it is treated, and whether it is read whole
 //! file PATH CONTENT                          what becomes of a file in the application of the classes that were put
 //! ```
 #![tactic(auto)]
 
 mod case;
+mod commands;
 mod files;
 mod graphs;
-mod metainf;
+mod images;
 mod paths;
 mod pools;
 mod put;
 mod rewriting;
-mod texts;
+mod told;
 mod words;
 
 use case::Case;

@@ -1,41 +1,37 @@
 //! Twins, and a body with its new indices.
 
+use crate::told;
 use crate::words::number;
 use desk_base::{Memory, Role, Text, Used};
 use desk_format::Member;
 use desk_new_pool::{NumberedMember, append_body, first_twins};
 use std::alloc::Global;
-use test_cases::Shown;
 
-/// A method of one name at an offset, whose descriptor has a number.
-fn method(at: &Text, descriptor: &Text) -> NumberedMember {
+/// A method of one name, by its offset and the number of its descriptor.
+fn method(words: &[Text]) -> NumberedMember {
     NumberedMember {
         member: Member {
-            at: number(at),
+            at: number(words, 0),
             name: 5,
             descriptor: 6,
             method: true,
         },
         name: 5,
-        descriptor: (number(descriptor) & 0xffff) as u16,
+        descriptor: (number(words, 1) & 0xffff) as u16,
     }
 }
 
 /// Tells the first twins among methods, each given by its offset and the number of its descriptor.
-fn tell_twins(alloc: Global, words: &[Text], out: &mut String) -> Result<(), Memory> {
+pub fn tell_twins(alloc: Global, words: &[Text], out: &mut String) -> Result<(), Memory> {
     let mut members = Vec::new(alloc);
     for pair in words.chunks_exact(2) {
-        if let [at, descriptor] = pair {
-            members.push(method(at, descriptor))?;
-        }
+        members.push(method(pair))?;
     }
-    let found = first_twins(alloc, members.as_slice())?;
-    writeln!(out, "  {found:?}")?;
-    Ok(())
+    told::value(out, &first_twins(alloc, &members)?)
 }
 
 /// Tells a body of 7 bytes that begins at 39, whose indices 4 and 5 become 4 and 258.
-fn tell_body(alloc: Global, out: &mut String) -> Result<(), Memory> {
+pub fn tell_body(alloc: Global, out: &mut String) -> Result<(), Memory> {
     let mut body = Text::empty(alloc);
     let uses = [
         Used {
@@ -50,21 +46,5 @@ fn tell_body(alloc: Global, out: &mut String) -> Result<(), Memory> {
         },
     ];
     append_body(&mut body, 39, &[9, 0, 4, 8, 0, 5, 7], &uses, &[4, 258])?;
-    writeln!(out, "  {}", Shown(body.as_bytes()))?;
-    Ok(())
-}
-
-/// Answers a command on the parts of new pools.
-pub fn answer(
-    alloc: Global,
-    command: &[u8],
-    words: &[Text],
-    out: &mut String,
-) -> Result<bool, Memory> {
-    match (command, words) {
-        (b"twins", members) => tell_twins(alloc, members, out)?,
-        (b"body", []) => tell_body(alloc, out)?,
-        _ => return Ok(false),
-    }
-    Ok(true)
+    told::bytes(out, body.as_bytes())
 }

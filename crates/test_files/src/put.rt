@@ -1,12 +1,11 @@
 //! Classes that are put into the application of a case.
 
-use crate::files::routed;
-use crate::words::content;
+use crate::told;
+use crate::words::{content, word};
 use desk_base::{Memory, Text};
-use desk_class::{ClassView, HeldNames};
-use desk_file::{Treatment, scan_class};
-use desk_graph::{Scanned, scan};
-use desk_rules::RuleSet;
+use desk_class::HeldNames;
+use desk_file::scan_class;
+use desk_graph::Scanned;
 use std::alloc::Global;
 use test_cases::Shown;
 
@@ -14,8 +13,7 @@ use test_cases::Shown;
 fn put(classes: &mut Vec<Scanned>, class: Scanned, out: &mut String) -> Result<(), Memory> {
     let count = class.held.len();
     writeln!(out, "  {} holds {count}", Shown(class.name.as_bytes()))?;
-    classes.push(class)?;
-    Ok(())
+    Ok(classes.push(class)?)
 }
 
 /// Names as a scan packs them.
@@ -24,71 +22,45 @@ fn packed(alloc: Global, names: &[Text]) -> Result<HeldNames, Memory> {
     for name in names {
         texts.push(name.as_bytes())?;
     }
-    HeldNames::of(alloc, texts.as_slice())
+    HeldNames::of(alloc, &texts)
 }
 
-/// Whether a word says that a class is selected.
-fn is_selected(selection: &Text) -> bool {
-    selection.as_bytes() == b"selected".as_slice()
+/// Whether the first word says that a class is selected.
+fn is_selected(words: &[Text]) -> bool {
+    word(words, 0) == b"selected".as_slice()
 }
 
-/// Puts a class that holds these names.
+/// Puts a class: the words are whether it is selected, its path, its name, and the names that it holds.
 pub fn class(
     alloc: Global,
     classes: &mut Vec<Scanned>,
-    selection: &Text,
-    path: &Text,
-    name: &Text,
-    held: &[Text],
+    words: &[Text],
     out: &mut String,
 ) -> Result<(), Memory> {
-    let held = packed(alloc, held)?;
     let class = Scanned {
-        path: Text::from_bytes(alloc, path.as_bytes())?,
-        selected: is_selected(selection),
-        name: Text::from_bytes(alloc, name.as_bytes())?,
-        held,
+        path: Text::from_bytes(alloc, word(words, 1))?,
+        selected: is_selected(words),
+        name: Text::from_bytes(alloc, word(words, 2))?,
+        held: packed(alloc, words.get(3..).unwrap_or(&[]))?,
     };
     put(classes, class, out)
+}
+
+/// What a scan keeps of a class, or nothing of other bytes: the words are whether it is selected, its path, and its bytes.
+fn scan(alloc: Global, words: &[Text]) -> Result<Option<Scanned>, Memory> {
+    let path = Text::from_bytes(alloc, word(words, 1))?;
+    scan_class(alloc, &path, is_selected(words), content(words, 2))
 }
 
 /// Puts what a scan keeps of a class.
 pub fn scanned(
     alloc: Global,
     classes: &mut Vec<Scanned>,
-    selection: &Text,
-    path: &Text,
-    bytes: &Text,
+    words: &[Text],
     out: &mut String,
 ) -> Result<(), Memory> {
-    match ClassView::read(alloc, content(bytes)) {
-        Ok(view) => put(
-            classes,
-            scan(alloc, path, is_selected(selection), &view)?,
-            out,
-        ),
-        Err(fault) => Ok(writeln!(out, "  {fault:?}")?),
-    }
-}
-
-/// Puts what is kept of a file: nothing where it is no class.
-pub fn kept(
-    alloc: Global,
-    rules: &RuleSet,
-    classes: &mut Vec<Scanned>,
-    path: &Text,
-    bytes: &Text,
-    out: &mut String,
-) -> Result<(), Memory> {
-    let route = routed(alloc, rules, path)?;
-    let selected = route.treatment == Treatment::Class;
-    let found = if route.treatment.is_class() {
-        scan_class(alloc, &route.path, selected, content(bytes))?
-    } else {
-        None
-    };
-    match found {
+    match scan(alloc, words)? {
         Some(class) => put(classes, class, out),
-        None => Ok(writeln!(out, "  nothing")?),
+        None => told::text(out, "no class"),
     }
 }

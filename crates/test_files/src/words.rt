@@ -1,4 +1,4 @@
-//! Words as contents and numbers.
+//! The words of a command as bytes, contents and numbers. A word that lacks is empty.
 
 ghost use Rattle.std.specs.Prelude.{◌≤◌, length};
 ghost use Rattle.desk_base.specs.Limits.{file_size};
@@ -6,17 +6,25 @@ ghost use Rattle.desk_base.specs.Limits.{file_size};
 use desk_base::{FILE_SIZE, Text};
 use std::str;
 
-/// A word as the content of a file. One that is longer than a file may be is no content, and empty.
-pub fn content(word: &Text) -> &[u8]
+/// The bytes of the word at a place.
+pub fn word(words: &[Text], place: usize) -> &[u8] {
+    match words.get(place) {
+        Some(word) => word.as_bytes(),
+        None => &[],
+    }
+}
+
+/// The word at a place as the content of a file. One that is longer than a file may be is empty.
+pub fn content(words: &[Text], place: usize) -> &[u8]
     ensures { length result.now ≤ file_size }
 {
-    let bytes = word.as_bytes();
+    let bytes = word(words, place);
     if bytes.len() > FILE_SIZE { &[] } else { bytes }
 }
 
-/// A word as a decimal number, or 0.
-pub fn number(word: &Text) -> u32 {
-    match str::from_utf8(word.as_bytes()) {
+/// The word at a place as a decimal number, or 0.
+pub fn number(words: &[Text], place: usize) -> u32 {
+    match str::from_utf8(word(words, place)) {
         Ok(digits) => digits.parse::<u32>().unwrap_or(0),
         Err(_) => 0,
     }
