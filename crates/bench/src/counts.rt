@@ -8,7 +8,7 @@ use desk_report::kind_name;
 use std::{io, str};
 
 /// Counts of files, of their bytes, and of what came of each. A count that reaches its type's end stands still.
-#[derive(Debug, Drop)]
+#[derive(Drop)]
 pub struct Counts {
     files: u64,
     unreadable: u64,

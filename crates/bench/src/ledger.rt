@@ -1,36 +1,44 @@
 //! Runs of the desk over real folders with its ledger in memory: so many, by the words behind their number. Beside the program
 //! itself it shows what the ledger on disk costs. The microseconds of each run go to standard error.
 
-use crate::reading::{out_of_memory, text_of, times_of};
+use crate::reading::{bad_words, times_of, undone};
 use desk_base::Text;
 use desk_disk::DiskFolders;
 use desk_ledger::MemoryKeeper;
 use desk_report::StdSink;
 use desk_run::{FreeGate, desk};
 use std::alloc::Global;
+use std::io;
 use std::thread::Threads;
 use std::time::Instant;
 
 /// Words as texts.
-fn texts_of(alloc: Global, words: &[String]) -> anyhow::Result<Vec<Text>> {
+fn texts_of(alloc: Global, words: &[String]) -> Option<Vec<Text>> {
     let mut texts = Vec::new(alloc);
     for word in words {
-        texts.push(text_of(alloc, word.as_bytes())?)?;
+        texts
+            .push(Text::from_bytes(alloc, word.as_bytes()).ok()?)
+            .ok()?;
     }
-    Ok(texts)
+    Some(texts)
 }
 
-/// Runs the desk once, and answers its exit status.
-fn run_once<R: Threads + Sync>(
+/// An empty ledger in memory.
+fn empty_ledger(alloc: Global) -> Option<Box<MemoryKeeper>> {
+    let keeper = MemoryKeeper::new(alloc, Vec::new(alloc)).ok()?;
+    Box::new(alloc, keeper).ok()
+}
+
+/// Runs the desk, and answers its exit status.
+fn status_of<R: Threads + Sync>(
     rt: &HostRuntime,
     threads: &R,
     words: &[Text],
     keeper: &mut MemoryKeeper,
-) -> anyhow::Result<u8> {
-    let start = Instant::now(rt)?;
+) -> u8 {
     let mut folders = DiskFolders::new(rt);
     let mut out = StdSink::new(rt);
-    let status = desk(
+    desk(
         threads,
         rt.alloc(),
         words,
@@ -38,28 +46,51 @@ fn run_once<R: Threads + Sync>(
         keeper,
         &mut out,
         &FreeGate,
-    );
-    eprintln!(rt; "{}", start.elapsed(rt)?.as_micros())?;
-    Ok(status.code())
+    )
+    .code()
 }
 
-/// Runs the desk so many times with one ledger. A run whose exit status isn't 0 is the last, and an error.
-pub fn run<R: Threads + Sync>(
+/// Runs the desk with a ledger, tells the microseconds, and answers the exit status.
+fn timed<R: Threads + Sync>(
     rt: &HostRuntime,
     threads: &R,
-    words: &[String],
-) -> anyhow::Result<()> {
-    let [times, words @ ..] = words else {
-        anyhow::bail!("ledger TIMES WORD..");
-    };
-    let words = texts_of(rt.alloc(), words)?;
-    let keeper = MemoryKeeper::new(rt.alloc(), Vec::new(rt.alloc())).map_err(out_of_memory)?;
-    let mut keeper = Box::new(rt.alloc(), keeper)?;
-    for _ in 0..times_of(times) {
-        let code = run_once(rt, threads, &words, &mut keeper)?;
-        if code > 0 {
-            anyhow::bail!("a run ended with {code}");
-        }
+    words: &[Text],
+    keeper: &mut MemoryKeeper,
+) -> io::Result<u8> {
+    let start = Instant::now(rt)?;
+    let status = status_of(rt, threads, words, keeper);
+    eprintln!(rt; "{}", start.elapsed(rt)?.as_micros())?;
+    Ok(status)
+}
+
+/// Runs the desk so many times with one ledger, and answers the last exit status.
+fn run_times<R: Threads + Sync>(
+    rt: &HostRuntime,
+    threads: &R,
+    times: u32,
+    words: &[Text],
+    keeper: &mut MemoryKeeper,
+) -> io::Result<u8> {
+    let mut status = 0;
+    for _ in 0..times {
+        status = timed(rt, threads, words, keeper)?;
     }
-    Ok(())
+    Ok(status)
+}
+
+/// Runs the desk so many times by the words behind their number. It is an error if the last exit status isn't 0.
+pub fn run<R: Threads + Sync>(rt: &HostRuntime, threads: &R, words: &[String]) -> io::Result<()> {
+    let [times, words @ ..] = words else {
+        return Err(bad_words());
+    };
+    let Some(words) = texts_of(rt.alloc(), words) else {
+        return Err(undone());
+    };
+    let Some(mut keeper) = empty_ledger(rt.alloc()) else {
+        return Err(undone());
+    };
+    match run_times(rt, threads, times_of(times), &words, &mut keeper)? {
+        0 => Ok(()),
+        _ => Err(undone()),
+    }
 }

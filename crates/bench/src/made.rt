@@ -37,32 +37,39 @@ fn packed(alloc: Global, names: &[Text]) -> Result<HeldNames, Memory> {
     HeldNames::of(alloc, texts.as_slice())
 }
 
-/// The class of a number among so many: of the names that it holds three are of the rename, three of libraries that no class
-/// defines, and all others of the application.
-pub fn class_of(alloc: Global, number: u32, count: u32) -> Result<Scanned, Memory> {
+/// The name at a place among those that the class of a number among so many holds: three are of the rename, three of libraries
+/// that no class defines, and all others of the application.
+fn held_name(alloc: Global, number: u32, place: u32, count: u32) -> Result<Text, Memory> {
+    let other = number
+        .wrapping_mul(7919)
+        .wrapping_add(place.wrapping_mul(104_729));
+    if place < 3 {
+        name_of(alloc, b"javax/servlet/part", other % 1000)
+    } else if place < 6 {
+        name_of(alloc, b"com/library/part", other % 60_000)
+    } else {
+        let other = other.checked_rem(count).unwrap_or(0);
+        name_of(alloc, b"org/shop/orders/part", other)
+    }
+}
+
+/// The names that the class of a number among so many holds, its own first.
+fn held_names(alloc: Global, number: u32, count: u32) -> Result<TextList, Memory> {
     let mut held = TextList::empty(alloc);
     held.push(name_of(alloc, b"org/shop/orders/part", number)?)?;
-    for k in 0..HELD {
-        let other = number
-            .wrapping_mul(7919)
-            .wrapping_add(k.wrapping_mul(104_729));
-        let name = if k < 3 {
-            name_of(alloc, b"javax/servlet/part", other % 1000)?
-        } else if k < 6 {
-            name_of(alloc, b"com/library/part", other % 60_000)?
-        } else {
-            name_of(
-                alloc,
-                b"org/shop/orders/part",
-                other.checked_rem(count).unwrap_or(0),
-            )?
-        };
-        held.push(name)?;
+    for place in 0..HELD {
+        held.push(held_name(alloc, number, place, count)?)?;
     }
+    Ok(held)
+}
+
+/// The class of a number among so many.
+pub fn class_of(alloc: Global, number: u32, count: u32) -> Result<Scanned, Memory> {
+    let held = packed(alloc, held_names(alloc, number, count)?.as_slice())?;
     Ok(Scanned {
         path: name_of(alloc, b"WEB-INF/classes/org/shop/orders/part", number)?,
         selected: number % 10 > 0,
         name: name_of(alloc, b"org/shop/orders/part", number)?,
-        held: packed(alloc, held.as_slice())?,
+        held,
     })
 }

@@ -21,8 +21,9 @@ mod rules;
 mod scan;
 mod texts;
 
-use std::env;
+use reading::bad_words;
 use std::thread::Threads;
+use std::{env, io};
 
 /// Does what the first word says, by the words behind it.
 fn measure<R: Threads + Sync>(
@@ -30,7 +31,7 @@ fn measure<R: Threads + Sync>(
     threads: &R,
     what: &str,
     words: &[String],
-) -> anyhow::Result<()> {
+) -> io::Result<()> {
     match what {
         "names" => names::run(rt, words),
         "rules" => rules::run(rt, words),
@@ -38,14 +39,14 @@ fn measure<R: Threads + Sync>(
         "texts" => texts::run(rt, words),
         "graph" => graph::run(rt, words),
         "ledger" => ledger::run(rt, threads, words),
-        _ => anyhow::bail!("names, rules, scan, texts, graph or ledger"),
+        _ => Err(bad_words()),
     }
 }
 
-fn main(rt: HostRuntime) -> anyhow::Result<()> {
+fn main(rt: HostRuntime) -> io::Result<()> {
     let words: Vec<String> = env::args(&rt)?.skip(1).collect(rt.alloc())?;
     match words.as_slice() {
         [what, behind @ ..] => measure(&rt, &rt, what.as_str(), behind),
-        [] => anyhow::bail!("names, rules, scan, texts, graph or ledger"),
+        [] => Err(bad_words()),
     }
 }

@@ -1,8 +1,9 @@
 //! Descriptors and signatures, one a line behind the letter of its kind and a blank, as `bench/texts.py` writes them. With each
 //! of them one thing is done so many times: `sum` its bytes, or `read` its parts. It prints what came out.
 
-use crate::reading::{input_lines, times_of};
+use crate::reading::{bad_words, input_lines, times_of};
 use desk_names::{Part, Want, Which, read_descriptor, read_signature};
+use std::io;
 
 /// What came out of one pass.
 #[derive(Clone, Copy)]
@@ -73,9 +74,9 @@ fn pass(lines: &[String], summing: bool) -> Counts {
 }
 
 /// Goes over the lines of standard input so many times, and prints how many were read and what came out.
-pub fn run(rt: &HostRuntime, words: &[String]) -> anyhow::Result<()> {
+pub fn run(rt: &HostRuntime, words: &[String]) -> io::Result<()> {
     let [mode, times] = words else {
-        anyhow::bail!("names sum|read TIMES");
+        return Err(bad_words());
     };
     let summing = mode.as_str() == "sum";
     let lines = input_lines(rt)?;
@@ -83,6 +84,5 @@ pub fn run(rt: &HostRuntime, words: &[String]) -> anyhow::Result<()> {
     for _ in 0..times_of(times) {
         counts = pass(&lines, summing);
     }
-    println!(rt; "{} {}", counts.read, counts.bytes)?;
-    Ok(())
+    println!(rt; "{} {}", counts.read, counts.bytes)
 }

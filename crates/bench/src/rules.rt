@@ -1,10 +1,10 @@
 //! Class names, one a line. With each of them one thing is done so many times: `hash` its bytes, or `look` up its package among
 //! the rules of the file `renames.properties` that is named. It prints how many there are and what came out.
 
-use crate::reading::{input_lines, rule_set, times_of};
+use crate::reading::{bad_words, input_lines, read_rules, times_of};
 use desk_rules::{RuleSet, Separator};
-use std::fs;
 use std::hash::{BuildHasher, BuildHasherDefault, DefaultHasher};
+use std::io;
 
 /// The hash of a name that Rust's maps use.
 fn hashed(name: &[u8]) -> u64 {
@@ -42,18 +42,16 @@ fn pass(rules: &RuleSet, names: &[String], hashing: bool) -> u64 {
 }
 
 /// Goes over the names of standard input so many times, and prints their number and the sum of what came out.
-pub fn run(rt: &HostRuntime, words: &[String]) -> anyhow::Result<()> {
+pub fn run(rt: &HostRuntime, words: &[String]) -> io::Result<()> {
     let [mode, times, path] = words else {
-        anyhow::bail!("rules hash|look TIMES RULES");
+        return Err(bad_words());
     };
     let hashing = mode.as_str() == "hash";
-    let content = fs::read(rt, path.as_str())?;
-    let rules = rule_set(rt.alloc(), &[(b"renames.properties", &content)])?;
+    let rules = read_rules(rt, &[b"renames.properties"], path.as_str())?;
     let names = input_lines(rt)?;
     let mut sum = 0;
     for _ in 0..times_of(times) {
         sum = pass(&rules, &names, hashing);
     }
-    println!(rt; "{} {sum}", names.len())?;
-    Ok(())
+    println!(rt; "{} {sum}", names.len())
 }
