@@ -20,7 +20,7 @@ FEW = 3_000
 def once(mode, what):
     """The processor seconds of one run."""
     before = resource.getrusage(resource.RUSAGE_CHILDREN).ru_utime
-    subprocess.run([program, mode, str(what)], stdout=subprocess.DEVNULL, check=True)
+    subprocess.run([program, "graph", mode, str(what)], stdout=subprocess.DEVNULL, check=True)
     return resource.getrusage(resource.RUSAGE_CHILDREN).ru_utime - before
 
 
@@ -42,7 +42,7 @@ def counted(what, count):
     """The instructions of reading, and of scan and build, a class."""
     seen = []
     for mode in ("make", "read", "graph"):
-        words = ["valgrind", "--tool=cachegrind", "--cache-sim=no", "--cachegrind-out-file=/dev/null", program, mode, what]
+        words = ["valgrind", "--tool=cachegrind", "--cache-sim=no", "--cachegrind-out-file=/dev/null", program, "graph", mode, what]
         said = subprocess.run(words, capture_output=True, check=True, text=True).stderr
         seen.append(int(re.search(r"I\s+refs:\s+([0-9,]+)", said)[1].replace(",", "")))
     make, read, graph = seen
@@ -67,7 +67,7 @@ def some_of(paths, count):
 
 
 # The memory comes first, since the system tells the greatest of all runs so far.
-subprocess.run([program, "build", "200000"], stdout=subprocess.DEVNULL, check=True)
+subprocess.run([program, "graph", "build", "200000"], stdout=subprocess.DEVNULL, check=True)
 peak = resource.getrusage(resource.RUSAGE_CHILDREN).ru_maxrss * 1024 / 1e6
 print(f"200,000 classes with 3,200,000 held names: {peak:.0f} MB at the peak (aim: at most 250 MB)")
 

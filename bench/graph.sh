@@ -9,6 +9,6 @@ set -eu
 cd "$(dirname "$0")/.."
 . bench/jdk.sh
 find "$place/classes" -name '*.class' ! -name module-info.class | sort >"$place/list"
-program=crates/bench_graph/out/bench_graph
-[ -x "$program" ] || (cd crates/bench_graph && rt run -- graph 3000 >/dev/null)
+program=crates/bench/out/bench
+[ -x "$program" ] || (cd crates/bench && rt run -- scan <stdin >/dev/null)
 python3 bench/graph.py "$program" "$place/list"

@@ -98,7 +98,7 @@ def seconds_of(program, place, content):
     with open(f"{place}/list", "w") as paths:
         paths.write(f"{place}/some.class\n" * READINGS)
     start = time.perf_counter()
-    told = subprocess.run([program, f"{place}/list"], stdout=subprocess.PIPE, check=True).stdout
+    told = subprocess.run([program, "scan", f"{place}/list"], stdout=subprocess.PIPE, check=True).stdout
     seconds = time.perf_counter() - start
     if f"classes {READINGS}\n".encode() not in told:
         sys.exit(f"a class has a fault: {told.decode()}")

@@ -8,5 +8,5 @@ cd "$(dirname "$0")/.."
 place=$(mktemp -d)
 trap 'rm -rf "$place"' EXIT
 
-(cd crates/bench_scan && rt run <stdin >/dev/null)
-python3 bench/hostile.py crates/bench_scan/out/bench_scan crates/migrate/out/migrate "$place"
+(cd crates/bench && rt run -- scan <stdin >/dev/null)
+python3 bench/hostile.py crates/bench/out/bench crates/migrate/out/migrate "$place"

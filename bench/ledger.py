@@ -51,7 +51,7 @@ def in_file(program, place):
 def in_memory(program, place):
     """The same two runs in one process, which tells the microseconds of each."""
     clear(place)
-    return [int(word) / 1e6 for word in run([program, "2"] + words_of(place))[1].split()]
+    return [int(word) / 1e6 for word in run([program, "ledger", "2"] + words_of(place))[1].split()]
 
 
 def sums(place):

@@ -6,13 +6,14 @@
 #
 # Usage: bench/ledger.sh [PROGRAM]
 #
-# It needs python3 and the two programs built: `rt run` in crates/migrate and in crates/bench_ledger.
+# It needs python3 and the two programs built: `rt run` in crates/migrate, and `rt run -- scan <stdin` in
+# crates/bench.
 set -eu
 here=$(cd "$(dirname "$0")/.." && pwd)
-for name in migrate bench_ledger; do
-    [ -x "$here/crates/$name/out/$name" ] || { echo "build crates/$name first: rt run" >&2; exit 1; }
+for name in migrate bench; do
+    [ -x "$here/crates/$name/out/$name" ] || { echo "build crates/$name first" >&2; exit 1; }
 done
 disk=$(mktemp -d)
 memory=$(mktemp -d -p /dev/shm)
 trap 'rm -rf "$disk" "$memory"' EXIT
-python3 "$here/bench/ledger.py" "$here/crates/migrate/out/migrate" "$here/crates/bench_ledger/out/bench_ledger" "$disk" "$memory" "$@"
+python3 "$here/bench/ledger.py" "$here/crates/migrate/out/migrate" "$here/crates/bench/out/bench" "$disk" "$memory" "$@"

@@ -20,5 +20,5 @@ grep '^[fm]' "$work/texts" >"$work/descriptors"
 grep '^[CMF]' "$work/texts" >"$work/signatures"
 python3 "$here/bench/long.py" "$work"
 
-(cd "$here/crates/bench_names" && rt run -- read 1 <stdin >/dev/null)
-python3 "$here/bench/ratios.py" "$here/crates/bench_names/out/bench_names" "$work"
+(cd "$here/crates/bench" && rt run -- scan <stdin >/dev/null)
+python3 "$here/bench/ratios.py" "$here/crates/bench/out/bench" "$work"

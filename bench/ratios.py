@@ -11,7 +11,7 @@ program, folder = sys.argv[1], sys.argv[2]
 def seconds(mode, times, path):
     before = resource.getrusage(resource.RUSAGE_CHILDREN).ru_utime
     with open(path, "rb") as file:
-        subprocess.run([program, mode, str(times)], stdin=file, stdout=subprocess.DEVNULL, check=True)
+        subprocess.run([program, "names", mode, str(times)], stdin=file, stdout=subprocess.DEVNULL, check=True)
     return resource.getrusage(resource.RUSAGE_CHILDREN).ru_utime - before
 
 

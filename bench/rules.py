@@ -31,7 +31,7 @@ def rules(count):
 def seconds(mode, times, path):
     before = resource.getrusage(resource.RUSAGE_CHILDREN).ru_utime
     with open(os.path.join(folder, "names"), "rb") as file:
-        subprocess.run([program, mode, str(times), path], stdin=file, stdout=subprocess.DEVNULL, check=True)
+        subprocess.run([program, "rules", mode, str(times), path], stdin=file, stdout=subprocess.DEVNULL, check=True)
     return resource.getrusage(resource.RUSAGE_CHILDREN).ru_utime - before
 
 
@@ -47,7 +47,7 @@ def building(count):
     least = float("inf")
     for _ in range(ROUNDS):
         before = resource.getrusage(resource.RUSAGE_CHILDREN).ru_utime
-        subprocess.run([program, "look", "0", path], stdin=subprocess.DEVNULL, stdout=subprocess.DEVNULL, check=True)
+        subprocess.run([program, "rules", "look", "0", path], stdin=subprocess.DEVNULL, stdout=subprocess.DEVNULL, check=True)
         least = min(least, resource.getrusage(resource.RUSAGE_CHILDREN).ru_utime - before)
     return least
 

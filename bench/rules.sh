@@ -13,6 +13,6 @@ jdk=$(dirname "$(dirname "$(readlink -f "$(command -v javac)")")")
 for module in "$jdk"/jmods/*.jmod; do
     "$jdk/bin/jmod" list "$module"
 done | sed -n 's,^classes/\(.*\)\.class$,\1,p' >"$work/classes"
-program=$here/crates/bench_rules/out/bench_rules
-[ -x "$program" ] || (cd "$here/crates/bench_rules" && rt run >/dev/null)
+program=$here/crates/bench/out/bench
+[ -x "$program" ] || (cd "$here/crates/bench" && rt run -- scan <stdin >/dev/null)
 python3 "$here/bench/rules.py" "$program" "$work"

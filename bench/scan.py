@@ -28,7 +28,7 @@ def main():
     for _ in range(ROUNDS):
         seconds, _ = timed(["xargs", "-a", files, "cat"], stdout=subprocess.DEVNULL)
         plain.append(seconds)
-        seconds, told = timed([program, files], stdout=subprocess.PIPE)
+        seconds, told = timed([program, "scan", files], stdout=subprocess.PIPE)
         desk.append(seconds)
     print(told.decode(), end="")
     rates = [size / 1e6 / min(times) for times in (desk, plain)]

@@ -9,5 +9,5 @@ cd "$(dirname "$0")/.."
 . bench/jdk.sh
 find "$place/classes" -name '*.class' | sort >"$place/list"
 
-(cd crates/bench_scan && rt run <stdin >/dev/null)
-python3 bench/scan.py crates/bench_scan/out/bench_scan "$place/list"
+(cd crates/bench && rt run -- scan <stdin >/dev/null)
+python3 bench/scan.py crates/bench/out/bench "$place/list"

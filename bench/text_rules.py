@@ -61,8 +61,8 @@ def main():
     write(paths["text"], body)
     write(paths["twice"], body + body)
     write(paths["script"], "".join("s/{}/{}/g\n".format(name.replace(".", "\\."), name.replace("javax", "jakarta")) for name in few))
-    ten, ten_said = best([program, paths["few"], paths["text"], "2"])
-    thousands, thousands_said = best([program, paths["many"], paths["text"], "2"])
+    ten, ten_said = best([program, "texts", paths["few"], paths["text"], "2"])
+    thousands, thousands_said = best([program, "texts", paths["many"], paths["text"], "2"])
     if ten_said != thousands_said:
         sys.exit("ten and 10,000 rules differ")
     sed, said = best(["sed", "-f", paths["script"], paths["twice"]])

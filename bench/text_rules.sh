@@ -8,6 +8,6 @@ here=$(cd "$(dirname "$0")/.." && pwd)
 work=$(mktemp -d)
 trap 'rm -rf "$work"' EXIT
 
-program=$here/crates/bench_texts/out/bench_texts
-[ -x "$program" ] || (cd "$here/crates/bench_texts" && rt run >/dev/null)
+program=$here/crates/bench/out/bench
+[ -x "$program" ] || (cd "$here/crates/bench" && rt run -- scan <stdin >/dev/null)
 python3 "$here/bench/text_rules.py" "$program" "$work"

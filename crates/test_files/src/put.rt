@@ -1,0 +1,66 @@
+//! Classes that are put into the application of a case.
+
+use crate::told;
+use crate::words::{content, word};
+use desk_base::{Memory, Text};
+use desk_class::HeldNames;
+use desk_file::scan_class;
+use desk_graph::Scanned;
+use std::alloc::Global;
+use test_cases::Shown;
+
+/// Puts a class, and tells its name and how many names it holds.
+fn put(classes: &mut Vec<Scanned>, class: Scanned, out: &mut String) -> Result<(), Memory> {
+    let count = class.held.len();
+    writeln!(out, "  {} holds {count}", Shown(class.name.as_bytes()))?;
+    Ok(classes.push(class)?)
+}
+
+/// Names as a scan packs them.
+fn packed(alloc: Global, names: &[Text]) -> Result<HeldNames, Memory> {
+    let mut texts = Vec::new(alloc);
+    for name in names {
+        texts.push(name.as_bytes())?;
+    }
+    HeldNames::of(alloc, &texts)
+}
+
+/// Whether the first word says that a class is selected.
+fn is_selected(words: &[Text]) -> bool {
+    word(words, 0) == b"selected".as_slice()
+}
+
+/// Puts a class: the words are whether it is selected, its path, its name, and the names that it holds.
+pub fn class(
+    alloc: Global,
+    classes: &mut Vec<Scanned>,
+    words: &[Text],
+    out: &mut String,
+) -> Result<(), Memory> {
+    let class = Scanned {
+        path: Text::from_bytes(alloc, word(words, 1))?,
+        selected: is_selected(words),
+        name: Text::from_bytes(alloc, word(words, 2))?,
+        held: packed(alloc, words.get(3..).unwrap_or(&[]))?,
+    };
+    put(classes, class, out)
+}
+
+/// What a scan keeps of a class, or nothing of other bytes: the words are whether it is selected, its path, and its bytes.
+fn scan(alloc: Global, words: &[Text]) -> Result<Option<Scanned>, Memory> {
+    let path = Text::from_bytes(alloc, word(words, 1))?;
+    scan_class(alloc, &path, is_selected(words), content(words, 2))
+}
+
+/// Puts what a scan keeps of a class.
+pub fn scanned(
+    alloc: Global,
+    classes: &mut Vec<Scanned>,
+    words: &[Text],
+    out: &mut String,
+) -> Result<(), Memory> {
+    match scan(alloc, words)? {
+        Some(class) => put(classes, class, out),
+        None => told::text(out, "no class"),
+    }
+}
