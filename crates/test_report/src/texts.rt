@@ -1,94 +1,141 @@
-//! Texts, lists of texts, the cursor, modified UTF-8, and uses.
+//! Texts, lists of texts, modified UTF-8, shown bytes, uses that are taken, and targets that clash.
 
-use desk_base::{Cursor, Memory, Role, Short, Text, TextList, Used, Visit, check_utf8, show_byte};
-use std::test::Fail;
+use crate::answering::{As, Named, answer, answer_bytes, answer_texts, answer_three, answer_two};
+use crate::cursors::answer_cursor;
+use crate::words::{Values, front};
+use desk_base::{Memory, Role, Text, TextList, Used, Visit, check_utf8, show_byte};
+use desk_clashes::Targets;
+use std::alloc::Global;
+use test_cases::Shown;
 
-#[test]
-fn texts_and_lists_keep_what_they_take(rt: HostRuntime) -> Result<(), Fail> {
-    let mut text = Text::from_bytes(rt.alloc(), b"java")?;
-    text.push(b'/')?;
-    text.append(b"lang")?;
-    assert_eq!(rt; text.as_bytes(), b"java/lang".as_slice());
-    let mut list = TextList::empty(rt.alloc());
-    assert!(rt; list.is_empty());
-    list.push(Text::from_bytes(rt.alloc(), b"ab")?)?;
-    list.push(Text::empty(rt.alloc()))?;
-    list.push(Text::from_bytes(rt.alloc(), b"a")?)?;
-    list.push(Text::from_bytes(rt.alloc(), b"ab")?)?;
-    list.sort()?;
-    assert_eq!(rt; list.len(), 4);
-    let sorted: [&[u8]; 4] = [b"", b"a", b"ab", b"ab"];
-    for (place, bytes) in sorted.iter().enumerate() {
-        assert_eq!(rt; list.get(place).ok_or("no text")?.as_bytes(), *bytes);
+/// A command on texts.
+#[derive(Clone, Copy)]
+pub enum Command {
+    /// A text of these pieces, and its copy.
+    Text,
+    /// The text that a vector becomes.
+    Vector,
+    /// The list of these texts in byte order.
+    List,
+    /// Whether bytes are modified UTF-8, or where they aren't.
+    Utf8,
+    /// Bytes as a report shows them.
+    Shown,
+    /// The uses that a list takes.
+    Visit,
+    /// The steps of a cursor.
+    Cursor,
+    /// The places of the first two targets that clash.
+    Clash,
+}
+
+/// A text that begins with a piece, behind which one byte is pushed and more are appended.
+fn joined(alloc: Global, first: &[u8], others: &[Text]) -> Result<Text, Memory> {
+    let mut text = Text::from_bytes(alloc, first)?;
+    for piece in others {
+        match piece.as_bytes() {
+            [byte] => text.push(*byte)?,
+            bytes => text.append(bytes)?,
+        }
     }
-    assert_eq!(rt; list.as_slice().len(), 4);
+    Ok(text)
+}
+
+/// Answers a text and its copy.
+fn answer_copied(text: &Text, out: &mut String) -> Result<(), Memory> {
     let copy = text.clone()?;
-    assert!(rt; copy == text);
-    let text = Text::from(b"WEB-INF".to_vec(rt.alloc())?);
-    assert_eq!(rt; text.as_bytes(), b"WEB-INF".as_slice());
-    let texts = list.clone()?.into_vec();
-    assert_eq!(rt; texts.len(), 4);
-    assert_eq!(rt; texts[3].as_bytes(), b"ab".as_slice());
-    Ok(())
+    answer_three(
+        out,
+        &Shown(text.as_bytes()),
+        &As("copied", &Shown(copy.as_bytes())),
+        &As("equal", &(copy == *text)),
+    )
 }
 
-// The head of a class file that javac writes: magic, minor, major, the pool's count.
-#[test]
-fn a_cursor_reads_the_head_of_a_class(rt: HostRuntime) -> Result<(), Fail> {
-    let bytes = b"\xCA\xFE\xBA\xBE\x00\x00\x00\x41\x00\x1D";
-    let mut cursor = Cursor::new(bytes);
-    assert_eq!(rt; cursor.u4(), Ok(0xCAFE_BABE));
-    assert_eq!(rt; cursor.u2(), Ok(0));
-    assert_eq!(rt; cursor.u1(), Ok(0));
-    let mut inner = cursor.fence(2).ok().ok_or("short")?;
-    assert_eq!(rt;
-        (inner.at(), inner.left(), cursor.at(), cursor.left()),
-        (7, 2, 9, 1)
-    );
-    assert_eq!(rt; inner.take(2).ok().ok_or("short")?, b"\x41\x00".as_slice());
-    assert_eq!(rt; inner.u1(), Err(Short { at: 9 }));
-    assert_eq!(rt; cursor.u2(), Err(Short { at: 9 }));
-    assert_eq!(rt; cursor.u1(), Ok(0x1D));
-    Ok(())
+/// The list of these texts in byte order.
+fn sorted(alloc: Global, texts: &[Text]) -> Result<TextList, Memory> {
+    let mut list = TextList::empty(alloc);
+    for text in texts {
+        list.push(text.clone()?)?;
+    }
+    list.sort()?;
+    Ok(list)
 }
 
-// The modified UTF-8 of a\0 é € and U+10400 as javac writes it, and bytes that are none.
-#[test]
-fn modified_utf8_is_told_from_other_bytes(rt: HostRuntime) -> Result<(), Fail> {
-    let rows: [(&[u8], Result<(), u32>); 10] = [
-        (b"", Ok(())),
-        (
-            b"a\xC0\x80\xC3\xA9\xE2\x82\xAC\xED\xA0\x81\xED\xB0\x80",
-            Ok(()),
-        ),
-        (b"\xC1\x81", Ok(())),
-        (b"a\x00", Err(1)),
-        (b"\x80", Err(0)),
-        (b"ab\xBF", Err(2)),
-        (b"a\xC3", Err(1)),
-        (b"\xE2\x82", Err(0)),
-        (b"\xE2\x82a", Err(0)),
-        (b"\xF0\x90\x90\x80", Err(0)),
-    ];
-    for (bytes, answer) in rows {
-        assert_eq!(rt; check_utf8(bytes), answer);
+/// Answers how many texts a list holds, and the texts: by their places, as a slice, and as the vector of a copy.
+fn answer_list(list: &TextList, out: &mut String) -> Result<(), Memory> {
+    answer_two(
+        out,
+        &As("empty", &list.is_empty()),
+        &As("length", &list.len()),
+    )?;
+    for place in 0..list.len() {
+        if let Some(text) = list.get(place) {
+            answer_bytes(out, text.as_bytes())?;
+        }
+    }
+    answer_texts(out, list.as_slice())?;
+    answer_texts(out, &list.clone()?.into_vec())
+}
+
+/// Answers bytes as a report shows them.
+fn answer_shown(bytes: &[u8], out: &mut String) -> Result<(), Memory> {
+    for byte in bytes {
+        answer_bytes(out, show_byte(*byte).as_bytes())?;
     }
     Ok(())
 }
 
-#[test]
-fn bytes_are_shown_and_uses_are_taken(rt: HostRuntime) -> Result<(), Fail> {
-    assert_eq!(rt; show_byte(b'~').as_bytes(), b"~".as_slice());
-    assert_eq!(rt; show_byte(b'\\').as_bytes(), b"\\5c".as_slice());
-    assert_eq!(rt; show_byte(0xEF).as_bytes(), b"\\ef".as_slice());
-    let used = Used {
-        at: 10,
-        index: 5,
-        role: Role::Class,
+/// The list of uses that took one of a class name, by its offset and its index.
+fn taken(alloc: Global, at: u32, index: u16) -> Result<Vec<Used>, Memory> {
+    let mut uses = Vec::new(alloc);
+    let role = Role::Class;
+    uses.visit(Used { at, index, role })?;
+    Ok(uses)
+}
+
+/// Answers the uses that a list took, after one of a class name.
+fn answer_visit(alloc: Global, words: &[Text], out: &mut String) -> Result<(), Memory> {
+    let mut values = Values::of(alloc, words)?;
+    answer(out, &Named(&taken(alloc, values.number(), values.short())?))
+}
+
+/// A list of these targets.
+fn targets_of(alloc: Global, words: &[Text]) -> Result<Targets<'_>, Memory> {
+    let mut targets = Targets::new(alloc);
+    for word in words {
+        targets.push(word.as_bytes())?;
+    }
+    Ok(targets)
+}
+
+/// Answers the places of the first two targets that clash.
+fn answer_clash(alloc: Global, targets: &Targets<'_>, out: &mut String) -> Result<(), Memory> {
+    match targets.first_clash(alloc)? {
+        None => answer(out, &"none"),
+        Some(clash) => answer_two(out, &clash.first, &clash.second),
+    }
+}
+
+/// Answers a command.
+pub fn answer_command(
+    alloc: Global,
+    command: Command,
+    words: &[Text],
+    out: &mut String,
+) -> Result<(), Memory> {
+    let (bytes, others) = match words {
+        [first, others @ ..] => (first.as_bytes(), others),
+        [] => (b"".as_slice(), words),
     };
-    let mut taken: Vec<Used> = Vec::new(rt.alloc());
-    let answer: Result<(), Memory> = taken.visit(used);
-    assert_eq!(rt; answer, Ok(()));
-    assert_eq!(rt; taken.as_slice(), [used].as_slice());
-    Ok(())
+    match command {
+        Command::Text => answer_copied(&joined(alloc, bytes, others)?, out),
+        Command::Vector => answer_bytes(out, Text::from(bytes.to_vec(alloc)?).as_bytes()),
+        Command::List => answer_list(&sorted(alloc, words)?, out),
+        Command::Utf8 => answer(out, &Named(&check_utf8(front(bytes)))),
+        Command::Shown => answer_shown(bytes, out),
+        Command::Visit => answer_visit(alloc, words, out),
+        Command::Cursor => answer_cursor(bytes, others, out),
+        Command::Clash => answer_clash(alloc, &targets_of(alloc, words)?, out),
+    }
 }
