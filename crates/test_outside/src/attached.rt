@@ -2,11 +2,10 @@
 
 ghost use Rattle.std.specs.Prelude.{IsSome};
 
-use crate::told::say;
+use crate::told::{say, say_words};
 use crate::words::byte_of;
 use desk_base::{Memory, Text};
 use desk_ledger::{Digest, Header, Keeper, KeeperFault, MemoryKeeper, Row};
-use test_cases::Shown;
 
 /// A ledger in memory that is attached.
 #[derive(Drop)]
@@ -45,20 +44,31 @@ pub fn say_kept(done: Result<(), KeeperFault>, out: &mut String) -> Result<(), M
 
 /// Answers a header.
 fn say_header(header: &Header, out: &mut String) -> Result<(), Memory> {
-    let from = Shown(header.from.as_bytes());
-    let to = Shown(header.to.as_bytes());
-    Ok(writeln!(out, "  {from} {to} {}", Shown(&header.rules.0))?)
+    say_words(
+        &[
+            header.from.as_bytes(),
+            header.to.as_bytes(),
+            &header.rules.0,
+        ],
+        out,
+    )
 }
 
-/// Answers a row.
+/// Answers a row; an output that isn't known is `none`.
 fn say_row(row: &Row, out: &mut String) -> Result<(), Memory> {
-    let target = Shown(row.target.as_bytes());
-    let source = Shown(row.source.as_bytes());
-    write!(out, "  {target} {source} {} ", Shown(&row.digest.0))?;
-    match &row.output {
-        Some(output) => Ok(writeln!(out, "{}", Shown(&output.0))?),
-        None => Ok(writeln!(out, "none")?),
-    }
+    let output: &[u8] = match &row.output {
+        Some(output) => &output.0,
+        None => b"none",
+    };
+    say_words(
+        &[
+            row.target.as_bytes(),
+            row.source.as_bytes(),
+            &row.digest.0,
+            output,
+        ],
+        out,
+    )
 }
 
 impl Attached {
@@ -113,30 +123,47 @@ impl Attached {
         self.keeper.set_header(&header)
     }
 
-    /// Answers a command with up to one word behind it.
-    fn answer_short(
+    /// Answers a command without words behind it.
+    fn answer_alone(&mut self, verb: &[u8], out: &mut String) -> Result<(), Memory> {
+        match verb {
+            b"header" => self.answer_header(out),
+            b"commit" => say_kept(self.keeper.commit(), out),
+            _ => say("other words are wanted", out),
+        }
+    }
+
+    /// Answers a command over a target.
+    fn answer_at(&mut self, verb: &[u8], target: &Text, out: &mut String) -> Result<(), Memory> {
+        match verb {
+            b"find" => self.answer_find(target, out),
+            b"forget" => say_kept(self.keeper.forget(target), out),
+            _ => say("other words are wanted", out),
+        }
+    }
+
+    /// Keeps a row or a header, as the verb says.
+    fn keep(
         &mut self,
         verb: &[u8],
-        words: &[Text],
+        first: &Text,
+        second: &Text,
+        byte: &Text,
         out: &mut String,
     ) -> Result<(), Memory> {
-        match (verb, words) {
-            (b"header", []) => self.answer_header(out),
-            (b"commit", []) => say_kept(self.keeper.commit(), out),
-            (b"find", [target]) => self.answer_find(target, out),
-            (b"forget", [target]) => say_kept(self.keeper.forget(target), out),
+        match verb {
+            b"put" => say_kept(self.put(first, second, byte_of(byte)), out),
+            b"set-header" => say_kept(self.set_header(first, second, byte), out),
             _ => say("other words are wanted", out),
         }
     }
 
     /// Answers a command of this verb and the words behind it.
     pub fn answer(&mut self, verb: &[u8], words: &[Text], out: &mut String) -> Result<(), Memory> {
-        match (verb, words) {
-            (b"put", [target, source, byte]) => {
-                say_kept(self.put(target, source, byte_of(byte)), out)
-            }
-            (b"set-header", [from, to, byte]) => say_kept(self.set_header(from, to, byte), out),
-            _ => self.answer_short(verb, words, out),
+        match words {
+            [] => self.answer_alone(verb, out),
+            [target] => self.answer_at(verb, target, out),
+            [first, second, byte] => self.keep(verb, first, second, byte, out),
+            _ => say("other words are wanted", out),
         }
     }
 }

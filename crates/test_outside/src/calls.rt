@@ -38,6 +38,27 @@ fn create(place: &mut Place<'_>, path: &Text, out: &mut String) -> Result<(), Me
     }
 }
 
+/// The path of the file of a number in a folder.
+fn numbered(alloc: Global, folder: &Text, number: u32) -> Result<Text, Memory> {
+    let path = format!(in alloc; "{}/{number:04}", text_of(folder))?;
+    Text::from_bytes(alloc, path.as_bytes())
+}
+
+/// Makes the file of a number in a folder.
+fn make_file(
+    place: &mut Place<'_>,
+    alloc: Global,
+    folder: &Text,
+    number: u32,
+) -> Result<(), FolderFault> {
+    let path = numbered(alloc, folder, number)?;
+    if is_full(path.as_bytes()) {
+        place.create(&path)
+    } else {
+        Ok(())
+    }
+}
+
 /// Makes so many files in a folder, with names of four digits, until one fails.
 fn make_files(
     place: &mut Place<'_>,
@@ -46,11 +67,7 @@ fn make_files(
     count: u32,
 ) -> Result<(), FolderFault> {
     for number in 0..count {
-        let path = format!(in alloc; "{}/{number:04}", text_of(folder))?;
-        let path = Text::from_bytes(alloc, path.as_bytes())?;
-        if is_full(path.as_bytes()) {
-            place.create(&path)?;
-        }
+        make_file(place, alloc, folder, number)?;
     }
     Ok(())
 }
@@ -68,6 +85,14 @@ fn size(place: &mut Place<'_>, path: &Text, out: &mut String) -> Result<(), Memo
 }
 
 /// Answers a part of a file, or its length.
+fn say_part(part: &[u8], call: Call, out: &mut String) -> Result<(), Memory> {
+    match call {
+        Call::ReadLength => Ok(writeln!(out, "  {}", part.len())?),
+        _ => say_bytes(part, out),
+    }
+}
+
+/// Reads a part of a file, and answers it or its length.
 fn read(
     place: &mut Place<'_>,
     call: Call,
@@ -79,11 +104,10 @@ fn read(
     if want == 0 {
         return say("no bytes are wanted", out);
     }
-    match (place.read(path, u64::from(number_of(at)), want), call) {
-        (None, _) => say("no file", out),
-        (Some(Err(fault)), _) => say_fault(fault, out),
-        (Some(Ok(part)), Call::ReadLength) => Ok(writeln!(out, "  {}", part.as_bytes().len())?),
-        (Some(Ok(part)), _) => say_bytes(part.as_bytes(), out),
+    match place.read(path, u64::from(number_of(at)), want) {
+        None => say("no file", out),
+        Some(Err(fault)) => say_fault(fault, out),
+        Some(Ok(part)) => say_part(part.as_bytes(), call, out),
     }
 }
 
@@ -95,7 +119,15 @@ fn say_count(paths: &[Text], out: &mut String) -> Result<(), Memory> {
     }
 }
 
-/// Answers the paths below a root, or how many there are and the last.
+/// Answers paths, or how many there are and the last.
+fn say_paths(paths: &[Text], call: Call, out: &mut String) -> Result<(), Memory> {
+    match call {
+        Call::Count => say_count(paths, out),
+        _ => say_texts(paths, out),
+    }
+}
+
+/// Lists the paths below a root, and answers them, or how many there are and the last.
 fn list(
     place: &mut Place<'_>,
     call: Call,
@@ -106,10 +138,9 @@ fn list(
     if most > MOST || !names_root(root.as_bytes()) {
         return say("not a root, or too many paths", out);
     }
-    match (place.list(root, most), call) {
-        (Err(fault), _) => say_fault(fault, out),
-        (Ok(paths), Call::Count) => say_count(paths.as_slice(), out),
-        (Ok(paths), _) => say_texts(paths.as_slice(), out),
+    match place.list(root, most) {
+        Err(fault) => say_fault(fault, out),
+        Ok(paths) => say_paths(paths.as_slice(), call, out),
     }
 }
 

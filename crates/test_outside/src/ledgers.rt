@@ -120,18 +120,42 @@ impl Ledger {
         }
     }
 
+    /// Adds a row of format 1, or begins with a ledger that is taken over from it.
+    fn begin_old(&mut self, verb: &[u8], words: &[Text], out: &mut String) -> Result<(), Memory> {
+        let [first, second, byte] = words else {
+            return say("other words are wanted", out);
+        };
+        if verb == b"old-row".as_slice() {
+            self.add_old(first, second, byte)
+        } else {
+            self.take_over(first, second, byte)
+        }
+    }
+
+    /// Attaches the ledger, or stops it.
+    fn set(&mut self, verb: &[u8], words: &[Text], out: &mut String) -> Result<(), Memory> {
+        let [word] = words else {
+            return say("other words are wanted", out);
+        };
+        if verb == b"attach".as_slice() {
+            return self.attach(word, out);
+        }
+        self.stop_at(u64::from(number_of(word)));
+        Ok(())
+    }
+
     /// Answers a command of this verb and the words behind it.
     fn answer_verb(&mut self, verb: &[u8], words: &[Text], out: &mut String) -> Result<(), Memory> {
-        match (verb, words) {
-            (b"new", calls) => self.begin(calls)?,
-            (b"old-row", [target, source, byte]) => self.add_old(target, source, byte)?,
-            (b"first-format", [from, to, byte]) => self.take_over(from, to, byte)?,
-            (b"stop", [call]) => self.stop_at(u64::from(number_of(call))),
-            (b"mend", []) => self.mend(),
-            (b"attach", [name]) => return self.attach(name, out),
-            _ => return self.answer_attached(verb, words, out),
+        match verb {
+            b"new" => self.begin(words),
+            b"mend" => {
+                self.mend();
+                Ok(())
+            }
+            b"attach" | b"stop" => self.set(verb, words, out),
+            b"old-row" | b"first-format" => self.begin_old(verb, words, out),
+            _ => self.answer_attached(verb, words, out),
         }
-        Ok(())
     }
 
     /// Answers a command, of which the words behind `ledger` are given.

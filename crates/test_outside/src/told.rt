@@ -15,6 +15,15 @@ pub fn say_bytes(bytes: &[u8], out: &mut String) -> Result<(), Memory> {
     Ok(writeln!(out, "  {}", Shown(bytes))?)
 }
 
+/// Answers words, each as it is shown, in one line.
+pub fn say_words(words: &[&[u8]], out: &mut String) -> Result<(), Memory> {
+    out.push(' ')?;
+    for word in words {
+        write!(out, " {}", Shown(word))?;
+    }
+    Ok(out.push('\n')?)
+}
+
 /// Answers texts, a line each, or that there are none.
 pub fn say_texts(texts: &[Text], out: &mut String) -> Result<(), Memory> {
     if texts.is_empty() {
