@@ -1,0 +1,93 @@
+//! The task that words mean, and the files of a generated application.
+
+use crate::words::number_of;
+use crate::written::say;
+use desk_base::{Memory, Text};
+use desk_folders::GenFile;
+use desk_gen::{GenFault, generate, rule_file};
+use desk_run::{Root, Task, WordsFault, read_words};
+use std::alloc::Global;
+use test_cases::Shown;
+
+/// Answers roots as they are written, and the number of workers.
+fn write_run(
+    alloc: Global,
+    roots: [&Root; 4],
+    workers: u32,
+    out: &mut String,
+) -> Result<(), Memory> {
+    out.push(' ')?;
+    for root in roots {
+        let text = root.written(alloc)?;
+        write!(out, " {}", Shown(text.as_bytes()))?;
+    }
+    write!(out, " {workers}")?;
+    Ok(())
+}
+
+/// Answers the task of words: that of a run by its roots, its workers and whether it verifies, that of a generated application
+/// by its two numbers.
+pub fn write_task(alloc: Global, words: &[Text], out: &mut String) -> Result<(), Memory> {
+    match read_words(alloc, words) {
+        Ok(
+            Task::Run {
+                rules,
+                from,
+                to,
+                ledger,
+                workers,
+                verify,
+            },
+        ) => {
+            write_run(alloc, [&rules, &from, &to, &ledger], workers, out)?;
+            out.push_str(if verify { " verify\n" } else { "\n" })?;
+            Ok(())
+        }
+        Ok(Task::Generate { count, workers }) => {
+            Ok(writeln!(out, "  generate {count} {workers}")?)
+        }
+        Err(WordsFault::Usage) => say(out, "usage"),
+        Err(WordsFault::Memory) => Err(Memory),
+    }
+}
+
+/// Answers the path and the content of a file.
+fn write_file(file: &GenFile, out: &mut String) -> Result<(), Memory> {
+    let path = Shown(file.path.as_bytes());
+    Ok(writeln!(out, "  {path} {}", Shown(file.content.as_bytes()))?)
+}
+
+/// Answers the file in a place.
+fn write_place(files: &[GenFile], place: usize, out: &mut String) -> Result<(), Memory> {
+    match files.get(place) {
+        Some(file) => write_file(file, out),
+        None => say(out, "no file"),
+    }
+}
+
+/// The application of so many classes; none where there is no such application.
+fn application(alloc: Global, count: u32) -> Result<Option<Vec<GenFile>>, Memory> {
+    match generate(alloc, count) {
+        Ok(files) => Ok(Some(files)),
+        Err(GenFault::Limit) => Ok(None),
+        Err(GenFault::Memory) => Err(Memory),
+    }
+}
+
+/// Answers how many files an application has.
+fn write_count(files: &[GenFile], out: &mut String) -> Result<(), Memory> {
+    Ok(writeln!(out, "  {} files", files.len())?)
+}
+
+/// Answers how many files an application of so many classes has, or the file in a place of it; without a number the rule file
+/// of all of them.
+pub fn write_generated(alloc: Global, words: &[Text], out: &mut String) -> Result<(), Memory> {
+    let [count, place @ ..] = words else {
+        return write_file(&rule_file(alloc)?, out);
+    };
+    match (application(alloc, number_of(count))?, place) {
+        (Some(files), []) => write_count(&files, out),
+        (Some(files), [place, ..]) => write_place(&files, number_of(place) as usize, out),
+        (None, _) => say(out, "no application"),
+    }
+}
