@@ -128,12 +128,7 @@ impl<K: Keeper + Drop> Attached<K> {
     }
 
     /// Appends what a command over a target answers.
-    fn answer_at(
-        &mut self,
-        verb: &[u8],
-        target: &Text,
-        out: &mut String,
-    ) -> Result<(), Memory> {
+    fn answer_at(&mut self, verb: &[u8], target: &Text, out: &mut String) -> Result<(), Memory> {
         match verb {
             b"find" => self.answer_find(target, out),
             b"forget" => append_done(self.keeper.forget(target), out),
