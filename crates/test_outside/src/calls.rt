@@ -1,168 +1,220 @@
-//! The calls on folders, whatever they are.
+//! Commands over folders.
 
-ghost use Rattle.std.specs.Prelude.{IsSome, IsTrue, IfSome};
-ghost use Rattle.std.specs.FinMap as fin;
-ghost use Rattle.desk_base.specs.Paths as paths;
+use crate::places::{Place, names_root};
+use crate::told::{say, say_bytes, say_done, say_fault, say_texts};
+use crate::words::{number_of, text_of};
+use desk_base::{Memory, Text};
+use desk_folders::{FolderFault, is_full};
+use std::alloc::Global;
+use test_cases::Shown;
 
-use desk_base::{Memory, Text, TextList};
-use desk_folders::{FolderFault, Folders, is_full};
-use test_commands::{append_unknown, append_words, number_of};
-
-/// Folders of which it can be asked beforehand whether a file may be read.
-pub(crate) trait Calls: Folders {
-    /// Whether a file may be read, and added to: it is there, where the folders tell what they hold.
-    fn may_read(&self, path: &Text) -> bool
-        ensures { IsTrue result → IfSome (told self.now) (λ m. IsSome (fin.get m path.now)) };
+/// A call of folders.
+#[derive(Clone, Copy)]
+pub enum Call {
+    Create,
+    CreateFiles,
+    Append,
+    Read,
+    ReadLength,
+    Size,
+    List,
+    Count,
+    Content,
+    Stop,
+    Mend,
+    KeepWithin,
+    Fault,
 }
 
-/// Whether a path is a root.
-fn is_root(path: &[u8]) -> bool
-    ensures { IsTrue result → IsTrue (paths.is_root path.now) }
-{
-    path == b".".as_slice() || path == b"/".as_slice() || is_full(path)
-}
+/// The most paths that a listing may be asked for.
+const MOST: u32 = 1_000_000;
 
-/// Appends why a call failed.
-fn append_fault(fault: FolderFault, out: &mut String) -> Result<(), Memory> {
-    Ok(out.push_str(match fault {
-        FolderFault::Failed => "  failed\n",
-        FolderFault::Memory => "  memory\n",
-    })?)
-}
-
-/// Appends what came of a call that gives nothing.
-fn append_done(done: Result<(), FolderFault>, out: &mut String) -> Result<(), Memory> {
-    match done {
-        Ok(()) => Ok(out.push_str("  ok\n")?),
-        Err(fault) => append_fault(fault, out),
+/// Makes a file, and answers what came of it.
+fn create(place: &mut Place<'_>, path: &Text, out: &mut String) -> Result<(), Memory> {
+    if is_full(path.as_bytes()) {
+        say_done(place.create(path), out)
+    } else {
+        say("not a full path", out)
     }
 }
 
-/// Appends that a call may not be made.
-fn append_refused(out: &mut String) -> Result<(), Memory> {
-    Ok(out.push_str("  may not be called\n")?)
+/// The path of the file of a number in a folder.
+fn numbered(alloc: Global, folder: &Text, number: u32) -> Result<Text, Memory> {
+    let path = format!(in alloc; "{}/{number:04}", text_of(folder))?;
+    Text::from_bytes(alloc, path.as_bytes())
 }
 
-/// Appends how many paths they are, and the last.
-fn append_count(paths: &[Text], out: &mut String) -> Result<(), Memory> {
-    write!(out, "  {}", paths.len())?;
-    match paths {
-        [.., last] => append_words(&[last.as_bytes()], out),
-        [] => Ok(out.push('\n')?),
+/// Makes the file of a number in a folder.
+fn make_file(
+    place: &mut Place<'_>,
+    alloc: Global,
+    folder: &Text,
+    number: u32,
+) -> Result<(), FolderFault> {
+    let path = numbered(alloc, folder, number)?;
+    if is_full(path.as_bytes()) {
+        place.create(&path)
+    } else {
+        Ok(())
     }
 }
 
-/// Appends each path; or where they are counted, how many they are, and the last.
-fn append_paths(verb: &[u8], paths: &TextList, out: &mut String) -> Result<(), Memory> {
-    if verb == b"count".as_slice() {
-        return append_count(paths.as_slice(), out);
-    }
-    for path in paths.as_slice() {
-        append_words(&[path.as_bytes()], out)?;
+/// Makes so many files in a folder, with names of four digits, until one fails.
+fn make_files(
+    place: &mut Place<'_>,
+    alloc: Global,
+    folder: &Text,
+    count: u32,
+) -> Result<(), FolderFault> {
+    for number in 0..count {
+        make_file(place, alloc, folder, number)?;
     }
     Ok(())
 }
 
-/// Appends the paths below a root, at most so many and one more.
-fn answer_list<F: Calls>(
-    folders: &mut F,
-    verb: &[u8],
-    root: &Text,
-    most: &[u8],
-    out: &mut String,
-) -> Result<(), Memory> {
-    if !is_root(root.as_bytes()) {
-        return append_refused(out);
-    }
-    match folders.list(root, number_of(most).min(1_000_000) as u32) {
-        Ok(paths) => append_paths(verb, &paths, out),
-        Err(fault) => append_fault(fault, out),
-    }
-}
-
-/// Appends a part of a file; or where it is measured, how many bytes it has.
-fn append_part(verb: &[u8], part: &[u8], out: &mut String) -> Result<(), Memory> {
-    if verb == b"measure".as_slice() {
-        return Ok(writeln!(out, "  {}", part.len())?);
-    }
-    append_words(&[part], out)
-}
-
-/// Appends a part of a file: from a byte on, at most so many bytes, and at least one.
-fn answer_read<F: Calls>(
-    folders: &mut F,
-    verb: &[u8],
-    path: &Text,
-    at: &[u8],
-    want: &[u8],
-    out: &mut String,
-) -> Result<(), Memory> {
-    if !folders.may_read(path) {
-        return append_refused(out);
-    }
-    let want = u32::try_from(number_of(want)).unwrap_or(u32::MAX).max(1);
-    match folders.read_part(path, number_of(at), want) {
-        Ok(part) => append_part(verb, part.as_bytes(), out),
-        Err(fault) => append_fault(fault, out),
-    }
-}
-
-/// Appends what came of adding bytes to a file.
-fn answer_append<F: Calls>(
-    folders: &mut F,
-    path: &Text,
-    bytes: &[u8],
-    out: &mut String,
-) -> Result<(), Memory> {
-    if !folders.may_read(path) {
-        return append_refused(out);
-    }
-    append_done(folders.append(path, bytes), out)
-}
-
-/// Appends how many bytes a file has.
-fn answer_size<F: Calls>(folders: &mut F, path: &Text, out: &mut String) -> Result<(), Memory>
-    requires { IsTrue (paths.is_full_path path.now) }
-{
-    match folders.size(path) {
-        Ok(Some(size)) => Ok(writeln!(out, "  {size}")?),
-        Ok(None) => Ok(out.push_str("  none\n")?),
-        Err(fault) => append_fault(fault, out),
-    }
-}
-
-/// Appends what a command over a file answers that has no further word.
-fn answer_alone<F: Calls>(
-    folders: &mut F,
-    verb: &[u8],
-    path: &Text,
-    out: &mut String,
-) -> Result<(), Memory> {
+/// Answers how many bytes a file has.
+fn size(place: &mut Place<'_>, path: &Text, out: &mut String) -> Result<(), Memory> {
     if !is_full(path.as_bytes()) {
-        return append_refused(out);
+        return say("not a full path", out);
     }
-    match verb {
-        b"size" => answer_size(folders, path, out),
-        b"create" => append_done(folders.create(path), out),
-        _ => append_unknown(out),
+    match place.size(path) {
+        Ok(Some(size)) => Ok(writeln!(out, "  {size}")?),
+        Ok(None) => say("none", out),
+        Err(fault) => say_fault(fault, out),
     }
 }
 
-/// Appends what a command over a file, or a root, answers, of which the words behind the path are given.
-pub(crate) fn answer<F: Calls>(
-    folders: &mut F,
-    verb: &[u8],
+/// Answers a part of a file, or its length.
+fn say_part(part: &[u8], call: Call, out: &mut String) -> Result<(), Memory> {
+    match call {
+        Call::ReadLength => Ok(writeln!(out, "  {}", part.len())?),
+        _ => say_bytes(part, out),
+    }
+}
+
+/// Reads a part of a file, and answers it or its length.
+fn read(
+    place: &mut Place<'_>,
+    call: Call,
     path: &Text,
+    at: &Text,
+    want: u32,
+    out: &mut String,
+) -> Result<(), Memory> {
+    if want == 0 {
+        return say("no bytes are wanted", out);
+    }
+    match place.read(path, u64::from(number_of(at)), want) {
+        None => say("no file", out),
+        Some(Err(fault)) => say_fault(fault, out),
+        Some(Ok(part)) => say_part(part.as_bytes(), call, out),
+    }
+}
+
+/// Answers how many paths there are, and the last.
+fn say_count(paths: &[Text], out: &mut String) -> Result<(), Memory> {
+    match paths {
+        [.., last] => Ok(writeln!(out, "  {} {}", paths.len(), Shown(last.as_bytes()))?),
+        [] => say("none", out),
+    }
+}
+
+/// Answers paths, or how many there are and the last.
+fn say_paths(paths: &[Text], call: Call, out: &mut String) -> Result<(), Memory> {
+    match call {
+        Call::Count => say_count(paths, out),
+        _ => say_texts(paths, out),
+    }
+}
+
+/// Lists the paths below a root, and answers them, or how many there are and the last.
+fn list(
+    place: &mut Place<'_>,
+    call: Call,
+    root: &Text,
+    most: u32,
+    out: &mut String,
+) -> Result<(), Memory> {
+    if most > MOST || !names_root(root.as_bytes()) {
+        return say("not a root, or too many paths", out);
+    }
+    match place.list(root, most) {
+        Err(fault) => say_fault(fault, out),
+        Ok(paths) => say_paths(paths.as_slice(), call, out),
+    }
+}
+
+/// Answers the last fault: what was tried, on which path, and the words of the cause.
+fn answer_fault(place: &Place<'_>, out: &mut String) -> Result<(), Memory> {
+    match place.last_fault() {
+        Some(fault) => {
+            let path = Shown(fault.path.as_bytes());
+            let words = Shown(fault.words.as_bytes());
+            Ok(writeln!(out, "  {:?} {path} {words}", fault.tried)?)
+        }
+        None => say("none", out),
+    }
+}
+
+/// Answers a call with a path, or with a number of a call.
+fn answer_one(
+    place: &mut Place<'_>,
+    call: Call,
+    word: &Text,
+    out: &mut String,
+) -> Result<(), Memory> {
+    match call {
+        Call::Create => create(place, word, out),
+        Call::Size => size(place, word, out),
+        Call::Content => place.answer_content(word, out),
+        Call::Stop => {
+            place.stop_at(u64::from(number_of(word)));
+            Ok(())
+        }
+        Call::KeepWithin => {
+            place.keep_within(word.clone()?);
+            Ok(())
+        }
+        _ => say("other words are wanted", out),
+    }
+}
+
+/// Answers a call with a path and a second word.
+fn answer_two(
+    place: &mut Place<'_>,
+    alloc: Global,
+    call: Call,
+    path: &Text,
+    word: &Text,
+    out: &mut String,
+) -> Result<(), Memory> {
+    match call {
+        Call::CreateFiles => say_done(make_files(place, alloc, path, number_of(word)), out),
+        Call::Append => place.append(path, word.as_bytes(), out),
+        Call::List | Call::Count => list(place, call, path, number_of(word), out),
+        _ => say("other words are wanted", out),
+    }
+}
+
+/// Answers a call.
+pub fn answer(
+    place: &mut Place<'_>,
+    alloc: Global,
+    call: Call,
     words: &[Text],
     out: &mut String,
 ) -> Result<(), Memory> {
-    match words {
-        [] => answer_alone(folders, verb, path, out),
-        [word] => match verb {
-            b"append" => answer_append(folders, path, word.as_bytes(), out),
-            _ => answer_list(folders, verb, path, word.as_bytes(), out),
-        },
-        [at, want] => answer_read(folders, verb, path, at.as_bytes(), want.as_bytes(), out),
-        _ => append_unknown(out),
+    match (call, words) {
+        (Call::Mend, []) => {
+            place.mend();
+            Ok(())
+        }
+        (Call::Fault, []) => answer_fault(place, out),
+        (_, [word]) => answer_one(place, call, word, out),
+        (_, [path, word]) => answer_two(place, alloc, call, path, word, out),
+        (Call::Read | Call::ReadLength, [path, at, want]) => {
+            read(place, call, path, at, number_of(want), out)
+        }
+        _ => say("other words are wanted", out),
     }
 }
