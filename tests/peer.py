@@ -4,14 +4,23 @@
 
 FOLDER holds old/NAME.jar, peer/NAME.jar and ours/NAME.jar, each an archive that was unpacked. Each class is printed with
 `javap -v -p`, indices of the constant pool are left out where their meaning stands beside them, and the three are compared line
-by line. It prints a page: a table of the libraries, the differences by kind with what each kind means, and the `switch`
-statements over strings whose label is renamed. It ends with 1 where a difference is of no kind that the page explains.
+by line. It prints a page: a table of the libraries, the differences by kind with what each kind means, the strings of ours that
+name a class or a package of an API by its old name, and the `switch` statements over strings whose label is renamed. It ends
+with 1 where a difference is of no kind that the page explains, and where such a string is left.
 """
 import collections
 import os
 import re
 import subprocess
 import sys
+
+from class_names import ClassFile
+
+sys.path.insert(0, os.path.join(os.path.dirname(os.path.abspath(__file__)), "..", "tools"))
+import rules
+
+# The set of ready rules that is tried.
+READY = rules.SETS[0]
 
 KINDS = {
     "prose": "A string that holds the name of a package among other words, as a message does: the peer exchanges it, this "
@@ -97,6 +106,23 @@ def kind_of(old, peer, ours):
     return "below"
 
 
+# A package or a class in a form of its own: a name with dots or with slashes, a descriptor, an array, a file, a service file, a
+# front of either, or an import.
+FORM = re.compile(
+    r"(?:\[*L|/|/?META-INF/services/)?(javax[./][\w$./]*?)(?:;|\.class|[./]|\.\*)?(?:\\u0001)?")
+
+
+def is_left(text, names):
+    """Whether a string names a class or a package of an API that the rules rename."""
+    found = FORM.fullmatch(text)
+    if not found:
+        return False
+    name = found[1].replace("/", ".")
+    package = name.rpartition(".")[0]
+    return (name in names.get(package, ()) and rules.image(package, READY) != package
+            or name in names and rules.image(name, READY) != name)
+
+
 def hash_of(text):
     """java.lang.String.hashCode."""
     units = text.encode("utf-16-be", "surrogatepass")
@@ -126,11 +152,34 @@ def switches(old, ours):
             yield text, image
 
 
-def compared(folder, name, kinds, samples, labels):
+def joined_of(line):
+    """The text that a line shows which the JVM joins with one value; or None."""
+    found = re.fullmatch(r"# (\S*\\u0001)", line)
+    return found and found[1]
+
+
+def pool_texts(path):
+    """The texts of a class's pool, with U+0001 as javap shows it."""
+    with open(path, "rb") as file:
+        texts = [entry[1] for entry in ClassFile(file.read()).pool.values() if entry[0] == 1]
+    return {text.decode("utf-8", "replace").replace("\x01", "\\u0001") for text in texts}
+
+
+def left_strings(folder, texts, name, names):
+    """The strings of a library's classes that name an API by its old name. javap drops blanks at the end of a string, so the pool
+    is asked whether the string is the name alone."""
+    for path in sorted(texts):
+        found = {text for line in texts[path] for text in (string_of(line), joined_of(line)) if text and is_left(text, names)}
+        for text in sorted(found and found & pool_texts(os.path.join(folder, path))):
+            yield name, path, text
+
+
+def compared(folder, name, kinds, samples, labels, left):
     """One row of the table: classes, those that are alike, those that differ, those that one side lacks."""
-    old, peer, ours = (
-        {name_in(folder, path): text for path, text in printed(os.path.join(folder, side, name + ".jar")).items()}
-        for side in ("old", "peer", "ours"))
+    folders = [os.path.join(folder, side, name + ".jar") for side in ("old", "peer", "ours")]
+    sides = [printed(it) for it in folders]
+    left += left_strings(folders[2], sides[2], name, rules.api_names())
+    old, peer, ours = ({name_in(folder, path): text for path, text in side.items()} for side in sides)
     alike = 0
     lacking = set(peer) ^ set(ours)
     for path in sorted(set(peer) & set(ours) & set(old)):
@@ -153,12 +202,12 @@ def compared(folder, name, kinds, samples, labels):
 
 def main():
     folder, *names = sys.argv[1:]
-    kinds, samples, labels = collections.Counter(), collections.defaultdict(list), []
+    kinds, samples, labels, left = collections.Counter(), collections.defaultdict(list), [], []
     print("| Library | classes | alike | differ | on one side alone |")
     print("|---|---|---|---|---|")
     total = [0, 0, 0, 0]
     for name in names:
-        row = compared(folder, name, kinds, samples, labels)
+        row = compared(folder, name, kinds, samples, labels, left)
         total = [a + b for a, b in zip(total, row[1:])]
         print("| " + " | ".join(map(str, row)) + " |", flush=True)
     print("| all | " + " | ".join(map(str, total)) + " |\n")
@@ -169,13 +218,18 @@ def main():
             print(f"  {name} {path}\n    old  {old[-160:]}\n    peer {peer[-160:]}\n    ours {ours[-160:]}")
     if not kinds:
         print("none")
+    print("\nStrings that are left, though they name a class or a package of an API:\n")
+    for name, path, text in left:
+        print(f"{name} {path}: {text}")
+    if not left:
+        print("none")
     print("\nSwitch statements over strings whose label is renamed. The code keeps the hash of the old string, so no string")
     print("reaches the renamed label: compile these classes again from their sources.\n")
     for name, path, text, image in labels:
         print(f"{name} {path}: {text} -> {image}")
     if not labels:
         print("none")
-    sys.exit(1 if kinds["of no kind"] or total[3] else 0)
+    sys.exit(1 if kinds["of no kind"] or total[3] or left else 0)
 
 
 main()

@@ -1,24 +1,32 @@
 #!/usr/bin/env bash
 # Runs the example's web application in two real servers of Debian: the archive of Java EE 8 in Tomcat 9 and the migrated one
-# in Tomcat 10, which reads its descriptors with validation. Each page answers alike: the servlet of an annotation, that of an
-# initializer's service file, the page with the Standard Tag Library and a tag of its own, the page of errors, and two files.
-# The servers listen on free ports of 127.0.0.1, and each is ended by its own process id. Skipped with a line where a package
-# is missing: apt-get install libtomcat9-java libtomcat10-java libtaglibs-standard-spec-java libtaglibs-standard-impl-java
+# in Tomcat 10, which reads its descriptors with validation. Each page answers alike: the servlet of an annotation, on whose
+# annotations of JSR 250 the server acts, the one that looks up names in each form of strings, that of an initializer's service
+# file, the page with the Standard Tag Library and a tag of its own, the page of errors, and two files. Beside it in Tomcat 10
+# stand the archive of Java EE 8, which must not run there; the application by rules/jakarta-ee-10, with the new URIs of the
+# Standard Tag Library; and by rules/jakarta-ee-9-jsr305, under which the server passes over JSR 250. The servers listen on free
+# ports of 127.0.0.1, and each is ended by its own process id. Skipped with a line where a package is missing:
+# apt-get install libtomcat9-java libtomcat10-java libtaglibs-standard-spec-java libtaglibs-standard-impl-java libjsr305-java
 set -u
 cd "$(dirname "$0")/.."
-for word in java javac curl python3; do
-  command -v "$word" >/dev/null || { echo "skipped: no $word is here"; exit 0; }
-done
-java=/usr/share/java
-for jar in tomcat9-catalina tomcat10-catalina taglibs-standard-spec taglibs-standard-impl; do
-  [ -f "$java/$jar.jar" ] || { echo "skipped: $java/$jar.jar isn't here"; exit 0; }
-done
 . tests/common.sh
+needs java javac curl python3
+java=/usr/share/java
+for jar in tomcat9-catalina tomcat10-catalina taglibs-standard-spec taglibs-standard-impl jsr305; do
+  [ -f "$java/$jar.jar" ] || lacks "$java/$jar.jar isn't here"
+done
 pids=
 trap 'for pid in $pids; do kill "$pid" 2>/dev/null; done; wait 2>/dev/null; rm -rf "$place"' EXIT
 
 examples/war/run.sh "$place/war" >"$place/built" || { cat "$place/built" >&2; exit 1; }
-top=$PWD
+
+# packed NAME RULES: the application by other rules, as NAME.war
+packed() {
+  "$program" run --rules "rules/$2" --from "$place/war/app" --to "$place/$1" --ledger "$place/$1.ledger" >"$place/$1.report" &&
+    tools/pack.py "$place/$1" "$place/$1.war" "$place/war/app.entries" "$place/$1.report"
+}
+
+packed ten jakarta-ee-10 && packed left jakarta-ee-9-jsr305 || exit 1
 cd "$place" || exit 1
 
 # ---- the servers
@@ -38,13 +46,14 @@ free_port() {
   python3 -c 'import socket; s = socket.socket(); s.bind(("127.0.0.1", 0)); print(s.getsockname()[1])'
 }
 
-# start VERSION ARCHIVE [OTHER]: starts a server with the archive as /shop, and another as /other; its port is port_VERSION
+# start VERSION ARCHIVE [OTHER..]: starts a server with the archive as /shop, and the others by their names; its port is
+# port_VERSION
 start() {
-  local base=$place/tomcat$1 port
+  local base=$place/tomcat$1 port other
   port=$(free_port)
   mkdir -p "$base/conf" "$base/webapps" "$base/logs" "$base/temp" "$base/work"
   cp "$2" "$base/webapps/shop.war"
-  [ $# = 2 ] || cp "$3" "$base/webapps/other.war"
+  for other in "${@:3}"; do cp "$other" "$base/webapps/"; done
   cat >"$base/conf/server.xml" <<END
 <Server port="-1">
   <Listener className="org.apache.catalina.startup.VersionLoggerListener"/>
@@ -99,20 +108,20 @@ answered() {
   return 1
 }
 
-# page VERSION PATH: the status, the type and the text of a page
+# page VERSION PATH [NAME]: the status, the type and the text of a page of /shop, or of another archive
 page() {
   local port
   eval "port=\$port_$1"
-  curl -s --path-as-is -w '\nstatus %{http_code} %{content_type}\n' "http://127.0.0.1:$port/shop/$2"
+  curl -s --path-as-is -w '\nstatus %{http_code} %{content_type}\n' "http://127.0.0.1:$port/${3:-shop}/$2"
 }
 
 start 9 war/shop-ee8.war
-start 10 war/shop.war war/shop-ee8.war
+start 10 war/shop.war war/shop-ee8.war ten.war left.war
 answered 9 && answered 10 || exit 1
 
 # ---- the pages
 
-for path in '' hello registered missing 'pages%20of%20help/how%20to%20buy.txt' .well-known/security.txt; do
+for path in '' hello forms registered missing 'pages%20of%20help/how%20to%20buy.txt' .well-known/security.txt; do
   page 9 "$path" >old
   page 10 "$path" >new
   same "the page /$path" old new
@@ -126,10 +135,28 @@ started by the listener: the corner shop
 passed the filter: marked
 class of the bundle: HttpServlet
 is it this servlet's: true
+the owner, by the server: the owner of the shop
+opened by the server: true
+annotated for tools: true
 
 status 200 text/plain;charset=UTF-8
 END
 same "the servlet's page" wanted got
+page 10 forms >got
+cat >wanted <<'END'
+array: true
+descriptor: true
+file: true
+file from the top: true
+front: true
+front of a path: true
+key: create
+path: true
+service file: true
+
+status 200 text/plain;charset=UTF-8
+END
+same "the page of forms" wanted got
 page 10 missing >got
 cat >wanted <<'END'
 status by its name: 404
@@ -146,16 +173,40 @@ page 10 registered >got
 printf 'registered by the initializer at /registered\n\nstatus 200 text/plain;charset=UTF-8\n' >wanted
 same "the page of the initializer" wanted got
 
+# ---- the other sets of ready rules
+
+for path in '' hello forms registered; do
+  page 9 "$path" >old
+  page 10 "$path" ten >new
+  same "the page /$path by the rules for Jakarta EE 10" old new
+done
+grep -ho 'uri="[^"]*"' war/new/index.jsp ten/index.jsp >got
+cat >wanted <<'END'
+uri="http://java.sun.com/jsp/jstl/core"
+uri="http://java.sun.com/jsp/jstl/fmt"
+uri="http://shop.example/tags"
+uri="jakarta.tags.core"
+uri="jakarta.tags.fmt"
+uri="http://shop.example/tags"
+END
+same "the URIs of tags" wanted got
+page 10 hello left | sed -n '/by the server/p; /for tools/p' >got
+cat >wanted <<'END'
+the owner, by the server: null
+opened by the server: false
+annotated for tools: true
+END
+same "annotations that the server passes over" wanted got
+
 # ---- what the server says of the descriptors, and that the old archive doesn't run there
 
-grep 'reported processing' tomcat10/log | grep -c 'webapps/shop' >got
+grep 'reported processing' tomcat10/log | grep -cE 'webapps/(shop|ten|left)/' >got
 printf '0\n' >wanted
-same "faults in the descriptors of the new archive" wanted got
-curl -s -o /dev/null -w '%{http_code}\n' "http://127.0.0.1:$port_10/other/hello" >got
+same "faults in the descriptors of the new archives" wanted got
+curl -s -o /dev/null -w '%{http_code}\n' "http://127.0.0.1:$port_10/shop-ee8/hello" >got
 printf '404\n' >wanted
 same "the old archive in Tomcat 10" wanted got
 
 grep -o 'Server version name: .*' tomcat9/log tomcat10/log | sed 's/^[^:]*:[^:]*: */server: /'
 
-echo "$passed passed, $failed failed"
-[ "$failed" = 0 ]
+ended

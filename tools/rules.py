@@ -1,5 +1,5 @@
 #!/usr/bin/env python3
-"""Writes the two folders of ready rules, rules/jakarta-ee-9 and rules/jakarta-ee-9-annotations, from the tables below.
+"""Writes the folders of ready rules, one for each of SETS, from the tables below.
 
     tools/rules.py [FOLDER]     writes them below FOLDER (the folder rules/ of the repository where none is given)
 
@@ -10,8 +10,18 @@ A line of a rule file has its origin in the comment above it. Origins:
   peer      the profile EE of Apache Tomcat's migration tool for Jakarta EE
   Debian    the manifest of that library in Debian 12
 """
+import collections
 import os
 import sys
+
+# A set of ready rules: the folder that it is written to, the edition of Jakarta EE, and whether javax.annotation moves as a
+# package. Where it doesn't, JSR 250 stays with JSR 305, and only its packages below move.
+Ready = collections.namedtuple("Ready", "folder edition annotations")
+SETS = [
+    Ready("jakarta-ee-9", "9.1", True),
+    Ready("jakarta-ee-9-jsr305", "9.1", False),
+    Ready("jakarta-ee-10", "10", True),
+]
 
 # Each moved package with everything below it, the specification that it belongs to, the version of its packages in
 # Jakarta EE 9.1, the first version that a bundle for Jakarta EE 9 doesn't fit, and the packages below it that the
@@ -64,6 +74,23 @@ MOVED = [
         "", "handler", "handler.soap", "http", "soap", "spi", "spi.http", "wsaddressing"]),
 ]
 
+# JSR 250's own package, where it moves.
+ANNOTATIONS = ("annotation", "Annotations", "2.0", "3", [""])
+
+# What Jakarta EE 10 has other than 9.1: the versions of packages and their ends, and packages that it lacks. Web Services
+# Metadata is part of XML Web Services there, which has another version.
+VERSIONS_10 = {
+    "activation": ("2.1", "3"), "annotation": ("2.1", "3"), "annotation.security": ("2.1", "3"),
+    "annotation.sql": ("2.1", "3"), "batch": ("2.1", "3"), "decorator": ("4.0", "5"), "el": ("5.0", "6"),
+    "enterprise": ("4.0", "5"), "enterprise.concurrent": ("3.0", "4"), "faces": ("4.0", "5"), "interceptor": ("2.1", "3"),
+    "jms": ("3.1", "4"), "json": ("2.1", "3"), "json.bind": ("3.0", "4"), "jws": ("3.0", "5"), "mail": ("2.1", "3"),
+    "persistence": ("3.1", "4"), "resource": ("2.1", "3"), "security.auth.message": ("3.0", "4"),
+    "security.enterprise": ("3.0", "4"), "security.jacc": ("2.1", "3"), "servlet": ("6.0", "7"), "servlet.jsp": ("3.1", "4"),
+    "servlet.jsp.jstl": ("3.0", "4"), "websocket": ("2.1", "3"), "ws.rs": ("3.1", "4"), "xml.bind": ("4.0", "5"),
+    "xml.soap": ("3.0", "4"), "xml.ws": ("4.0", "5"),
+}
+GONE_10 = ["faces.bean", "faces.el"]
+
 # Packages that have no rule of their own, since the rule of a package above them renames them.
 WITHIN = ("enterprise.concurrent", "json.bind", "servlet.jsp", "servlet.jsp.jstl")
 
@@ -76,7 +103,7 @@ STAY = [
     ("annotation.meta", ".*", "JSR 305, which never moved", True),
 ]
 
-# Symbolic names: old, new, version, origin.
+# Symbolic names: old, new, version in Jakarta EE 9.1, origin, and whether it belongs to JSR 250 alone.
 BUNDLES = [
     ("javax.annotation-api", "jakarta.annotation-api", "2.0.0", "Debian: libjakarta-annotation-api-java 2.0.0", True),
     ("com.sun.activation.javax.activation", "com.sun.activation.jakarta.activation", "2.0.0",
@@ -97,26 +124,99 @@ BUNDLES = [
     ("javax.websocket-api", "jakarta.websocket-api", "2.0.0", "Debian: libwebsocket-api-java 1.1; version by EE 9", False),
 ]
 
-# Strings that are no dotted names and yet hold the name of a package, so that no rename changes them.
-DIRECT_FRONTS = [
+# Their versions in Jakarta EE 10, where they are others. Mail and Activation are divided there into an API and an
+# implementation, so that what com.sun.mail.javax.mail, javax.mail.api and com.sun.activation.javax.activation were has no
+# bundle of its own: they get the names of Jakarta EE 9.1.
+BUNDLES_10 = {
+    "javax.annotation-api": "2.1.0", "javax.el-api": "5.0.0", "javax.interceptor-api": "2.1.0", "javax.mail-api": "2.1.0",
+    "javax.servlet-api": "6.0.0", "javax.servlet.jsp-api": "3.1.0", "javax.websocket-api": "2.1.0",
+}
+
+# The libraries of the Standard Tag Library, which have other URIs in Jakarta EE 10 (Standard Tag Library 3.0), and what stands
+# before them in the old ones: in pages of JSTL 1.1 and 1.2, and in Facelets of Faces 2.2 and 2.3.
+TAGS = ["core", "fmt", "functions", "sql", "xml"]
+OLD_TAGS = ["http://java.sun.com/jsp/jstl/", "http://xmlns.jcp.org/jsp/jstl/"]
+
+# Fronts of names that are no names of packages, so that no form of a package below has them, each with what it is.
+FRONTS = [
     ("javax.servlet.include.", "the front of names of attributes of a request (Servlet)"),
     ("javax.servlet.forward.", "the same"),
     ("javax.servlet.async.", "the same"),
     ("javax.servlet.error.", "the same"),
     ("javax.servlet.context.", "the same"),
     ("javax.servlet.request.", "the same"),
-    ("javax.faces.component.", "the front of identifiers of components (Faces)"),
     ("/javax.faces.resource", "the path of resources (Faces)"),
-    ("Ljavax/persistence", "the front of descriptors in scanners of classes (Persistence)"),
-    ("Ljavax/servlet/annotation/WebServlet;", "a descriptor in scanners of classes (Servlet)"),
-    ("Ljavax/servlet/annotation/WebFilter;", "the same"),
-    ("Ljavax/servlet/annotation/WebListener;", "the same"),
-    ("javax.persistence.*", "imports of generated code (Persistence)"),
-    ("javax.xml.bind.annotation.*", "imports of generated code (XML Binding)"),
+    ("javax.xml.bind.DatatypeConverter.", "the front of calls in code that a compiler of schemas writes (XML Binding)"),
 ]
 
-# The packages that pages import, and the constraints whose annotations name a message.
-IMPORTED = ["servlet", "servlet.http", "servlet.jsp", "servlet.jsp.tagext"]
+# Keys of the APIs that are no dotted names, each with where it is from.
+KEYS = [
+    ("javax.persistence.schema-generation.connection", "Persistence 2.1, 8.2.1.9 and 9.4; found in EclipseLink 2.7"),
+    ("javax.persistence.schema-generation.create-database-schemas", "the same"),
+    ("javax.persistence.schema-generation.create-script-source", "the same"),
+    ("javax.persistence.schema-generation.create-source", "the same"),
+    ("javax.persistence.schema-generation.database.action", "the same"),
+    ("javax.persistence.schema-generation.drop-script-source", "the same"),
+    ("javax.persistence.schema-generation.drop-source", "the same"),
+    ("javax.persistence.schema-generation.scripts.action", "the same"),
+    ("javax.persistence.schema-generation.scripts.create-target", "the same"),
+    ("javax.persistence.schema-generation.scripts.drop-target", "the same"),
+    ("javax.persistence.sql-load-script-source", "the same"),
+    ("javax.persistence.database-product-name", "the same"),
+    ("javax.persistence.database-major-version", "the same"),
+    ("javax.persistence.database-minor-version", "the same"),
+    ("javax.persistence.validation.group.pre-persist",
+     "Persistence 2.0, 3.6.1.2 and 8.2.1.9; found in EclipseLink 2.7 and OpenJPA 2.4"),
+    ("javax.persistence.validation.group.pre-update", "the same"),
+    ("javax.persistence.validation.group.pre-remove", "the same"),
+    ("javax.persistence.schema-generation.", "the front of these keys; known, not measured"),
+    ("javax.persistence.validation.group.", "the same"),
+    ("javax.persistence.validation.group.pre-", "the same"),
+    ("javax.persistence.create-database-schemas", "Hibernate's name of such a key; known, not measured"),
+    ("javax.persistence.schema-generation-connection", "the same"),
+    ("javax.xml.soap.character-set-encoding",
+     "SOAP with Attachments 1.3, SOAPMessage.CHARACTER_SET_ENCODING; found in the API and in XMLBeans 4.0"),
+    ("javax.xml.soap.write-xml-declaration", "the same, SOAPMessage.WRITE_XML_DECLARATION"),
+]
+
+# Names in which a registry has a service (OpenJPA 2.4).
+REGISTERED = ["aries:services/javax.transaction.TransactionManager", "(objectClass=javax.transaction.TransactionManager)"]
+
+# Types of the APIs for which a file of META-INF/services is looked up, by who looks it up.
+SERVICES = [
+    ("Batch (BatchRuntime)", ["batch.operations.JobOperator"]),
+    ("Contexts and Dependency Injection (CDI, SeContainerInitializer, and the containers)", [
+        "enterprise.inject.se.SeContainerInitializer", "enterprise.inject.spi.CDIProvider",
+        "enterprise.inject.spi.Extension"]),
+    ("Enterprise Beans (EJBContainer)", ["ejb.spi.EJBContainerProvider"]),
+    ("Expression Language (ExpressionFactory)", ["el.ExpressionFactory"]),
+    ("Faces (FactoryFinder)", [
+        "faces.application.ApplicationFactory", "faces.component.search.SearchExpressionContextFactory",
+        "faces.component.visit.VisitContextFactory", "faces.context.ExceptionHandlerFactory",
+        "faces.context.ExternalContextFactory", "faces.context.FacesContextFactory", "faces.context.FlashFactory",
+        "faces.context.PartialViewContextFactory", "faces.flow.FlowHandlerFactory", "faces.lifecycle.ClientWindowFactory",
+        "faces.lifecycle.LifecycleFactory", "faces.render.RenderKitFactory", "faces.view.ViewDeclarationLanguageFactory",
+        "faces.view.facelets.FaceletCacheFactory", "faces.view.facelets.TagHandlerDelegateFactory"]),
+    ("JSON Binding (JsonbProvider) and Processing (JsonProvider)", ["json.bind.spi.JsonbProvider", "json.spi.JsonProvider"]),
+    ("Mail (Session)", ["mail.Provider"]),
+    ("Persistence (PersistenceProviderResolverHolder)", ["persistence.spi.PersistenceProvider"]),
+    ("Servlet (the containers)", ["servlet.ServletContainerInitializer"]),
+    ("Bean Validation (Validation, and the implementations)", [
+        "validation.ConstraintValidator", "validation.spi.ValidationProvider", "validation.valueextraction.ValueExtractor"]),
+    ("WebSocket (ContainerProvider, ServerEndpointConfig)", [
+        "websocket.ContainerProvider", "websocket.server.ServerEndpointConfig$Configurator",
+        "websocket.server.ServerEndpointConfig.Configurator"]),
+    ("RESTful Web Services (RuntimeDelegate, ClientBuilder, SseEventSource, and the implementations)", [
+        "ws.rs.client.ClientBuilder", "ws.rs.container.DynamicFeature", "ws.rs.core.Feature", "ws.rs.ext.Providers",
+        "ws.rs.ext.RuntimeDelegate", "ws.rs.sse.SseEventSource.Builder"]),
+    ("XML Binding (JAXBContext)", ["xml.bind.JAXBContext", "xml.bind.JAXBContextFactory"]),
+    ("SOAP with Attachments (FactoryFinder)", [
+        "xml.soap.MessageFactory", "xml.soap.MetaFactory", "xml.soap.SAAJMetaFactory", "xml.soap.SOAPConnectionFactory",
+        "xml.soap.SOAPFactory"]),
+    ("XML Web Services (Provider)", ["xml.ws.spi.Provider"]),
+]
+
+# The constraints whose annotations name a message.
 CONSTRAINTS = [
     "AssertFalse", "AssertTrue", "DecimalMax", "DecimalMin", "Digits", "Email", "Future", "FutureOrPresent", "Max", "Min",
     "Negative", "NegativeOrZero", "NotBlank", "NotEmpty", "NotNull", "Null", "Past", "PastOrPresent", "Pattern", "Positive",
@@ -184,7 +284,8 @@ KINDS = [
 # Files whose packages alone change: patterns and their origin.
 PAGES = [
     (["*.jsp", "*.jspx", "*.jspf", "*.tag", "*.tagx", "*.xhtml"], "pages; measured"),
-    (["*.ftl", "*.vm"], "pages; known, not measured"),
+    (["*.tagf", "*.ftl", "*.vm"], "pages; known, not measured"),
+    (["*.js"], "scripts of pages, which name parameters of Faces (javax.faces.ViewState); known, not measured"),
     (["*.properties", "*.factories", "*.json", "*.yml"], "settings; measured"),
     (["*.yaml", "*.bnd"], "settings; known, not measured"),
     (["*.java", "*.groovy"], "sources; measured"),
@@ -194,6 +295,9 @@ PAGES = [
 
 # Kinds of descriptors that weren't among the files that were measured.
 KNOWN = ("facelets", "jaxb")
+
+# How many bytes a rule file may have.
+MOST = 1048576
 
 # What may stand behind the name of a package in a text.
 BEHIND = (".", ",", ";", '"', "'", "<")
@@ -214,84 +318,171 @@ def line(old, new):
     return f"{key(old)}={value(new)}"
 
 
-def moved(annotations):
+def moved(ready):
     """The packages with a rename of their own, each with what it is."""
     rows = [(name, f"{spec} (EE 9)") for name, spec, _, _, _ in MOVED if name not in WITHIN]
-    if annotations:
+    if ready.annotations:
         rows = [row for row in rows if not row[0].startswith("annotation.")]
-        rows.append(("annotation", "Annotations, JSR 250 (EE 9); renames JSR 305 too, which didn't move: see docs/RULES.md"))
+        rows.append(("annotation", "Annotations, JSR 250 (EE 9), and with them JSR 305: see docs/RULES.md"))
     return sorted(rows)
 
 
-def stays(annotations):
-    return [row[:3] for row in STAY if annotations or not row[3]]
+def stays(ready):
+    return [row[:3] for row in STAY if ready.annotations or not row[3]]
 
 
-def renames(annotations):
-    lines = ["# Java EE 8 to Jakarta EE 9.1: each package that moved, with all packages below it."]
-    for name, what in moved(annotations):
+def renames(ready):
+    lines = [f"# Java EE 8 to Jakarta EE {ready.edition}: each package that moved, with all packages below it."]
+    for name, what in moved(ready):
         lines += [f"# {what}; measured, peer", f"javax.{name}.*=jakarta.{name}"]
     lines += ["", "# Exceptions: packages below these that stay."]
-    for name, below, why in stays(annotations):
+    for name, below, why in stays(ready):
         lines += [f"# {why}", f"javax.{name}{below}=javax.{name}"]
     return lines
 
 
-def versions(annotations):
-    lines = ["# Versions of the packages of Jakarta EE 9.1 for OSGi: a range for Import-Package, a version for Export-Package."]
-    rows = list(MOVED)
-    if annotations:
-        rows.append(("annotation", "Annotations", "2.0", "3", [""]))
+def versions(ready):
+    lines = [f"# Versions of the packages of Jakarta EE {ready.edition} for OSGi: a range for Import-Package, a version for "
+             "Export-Package."]
+    rows = MOVED + [ANNOTATIONS] if ready.annotations else MOVED
     for name, spec, version, end, below in sorted(rows, key=lambda row: row[0]):
+        if ready.edition == "10":
+            version, end = VERSIONS_10.get(name, (version, end))
         if below:
-            lines.append(f"# {spec} {version} (EE 9)")
+            lines.append(f"# {spec} {version} (EE {ready.edition.split('.')[0]})")
         for part in below:
-            package = f"jakarta.{name}.{part}" if part else f"jakarta.{name}"
-            lines.append(f"{package}=[{version},{end});{version}.0")
+            package = f"{name}.{part}" if part else name
+            if ready.edition != "10" or package not in GONE_10:
+                lines.append(f"jakarta.{package}=[{version},{end});{version}.0")
     return lines
 
 
-def bundles(annotations):
-    lines = ["# Symbolic names of bundles that have another one in Jakarta EE 9.1, and their first version."]
+def bundles(ready):
+    lines = [f"# Symbolic names of bundles that have another one in Jakarta EE {ready.edition}, and their first version."]
     for old, new, version, origin, only in BUNDLES:
-        if annotations or not only:
+        if ready.edition == "10" and old in BUNDLES_10:
+            version, origin = BUNDLES_10[old], origin.split(";")[0] + "; version by EE 10"
+        if ready.annotations or not only:
             lines += [f"# {origin}", f"{old}={new};{version}"]
     return lines
 
 
-def direct():
+def image(package, ready):
+    """What the renames of a set make of a package."""
+    fits = [(len(name), new + package[len(name):]) for name, below, new in pairs(ready)
+            if package == name or below and package.startswith(name + ".")]
+    return max(fits)[1] if fits else package
+
+
+def pairs(ready):
+    """The renames of a set: a package, whether those below it are meant too, and the new package."""
+    rows = [(f"javax.{name}", True, f"jakarta.{name}") for name, _ in moved(ready)]
+    return rows + [(f"javax.{name}", below != "", f"javax.{name}") for name, below, _ in stays(ready)]
+
+
+def new_text(text):
+    """A text that holds one name, with the new name of what moved."""
+    return text.replace("javax", "jakarta", 1)
+
+
+def api_names():
+    """The binary names of the public classes of the APIs, and the paths of the files beside them, by their packages."""
+    found = collections.defaultdict(list)
+    with open(os.path.join(os.path.dirname(os.path.abspath(__file__)), "api_classes.txt"), encoding="utf-8") as file:
+        for name in file.read().split("\n"):
+            if name and not name.startswith("#"):
+                package = os.path.dirname(name).replace("/", ".") if "/" in name else name.rpartition(".")[0]
+                found[package].append(name)
+    return found
+
+
+def package_forms(package):
+    """The ways in which code writes a package, or the front of the names in it."""
+    path = package.replace(".", "/")
+    return [path, f"{path}/", f"/{path}/", f"L{path}", f"L{path}/", package + ".", package + ".*", package + ".\x01"]
+
+
+def name_forms(name):
+    """The ways in which code writes a class, but for the dotted name, which a rename changes, or a file. Nobody has arrays of
+    exceptions, or looks up the class file of an exception or of a class within another."""
+    if "/" in name:
+        return [name, "/" + name]
+    path = name.replace(".", "/")
+    written = [path, f"L{path};"]
+    if not name.endswith(("Exception", "Error")):
+        written += [f"[L{path};", f"[L{name};"]
+        if "$" not in name:
+            written += [path + ".class", f"/{path}.class"]
+    return written
+
+
+def forms(ready):
+    """Direct rules for each form of each package and each class of the APIs that the set renames."""
+    classes = api_names()
+    packages = {old for old, _, new in pairs(ready) if old != new}
+    packages |= {it for it in classes if image(it, ready) != it}
+    lines = ["# Packages of the APIs, as paths, as fronts of descriptors and of names, and in imports of generated code."]
+    for package in sorted(packages):
+        lines += [line(old, new_text(old)) for old in package_forms(package)]
+    lines.append("# Classes of the APIs (tools/api_classes.txt), as paths, files, descriptors and arrays, by their packages.")
+    for package in sorted(classes):
+        if image(package, ready) != package:
+            lines.append(f"# {package}")
+            lines += [line(old, new_text(old)) for name in classes[package] for old in name_forms(name)]
+    return lines
+
+
+def tags():
+    """The old and the new URI of each library of the Standard Tag Library."""
+    return [(old + name, f"jakarta.tags.{name}") for old in OLD_TAGS for name in TAGS]
+
+
+def direct(ready):
     lines = [
         "# Strings in classes that are no dotted names. A string that names a package or a class follows by the renames.",
-        "# The URIs of the Standard Tag Library aren't here: they stayed in Jakarta EE 9.",
     ]
-    for old, why in DIRECT_FRONTS:
-        lines += [f"# {why}; measured", line(old, old.replace("javax", "jakarta"))]
+    if ready.edition == "10":
+        lines.append("# The URIs of the Standard Tag Library (Standard Tag Library 3.0).")
+        lines += [line(old, new) for old, new in tags()]
+    else:
+        lines.append("# The URIs of the Standard Tag Library aren't here: they stayed in Jakarta EE 9.")
+    for old, why in FRONTS:
+        lines += [f"# {why}; measured", line(old, new_text(old))]
     lines += [
         "# The same fronts as compilers for Java 9 and later write them, where code joins them with one value: U+0001 stands",
         "# for the value (java.lang.invoke.StringConcatFactory).",
     ]
-    for old, _ in DIRECT_FRONTS:
-        if old.endswith(".") or old.startswith("/"):
-            lines.append(line(old + "\x01", old.replace("javax", "jakarta") + "\x01"))
-    lines.append("# Imports of pages that a server compiles (Server Pages); found in Tomcat 9's compiler of pages.")
-    for name in IMPORTED:
-        lines.append(line(f"javax.{name}.*", f"jakarta.{name}.*"))
+    lines += [line(old + "\x01", new_text(old) + "\x01") for old, _ in FRONTS]
+    lines.append("# Keys that are no dotted names. The other APIs have none: Faces, Contexts and Dependency Injection, Enterprise Beans, XML")
+    lines.append("# Web Services, Servlet and WebSocket name theirs with dots alone, and Mail's begin with `mail.`.")
+    for old, why in KEYS:
+        lines += [f"# {why}", line(old, new_text(old))]
     lines.append("# Keys of messages in the annotations of constraints (Bean Validation 2.0); found in the API of 1.1.")
     for name in CONSTRAINTS:
         key_of = f"{{javax.validation.constraints.{name}.message}}"
-        lines.append(line(key_of, key_of.replace("javax", "jakarta")))
-    return lines
+        lines.append(line(key_of, new_text(key_of)))
+    lines.append("# Names by which registries of OSGi have a service; measured (OpenJPA 2.4)")
+    lines += [line(old, new_text(old)) for old in REGISTERED]
+    lines.append("# Names of service files, by who looks them up (the type's name is the file's).")
+    for who, types in SERVICES:
+        lines.append(f"# {who}")
+        for front in ("META-INF/services/javax.", "/META-INF/services/javax."):
+            lines += [line(front + name, new_text(front) + name) for name in types]
+    return lines + forms(ready)
 
 
-def packages(annotations):
+def packages(ready):
     """Text rules for names of packages."""
     lines = ["# Names of packages that stay, whole, so that no shorter name below renames them."]
-    for name, _, why in stays(annotations):
+    for name, _, why in stays(ready):
         lines += [f"# {why}", line(f"javax.{name}", f"javax.{name}")]
     lines += ["", "# Names of packages that moved (EE 9, measured), by what stands behind them."]
-    for name, _ in moved(annotations):
+    for name, _ in moved(ready):
         for behind in BEHIND:
             lines.append(line(f"javax.{name}{behind}", f"jakarta.{name}{behind}"))
+    if ready.edition == "10":
+        lines += ["", "# The URIs of the Standard Tag Library (Standard Tag Library 3.0), by what stands behind them."]
+        lines += [line(old + behind, new + behind) for old, new in tags() for behind in ('"', "'", "<")]
     return lines
 
 
@@ -303,7 +494,7 @@ def quoted_versions(versions):
                 yield f"version{equals}{quote}{version}{quote}"
 
 
-def kind(row, annotations):
+def kind(row, ready):
     name, what, _, spaces, schemas, (old_versions, new_version) = row
     origin = "EE 9; known, not measured" if name in KNOWN else "EE 9; measured"
     lines = [f"# Descriptors: {what}. Namespace, schema and version move together ({origin}).", "# The namespace."]
@@ -319,7 +510,7 @@ def kind(row, annotations):
     for text in quoted_versions(old_versions):
         old = text[text.index("n") + 1:].strip(" =")[1:-1]
         lines.append(line(text, text.replace(old, new_version)))
-    return lines + [""] + packages(annotations)
+    return lines + [""] + packages(ready)
 
 
 def texts():
@@ -336,28 +527,45 @@ def texts():
     return lines
 
 
+def selection():
+    """What isn't selected, and is copied as it is."""
+    return [
+        "# What isn't selected, and is copied as it is.",
+        "# The descriptions of Maven: a group that moves beside an artifact that doesn't (jakarta.servlet, javax.servlet-api) is the",
+        "# name of no library. Whoever reads a pom.xml of an archive asks from what it was built.",
+        "META-INF/maven/*=!",
+        "*/META-INF/maven/*=!",
+    ]
+
+
 def write(folder, name, lines):
+    text = "\n".join(lines) + "\n"
+    if len(text.encode("utf-8")) > MOST:
+        sys.exit(f"{folder}/{name} would have {len(text)} bytes, and a rule file has at most {MOST}")
     with open(os.path.join(folder, name), "w", encoding="utf-8") as file:
-        file.write("\n".join(lines) + "\n")
+        file.write(text)
 
 
-def write_set(folder, annotations):
+def write_set(to, ready):
+    folder = os.path.join(to, ready.folder)
     os.makedirs(folder, exist_ok=True)
-    write(folder, "renames.properties", renames(annotations))
-    write(folder, "versions.properties", versions(annotations))
-    write(folder, "bundles.properties", bundles(annotations))
-    write(folder, "direct.properties", direct())
+    write(folder, "renames.properties", renames(ready))
+    write(folder, "versions.properties", versions(ready))
+    write(folder, "bundles.properties", bundles(ready))
+    write(folder, "direct.properties", direct(ready))
+    write(folder, "selection.properties", selection())
     write(folder, "text.properties", texts())
-    write(folder, "text-packages.properties", ["# Pages, settings, sources and other descriptors."] + packages(annotations))
+    write(folder, "text-packages.properties", ["# Pages, settings, sources and other descriptors."] + packages(ready))
     for row in KINDS:
-        write(folder, f"text-{row[0]}.properties", kind(row, annotations))
+        write(folder, f"text-{row[0]}.properties", kind(row, ready))
 
 
 def main():
     top = os.path.join(os.path.dirname(os.path.abspath(__file__)), "..", "rules")
     to = sys.argv[1] if len(sys.argv) > 1 else top
-    write_set(os.path.join(to, "jakarta-ee-9"), False)
-    write_set(os.path.join(to, "jakarta-ee-9-annotations"), True)
+    for ready in SETS:
+        write_set(to, ready)
 
 
-main()
+if __name__ == "__main__":
+    main()

@@ -5,7 +5,7 @@ ghost use Rattle.std.specs.List.{list_all};
 ghost use Rattle.desk_base.specs.Paths.{is_full_path};
 
 use crate::ledgers::Ledger;
-use crate::places::{Change, Places};
+use crate::places::{Change, ChangingFolders};
 use crate::scene::Scene;
 use crate::words::{number_of, numbers_of, text_of};
 use crate::written::{class_of, say};
@@ -191,14 +191,17 @@ impl Beginning {
     }
 
     /// The folders; none where a path is no full path.
-    pub fn folders<'r>(&self, rt: &'r HostRuntime) -> Result<Option<Box<Places<'r>>>, Memory> {
+    pub fn folders<'r>(
+        &self,
+        rt: &'r HostRuntime,
+    ) -> Result<Option<Box<ChangingFolders<'r>>>, Memory> {
         if self.on_disk {
-            return Ok(Some(Places::on_disk(rt)?));
+            return Ok(Some(ChangingFolders::on_disk(rt)?));
         }
         match self.in_memory()? {
             Some(files) => {
                 let change = self.change.clone()?;
-                Ok(Some(Places::in_memory(self.alloc, files, change)?))
+                Ok(Some(ChangingFolders::in_memory(self.alloc, files, change)?))
             }
             None => Ok(None),
         }

@@ -27,12 +27,17 @@ pub fn usual_words(alloc: Global, more: &[Text]) -> Result<Vec<Text>, Memory> {
 /// What the folders and the ledger of a case begin with, what its runs go over, and what was kept to be compared.
 #[derive(Drop)]
 pub struct Case<'r, R> {
+    /// What gives the disk and the streams.
     pub rt: &'r HostRuntime,
     /// What makes the threads of the workers.
     pub threads: &'r R,
+    /// What allocates all that the case holds.
     pub alloc: Global,
+    /// What the next run begins with.
     pub beginning: Beginning,
+    /// What the runs went over; none before the first.
     pub now: Option<Box<Scene<'r>>>,
+    /// What a run left, as it was kept to be compared; none before that.
     pub kept: Option<Box<Kept>>,
 }
 

@@ -12,6 +12,7 @@ pub struct Kept {
     /// All files, the ledger's header, and the rows of the targets.
     left: String,
     targets: Vec<Text>,
+    /// What the run wrote as its report.
     pub report: String,
 }
 

@@ -12,7 +12,7 @@ const MOST_FILES: u32 = 10_000;
 
 /// Where the files stand.
 #[derive(Drop)]
-enum Place<'r> {
+enum AnyFolders<'r> {
     /// In memory.
     Memory(Box<MemoryFolders>),
     /// On the disk, in the folder that the program runs in.
@@ -63,22 +63,22 @@ fn part_of(alloc: Global, bytes: &[u8], at: u64, want: u32) -> Result<Text, Memo
 
 /// Folders that tell nothing of their contents. They count each call, any of which may be a fault.
 #[derive(Drop)]
-pub struct Places<'r> {
+pub struct ChangingFolders<'r> {
     alloc: Global,
-    place: Place<'r>,
+    place: AnyFolders<'r>,
     change: Option<Box<Change>>,
     calls: u64,
 }
 
-impl<'r> Places<'r> {
+impl<'r> ChangingFolders<'r> {
     /// Folders in memory, of which a file may change.
     pub fn in_memory(
         alloc: Global,
         files: Box<MemoryFolders>,
         change: Option<Box<Change>>,
-    ) -> Result<Box<Places<'r>>, Memory> {
-        let place = Place::Memory(files);
-        let places = Places {
+    ) -> Result<Box<ChangingFolders<'r>>, Memory> {
+        let place = AnyFolders::Memory(files);
+        let places = ChangingFolders {
             alloc,
             place,
             change,
@@ -88,12 +88,12 @@ impl<'r> Places<'r> {
     }
 
     /// The folders of the disk.
-    pub fn on_disk(rt: &'r HostRuntime) -> Result<Box<Places<'r>>, Memory> {
+    pub fn on_disk(rt: &'r HostRuntime) -> Result<Box<ChangingFolders<'r>>, Memory> {
         let alloc = rt.alloc();
         let disk = Box::new(alloc, DiskFolders::new(rt))?;
-        let places = Places {
+        let places = ChangingFolders {
             alloc,
-            place: Place::Disk(disk),
+            place: AnyFolders::Disk(disk),
             change: None,
             calls: 0,
         };
@@ -103,8 +103,8 @@ impl<'r> Places<'r> {
     /// What stands at a path in memory, whatever a second reading of it gives.
     pub fn content(&self, path: &[u8]) -> Option<&[u8]> {
         match &self.place {
-            Place::Memory(files) => files.content(path),
-            Place::Disk(_) => None,
+            AnyFolders::Memory(files) => files.content(path),
+            AnyFolders::Disk(_) => None,
         }
     }
 
@@ -113,31 +113,31 @@ impl<'r> Places<'r> {
         let root = Text::from_bytes(self.alloc, b".")?;
         let none = TextList::empty(self.alloc);
         match &mut self.place {
-            Place::Memory(files) => match files.list(&root, MOST_FILES) {
+            AnyFolders::Memory(files) => match files.list(&root, MOST_FILES) {
                 Ok(paths) => Ok(paths),
                 Err(FolderFault::Failed) => Ok(none),
                 Err(FolderFault::Memory) => Err(Memory),
             },
-            Place::Disk(_) => Ok(none),
+            AnyFolders::Disk(_) => Ok(none),
         }
     }
 
     /// Makes the call of this number and each later one fail.
     pub fn stop_at(&mut self, call: u64) {
-        if let Place::Memory(files) = &mut self.place {
+        if let AnyFolders::Memory(files) = &mut self.place {
             files.stop_at(call);
         }
     }
 
     /// Lets no call fail from now on.
     pub fn mend(&mut self) {
-        if let Place::Memory(files) = &mut self.place {
+        if let AnyFolders::Memory(files) = &mut self.place {
             files.mend();
         }
     }
 }
 
-impl Folders for Places<'_> {
+impl Folders for ChangingFolders<'_> {
     ghost use Rattle.std.specs.Prelude.{None};
 
     ghost told = { λ _. None };
@@ -147,8 +147,8 @@ impl Folders for Places<'_> {
     fn list(&mut self, root: &Text, most: u32) -> Result<TextList, FolderFault> {
         self.calls = self.calls.saturating_add(1);
         match &mut self.place {
-            Place::Memory(files) => files.list(root, most),
-            Place::Disk(disk) => disk.list(root, most),
+            AnyFolders::Memory(files) => files.list(root, most),
+            AnyFolders::Disk(disk) => disk.list(root, most),
         }
     }
 
@@ -160,38 +160,38 @@ impl Folders for Places<'_> {
             }
         }
         match &mut self.place {
-            Place::Memory(files) => match files.content(path.as_bytes()) {
+            AnyFolders::Memory(files) => match files.content(path.as_bytes()) {
                 Some(_) => files.read_part(path, at, want),
                 None => Ok(Text::empty(self.alloc)),
             },
-            Place::Disk(disk) => disk.read_part(path, at, want),
+            AnyFolders::Disk(disk) => disk.read_part(path, at, want),
         }
     }
 
     fn size(&mut self, path: &Text) -> Result<Option<u64>, FolderFault> {
         self.calls = self.calls.saturating_add(1);
         match &mut self.place {
-            Place::Memory(files) => files.size(path),
-            Place::Disk(disk) => disk.size(path),
+            AnyFolders::Memory(files) => files.size(path),
+            AnyFolders::Disk(disk) => disk.size(path),
         }
     }
 
     fn create(&mut self, path: &Text) -> Result<(), FolderFault> {
         self.calls = self.calls.saturating_add(1);
         match &mut self.place {
-            Place::Memory(files) => files.create(path),
-            Place::Disk(disk) => disk.create(path),
+            AnyFolders::Memory(files) => files.create(path),
+            AnyFolders::Disk(disk) => disk.create(path),
         }
     }
 
     fn append(&mut self, path: &Text, bytes: &[u8]) -> Result<(), FolderFault> {
         self.calls = self.calls.saturating_add(1);
         match &mut self.place {
-            Place::Memory(files) => match files.content(path.as_bytes()) {
+            AnyFolders::Memory(files) => match files.content(path.as_bytes()) {
                 Some(_) => files.append(path, bytes),
                 None => Ok(()),
             },
-            Place::Disk(disk) => disk.append(path, bytes),
+            AnyFolders::Disk(disk) => disk.append(path, bytes),
         }
     }
 }

@@ -2,7 +2,7 @@
 
 use crate::gates::Pairs;
 use crate::ledgers::Ledger;
-use crate::places::Places;
+use crate::places::ChangingFolders;
 use desk_base::{Memory, Text};
 use desk_report::MemorySink;
 use desk_run::desk;
@@ -16,8 +16,11 @@ pub const RESULTS: &[u8] = b"out/";
 /// Folders and a ledger that runs go over, and how the last run ended.
 #[derive(Drop)]
 pub struct Scene<'r> {
+    /// What allocates all that the scene holds.
     pub alloc: Global,
-    pub folders: Box<Places<'r>>,
+    /// The folders, in memory or on the disk.
+    pub folders: Box<ChangingFolders<'r>>,
+    /// The ledger, in memory or in a file.
     pub ledger: Box<Ledger>,
     sink: Box<MemorySink>,
     /// The exit status.
@@ -36,7 +39,7 @@ impl<'r> Scene<'r> {
     /// These folders and this ledger before their first run.
     pub fn new(
         alloc: Global,
-        folders: Box<Places<'r>>,
+        folders: Box<ChangingFolders<'r>>,
         ledger: Box<Ledger>,
     ) -> Result<Box<Scene<'r>>, Memory> {
         let sink = sink_of(alloc, 0)?;

@@ -18,6 +18,12 @@ public class Hello extends HttpServlet {
     static final String FOUND = "Ljavax/servlet/annotation/WebServlet;";
     static final String STAY = "javax.transaction.xa.XAResource";
     static final String PROSE = "no javax.servlet here";
+    static final String ARRAY = "[Ljavax.servlet.Filter;";
+    static final String FILE = "javax/servlet/http/HttpServlet.class";
+    static final String SERVICE = "META-INF/services/javax.persistence.spi.PersistenceProvider";
+    static final String KEY = "javax.persistence.schema-generation.database.action";
+    static final String STAYS_AS_PATH = "javax/transaction/xa/XAResource";
+    static final String TAGS = "http://java.sun.com/jsp/jstl/core";
     DataSource data;
     XAResource resource;
 

@@ -1,0 +1,2 @@
+<%@ page import="jakarta.servlet.http.Cookie,jakarta.el.*" %>
+<%@ taglib prefix="c" uri="jakarta.tags.core" %>
