@@ -3,8 +3,8 @@
 # prints of each class before and after: nothing but renamed texts may differ. Skipped where no JDK is.
 set -u
 cd "$(dirname "$0")/.."
-command -v javac >/dev/null && command -v javap >/dev/null || { echo "skipped: no JDK is here"; exit 0; }
 . tests/common.sh
+needs javac javap
 source=$PWD/examples/first/source
 rules=$PWD/examples/first/rules
 cd "$place" || exit 1
@@ -57,5 +57,4 @@ diff -r out again >differences 2>&1
 : >nothing
 same "a second migration" nothing differences
 
-echo "$passed passed, $failed failed"
-[ "$failed" = 0 ]
+ended

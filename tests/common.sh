@@ -1,10 +1,33 @@
-# Sourced by the test scripts from the project's folder: the program, a temporary folder "$place" that goes when the script
-# ends, and a comparison that counts.
+# Sourced by the test scripts from the project's folder, before anything else: the program, a temporary folder "$place" that goes when
+# the script ends, comparisons that count, and the last line, which is `N passed, N failed, N skipped` for each script.
+passed=0 failed=0 skipped=0
+
+# ended: prints the last line; its status is 0 where nothing failed
+ended() {
+  echo "$passed passed, $failed failed, $skipped skipped"
+  [ "$failed" = 0 ]
+}
+
+# lacks TEXT: ends the script as skipped, with what is missing
+lacks() {
+  echo "skipped: $1"
+  skipped=1
+  ended
+  exit 0
+}
+
+# needs COMMAND..: ends the script as skipped where one of them isn't installed
+needs() {
+  local word
+  for word in "$@"; do
+    command -v "$word" >/dev/null || lacks "no $word is here"
+  done
+}
+
 program=$PWD/crates/migrate/out/migrate
 [ -x "$program" ] || { echo "build the program first: examples/first/run.sh" >&2; exit 1; }
 place=$(mktemp -d)
 trap 'rm -rf "$place"' EXIT
-passed=0 failed=0
 
 # same NAME WANTED GOT: the two files are equal
 same() {

@@ -23,9 +23,12 @@ wrong() {
 }
 
 wrong 'no words' 'no words are given'
-wrong 'help' '`--help` is no task' --help
+wrong 'help' 'migrate run --rules R --from A --to B --ledger L [--workers N] [--verify]' --help
+wrong 'help as a word' 'docs/REFERENCE.md' help
+wrong 'help behind a task' 'migrate generate --count N' run -h
+wrong 'the version' 'version 1.0' --version
 wrong 'another task' '`migrate` is no task' migrate
-wrong 'an option that is none' "unexpected argument '--form'" run --rules r --form a --to b --ledger l
+wrong 'an option that is none' '`--form` is no option of `run`: is `--from` meant?' run --rules r --form a --to b --ledger l
 wrong 'an option twice' "the argument '--from" run --rules r --from a --from b --to b --ledger l
 wrong 'a lacking option' '--ledger' run --rules r --from a --to b
 wrong 'a lacking value' '`--ledger` has no value' run --rules r --from a --to b --ledger
@@ -40,7 +43,9 @@ wrong 'a long count' '`20001` is no count' generate --count 20001
 wrong 'a value of an option without one' "unexpected value 'yes' for '--verify'" run --rules r --from a --to b --ledger l --verify=yes
 wrong 'a word behind an option without a value' '`yes` stands where an option is wanted' run --rules r --from a --to b --ledger l --verify yes
 wrong 'an option without a value twice' "the argument '--verify' cannot be used multiple times" run --rules r --from a --to b --ledger l --verify --verify
-wrong 'an option of run behind generate' "unexpected argument '--verify'" generate --count 1 --verify
+wrong 'an option of run behind generate' '`--verify` is no option of `generate`: it has --count --workers' generate --count 1 --verify
+wrong 'two letters exchanged' '`--legder` is no option of `run`: is `--ledger` meant?' run --legder l
+wrong 'an option of other tools' '`--dry-run` is no option of `run`: it has --rules' run --rules r --from a --to b --ledger l --dry-run
 wrong 'a word of bytes' "isn't in UTF-8" run --rules $'\xff' --from a --to b --ledger l
 
 # ---- an application
@@ -407,5 +412,4 @@ ends 'standard error that takes nothing' 0 'kept WEB-INF/web.xml WEB-INF/web.xml
 kept readme.txt readme.txt
 total files=2 written=0 kept=2 refused=0 renamed=0 added=0'
 
-echo "passed: $passed, failed: $failed"
-[ "$failed" = 0 ]
+ended

@@ -257,7 +257,9 @@ def main():
         if shutil.which("strace"):
             seen.append(tried("growths in the system", in_the_system, starts))
         os.chdir("/")
-    sys.exit(1 if any(counts.is_bad() for counts in seen) else 0)
+    failed = sum(counts.is_bad() for counts in seen)
+    print(f"{len(seen) - failed} passed, {failed} failed, {3 - len(seen)} skipped")
+    sys.exit(1 if failed else 0)
 
 
 if __name__ == "__main__":

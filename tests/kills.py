@@ -184,7 +184,9 @@ def main():
         seen = [at_each_call()] if shutil.which("strace") else []
         seen.append(at_random(kills))
         os.chdir("/")
-    sys.exit(1 if any(counts.is_bad() for counts in seen) else 0)
+    failed = sum(counts.is_bad() for counts in seen)
+    print(f"{len(seen) - failed} passed, {failed} failed, {2 - len(seen)} skipped")
+    sys.exit(1 if failed else 0)
 
 
 if __name__ == "__main__":

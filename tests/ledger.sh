@@ -5,7 +5,7 @@
 set -u
 cd "$(dirname "$0")/.."
 . tests/common.sh
-command -v sqlite3 >/dev/null || { echo "skipped: sqlite3 isn't installed"; exit 0; }
+needs sqlite3
 trap 'chmod -R u+w "$place"; rm -rf "$place"' EXIT
 cd "$place" || exit 1
 
@@ -165,5 +165,4 @@ status 12' "$("$program" run --rules rules --from many --to last --ledger small/
   check 'without a row' 'total files=900 written=900 kept=0 refused=0 renamed=0 added=0' "$(tail -1 got)"
 fi
 
-echo "passed: $passed, failed: $failed"
-[ "$failed" = 0 ]
+ended

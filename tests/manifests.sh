@@ -4,9 +4,9 @@
 # but renamed packages may differ. Skipped where no JDK or no jar is.
 set -u
 cd "$(dirname "$0")/.."
-command -v javac >/dev/null || { echo "skipped: no JDK is here"; exit 0; }
-[ -d /usr/share/java ] || { echo "skipped: no jars are here"; exit 0; }
 . tests/common.sh
+needs javac
+[ -d /usr/share/java ] || lacks "no jars are here"
 reader=$PWD/tests/ReadManifests.java
 bnd=$(ls /usr/share/java/bndlib.jar /usr/share/java/bnd-libg.jar /usr/share/java/bnd-annotation.jar /usr/share/java/slf4j-api.jar /usr/share/java/osgi.core.jar /usr/share/java/osgi.annotation.jar 2>/dev/null | paste -sd:)
 cd "$place" || exit 1
@@ -84,5 +84,5 @@ same "lines of more than 72 bytes" wanted got
 diff -r out again >got 2>&1
 same "a second migration" wanted got
 
-echo "$passed passed, $failed failed, $count manifests, $(grep -c 'manifest changed=[1-9]' report) of them changed"
-[ "$failed" = 0 ]
+echo "$count manifests, $(grep -c 'manifest changed=[1-9]' report) of them changed"
+ended

@@ -143,6 +143,4 @@ ends "a source without files" 0 'total files=0 written=0 kept=0 refused=0 rename
 
 ends "a count of 0" 20 "$usage" generate --count 0
 
-echo "$passed passed, $failed failed"
-[ "$failed" = 0 ]
-
+ended

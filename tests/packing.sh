@@ -3,10 +3,8 @@
 # folders, stored entries, a signed archive, and a file that is named like an archive. The expected lines are written by hand.
 set -u
 cd "$(dirname "$0")/.."
-for word in python3 unzip; do
-  command -v "$word" >/dev/null || { echo "skipped: no $word is here"; exit 0; }
-done
 . tests/common.sh
+needs python3 unzip
 tools=$PWD/tools
 cd "$place" || exit 1
 
@@ -56,7 +54,7 @@ PY
 mkdir rules
 printf 'javax.servlet.*=jakarta.servlet\n' >rules/renames.properties
 
-"$tools/unpack.sh" app.ear app 2>got
+"$tools/unpack.py" app.ear app 2>got
 cat app/run.sh >>got
 cat >wanted <<'END'
 stands twice, and the last is taken: run.sh
@@ -94,7 +92,7 @@ END
 same "the folders" wanted got
 
 "$program" run --rules rules --from app --to new --ledger ledger >report
-"$tools/modes.sh" app new report
+"$tools/modes.py" app new report
 (cd new && find . -type f -printf '%m %TY-%Tm-%Td %p\n' | LC_ALL=C sort -k3 | grep -E 'run.sh|caf') >got
 printf '644 2020-02-03 ./jakarta/servlet/café.txt\n755 2020-02-03 ./run.sh\n' >wanted
 same "modes and times" wanted got
@@ -112,7 +110,7 @@ for it in zipfile.ZipFile(sys.argv[1]).infolist():
 PY
 }
 
-"$tools/pack.sh" new new.ear app.entries report
+"$tools/pack.py" new new.ear app.entries report
 listed new.ear >got
 cat >wanted <<'END'
 deflated 2020-02-03 644 META-INF/MANIFEST.MF
@@ -142,7 +140,7 @@ END
 same "the entries of an archive in an archive in it" wanted got
 
 find new -exec touch {} +
-"$tools/pack.sh" new again.ear app.entries report
+"$tools/pack.py" new again.ear app.entries report
 cmp new.ear again.ear >got 2>&1
 : >wanted
 same "the same bytes each time" wanted got
@@ -150,10 +148,9 @@ same "the same bytes each time" wanted got
 # ---- an entry that would lie outside the folder
 
 python3 -c 'import zipfile; zipfile.ZipFile("bad.jar", "w").writestr("../out.txt", "x")'
-"$tools/unpack.sh" bad.jar bad >got 2>&1
+"$tools/unpack.py" bad.jar bad >got 2>&1
 echo "status $?" >>got
-printf 'unpack.sh: ../out.txt would lie outside the folder\nstatus 1\n' >wanted
+printf 'unpack.py: ../out.txt would lie outside the folder\nstatus 1\n' >wanted
 same "an entry outside the folder" wanted got
 
-echo "$passed passed, $failed failed"
-[ "$failed" = 0 ]
+ended

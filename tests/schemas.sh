@@ -4,14 +4,12 @@
 # namespace that moved without its version must be found invalid. Skipped with a line where a package is missing.
 set -u
 cd "$(dirname "$0")/.."
-for word in java javac unzip python3; do
-  command -v "$word" >/dev/null || { echo "skipped: no $word is here"; exit 0; }
-done
+. tests/common.sh
+needs java javac unzip python3
 java=/usr/share/java
 for jar in tomcat9-servlet-api tomcat10-servlet-api taglibs-standard-impl; do
-  [ -f "$java/$jar.jar" ] || { echo "skipped: $java/$jar.jar isn't here"; exit 0; }
+  [ -f "$java/$jar.jar" ] || lacks "$java/$jar.jar isn't here"
 done
-. tests/common.sh
 program_of_schemas=$PWD/tests/Schemas.java
 examples/war/run.sh "$place/war" >"$place/built" || { cat "$place/built" >&2; exit 1; }
 cd "$place" || exit 1
@@ -36,5 +34,4 @@ checked torn 2>/dev/null >got
 printf 'valid 0 invalid 1\n' >wanted
 same "a descriptor of the old version in the new namespace" wanted got
 
-echo "$passed passed, $failed failed"
-[ "$failed" = 0 ]
+ended

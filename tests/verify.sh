@@ -4,7 +4,7 @@
 set -u
 cd "$(dirname "$0")/.."
 . tests/common.sh
-command -v sqlite3 >/dev/null || { echo "skipped: sqlite3 isn't installed"; exit 0; }
+needs sqlite3
 trap 'chmod -R u+w "$place"; rm -rf "$place"' EXIT
 cd "$place" || exit 1
 
@@ -123,5 +123,4 @@ for words in '--verify=1' '--verify=' '--verify --verify'; do
   check "$words" 'status 20' "$(run $words | tail -1)"
 done
 
-echo "passed: $passed, failed: $failed"
-[ "$failed" = 0 ]
+ended

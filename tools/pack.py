@@ -1,16 +1,13 @@
-#!/usr/bin/env bash
-# Packs a folder as an archive, and each folder in it named *.jar, *.war, *.ear or *.rar as an archive in it, to any depth:
-#
-#     tools/pack.sh FOLDER ARCHIVE [ENTRIES [REPORT]]
-#
-# ENTRIES is the record that tools/unpack.sh wrote: an entry that was stored stays stored, each has its time and its mode, and
-# empty folders come back. REPORT is the report of the migration, by which an entry's new path is found. An entry that the
-# record doesn't name is deflated, of 1 January 1980 and mode 644. META-INF/MANIFEST.MF comes first, all others in the byte
-# order of their paths. So the same folder and record give the same bytes each time, whatever the files' own times are.
-set -u
-command -v python3 >/dev/null || { echo "pack.sh needs python3" >&2; exit 1; }
-[ $# -ge 2 ] && [ $# -le 4 ] || { echo "usage: pack.sh FOLDER ARCHIVE [ENTRIES [REPORT]]" >&2; exit 1; }
-exec python3 - "$@" <<'PY'
+#!/usr/bin/env python3
+"""Packs a folder as an archive, and each folder in it named *.jar, *.war, *.ear or *.rar as an archive in it, to any depth:
+
+    tools/pack.py FOLDER ARCHIVE [ENTRIES [REPORT]]
+
+ENTRIES is the record that tools/unpack.py wrote: an entry that was stored stays stored, each has its time and its mode, and
+empty folders come back. REPORT is the report of the migration, by which an entry's new path is found. An entry that the
+record doesn't name is deflated, of 1 January 1980 and mode 644. META-INF/MANIFEST.MF comes first, all others in the byte
+order of their paths. So the same folder and record give the same bytes each time, whatever the files' own times are.
+"""
 import io
 import os
 import re
@@ -133,8 +130,9 @@ def main():
         with open(to, "wb") as file:
             file.write(content)
     except (OSError, ValueError) as error:
-        sys.exit(f"pack.sh: {error}")
+        sys.exit(f"pack.py: {error}")
 
 
+if len(sys.argv) not in (3, 4, 5):
+    sys.exit("usage: pack.py FOLDER ARCHIVE [ENTRIES [REPORT]]")
 main()
-PY

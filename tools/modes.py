@@ -1,11 +1,8 @@
-#!/usr/bin/env bash
-# Gives each target of a migration the mode and the time of its source, by the report: the program copies bytes alone.
-#
-#     tools/modes.sh FROM TO REPORT
-set -u
-command -v python3 >/dev/null || { echo "modes.sh needs python3" >&2; exit 1; }
-[ $# = 3 ] || { echo "usage: modes.sh FROM TO REPORT" >&2; exit 1; }
-exec python3 - "$@" <<'PY'
+#!/usr/bin/env python3
+"""Gives each target of a migration the mode and the time of its source, by the report: the program copies bytes alone.
+
+    tools/modes.py FROM TO REPORT
+"""
 import os
 import re
 import sys
@@ -27,8 +24,9 @@ def main():
             os.utime(new, ns=(old.st_atime_ns, old.st_mtime_ns))
 
 
+if len(sys.argv) != 4:
+    sys.exit("usage: modes.py FROM TO REPORT")
 try:
     main()
 except (OSError, IndexError, ValueError) as error:
-    sys.exit(f"modes.sh: {error}")
-PY
+    sys.exit(f"modes.py: {error}")

@@ -1,18 +1,15 @@
-#!/usr/bin/env bash
-# Unpacks an archive into a folder, and each archive in it into a folder of its own name, to any depth:
-#
-#     tools/unpack.sh ARCHIVE FOLDER
-#
-# FOLDER must not be there. Beside it the record FOLDER.entries is written, which tools/pack.sh reads: for each entry
-# "stored" or "deflated", its time, its mode and its path as the report of a migration shows it. A signed archive is named on
-# standard error, and its signature files (META-INF/*.SF, *.RSA, *.DSA, *.EC, SIG-*) aren't unpacked: no signature survives a
-# change. An entry named *.jar, *.war, *.ear or *.rar that is no archive is named and stays a file. Of two entries of one path,
-# which are named too, the last is taken, as a JVM does. Status 1 where the archive can't be read, or an entry would lie outside
-# the folder.
-set -u
-command -v python3 >/dev/null || { echo "unpack.sh needs python3" >&2; exit 1; }
-[ $# = 2 ] || { echo "usage: unpack.sh ARCHIVE FOLDER" >&2; exit 1; }
-exec python3 - "$@" <<'PY'
+#!/usr/bin/env python3
+"""Unpacks an archive into a folder, and each archive in it into a folder of its own name, to any depth:
+
+    tools/unpack.py ARCHIVE FOLDER
+
+FOLDER must not be there. Beside it the record FOLDER.entries is written, which tools/pack.py reads: for each entry
+"stored" or "deflated", its time, its mode and its path as the report of a migration shows it. A signed archive is named on
+standard error, and its signature files (META-INF/*.SF, *.RSA, *.DSA, *.EC, SIG-*) aren't unpacked: no signature survives a
+change. An entry named *.jar, *.war, *.ear or *.rar that is no archive is named and stays a file. Of two entries of one path,
+which are named too, the last is taken, as a JVM does. Status 1 where the archive can't be read, or an entry would lie outside
+the folder.
+"""
 import calendar
 import io
 import os
@@ -111,16 +108,17 @@ def main():
     source, folder = map(os.fsencode, sys.argv[1:])
     folder = folder.rstrip(b"/")
     if os.path.lexists(folder):
-        sys.exit(f"unpack.sh: {shown(folder)} is there already")
+        sys.exit(f"unpack.py: {shown(folder)} is there already")
     record = []
     try:
         with zipfile.ZipFile(os.fsdecode(source)) as archive:
             unpack(archive, folder, b"", record)
     except (OSError, ValueError, NotImplementedError, RuntimeError, zipfile.BadZipFile) as error:
-        sys.exit(f"unpack.sh: {error}")
+        sys.exit(f"unpack.py: {error}")
     with open(folder + b".entries", "w", encoding="ascii") as file:
         file.write("".join(line + "\n" for line in record))
 
 
+if len(sys.argv) != 3:
+    sys.exit("usage: unpack.py ARCHIVE FOLDER")
 main()
-PY
