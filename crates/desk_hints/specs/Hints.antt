@@ -1,5 +1,5 @@
 -- The hints behind a status.
-use Rattle.std.specs.Prelude.{codes, Bool, true, false, not, Option, Some, None, List, ℕ}
+use Rattle.std.specs.Prelude.{codes, Bool, true, false, not, Option, Some, None, List, ℕ, if◌then◌else◌}
 use Rattle.std.specs.Str.{bytes_eq}
 use Rattle.desk_base.specs.Names.{Text}
 use Rattle.desk_ledger.specs.declared.keeper.Header.{Header}
@@ -20,16 +20,17 @@ use Rattle.desk_hints.specs.declared.hints.Hint.TheVariants as hint
 abbrev pub hint_text : Hint → Text
 hint_text hint.Refusals = codes "migrate: some files were refused, and nothing was written for them\n         the target isn't ready to be used until each line `refused` is dealt with: see the counts by reason\n"
 hint_text hint.Memory = codes "migrate: memory ran out, so the run stopped\n         give it more memory and run again: what was written and noted in the ledger is kept\n"
-hint_text hint.Folders = codes "migrate: a file or folder could not be used as it should, so the run stopped\n         put right what is said above and run again: the run goes on where it stopped\n"
+hint_text hint.Folders = codes "migrate: a file or folder could not be used as it should, so the run stopped\n         put right what is said above and run again: what was done is kept\n"
 hint_text hint.Ledger = codes "migrate: the ledger could not be used, so the run stopped\n         put right what is said above and run again, or name another ledger, which starts anew\n"
 hint_text hint.Output = codes "migrate: standard output took no more, so the report isn't whole; all files are done\n         run again with an output that takes it: the files are kept, and the report is printed\n"
-hint_text hint.Usage = codes "migrate: these words ask for nothing that can be done\n         give the words as in the line of usage; README.md says each\n"
+hint_text hint.Usage = codes "migrate: these words ask for nothing that can be done\n         give the words as in the line of usage; docs/REFERENCE.md says each\n"
 hint_text hint.Nested = codes "migrate: no root may lie where another would be changed: source and target, rules and target, the ledger in any\n         name a target and a ledger that lie in none of the other folders\n"
 hint_text hint.NoRenames = codes "migrate: the rule folder has no `renames.properties`, or it has no key\n         write into it a line for each package, as `javax.servlet.*=jakarta.servlet`\n"
 hint_text hint.NotUtf8 = codes "migrate: a rule file isn't in UTF-8, from the byte on that is told\n         store the file in UTF-8 without a byte order mark\n"
 hint_text hint.Escape = codes "migrate: a rule file has a `\\u` that isn't followed by four hexadecimal digits of a character, at the byte that is told\n         write the character itself, or two backslashes where one is meant\n"
-hint_text hint.BadKey = codes "migrate: a key of a rule file hasn't the form that the file asks for\n         mend that line: a package is identifiers joined by `.`, with `.*` at its end for all below it\n"
-hint_text hint.BadValue = codes "migrate: a value of a rule file hasn't the form that the file asks for\n         mend that line: README.md lists for each file what a value may be\n"
+hint_text hint.BadPackage = codes "migrate: a key of `renames.properties` isn't a package\n         mend that line: a package is identifiers joined by `.`, with `.*` at its end for all below it\n"
+hint_text hint.BadKey = codes "migrate: a key of a rule file hasn't the form that the file asks for\n         mend that line: docs/REFERENCE.md lists for each file what a key may be\n"
+hint_text hint.BadValue = codes "migrate: a value of a rule file hasn't the form that the file asks for\n         mend that line: docs/REFERENCE.md lists for each file what a value may be\n"
 hint_text hint.MissingText = codes "migrate: `text.properties` names a file that the rule folder lacks\n         add the file, or mend its name\n"
 hint_text hint.Chain1 = codes "migrate: rules must not change what another rule gives: the first rename gives a package that the second renames\n         let the first give the last name at once, or remove one of the two\n"
 hint_text hint.Chain2 = codes "migrate: rules must not change what another rule gives: a rename gives a name that a direct rule changes\n         remove one of the two rules, or let both give the same name\n"
@@ -75,11 +76,15 @@ abbrev pub prop_hint : PropFault → Hint
 prop_hint (NotUtf8 at) = hint.NotUtf8
 prop_hint (Escape at) = hint.Escape
 
+-- the hint of a key that hasn't the form that its rule file asks for
+abbrev pub key_hint : Text → Hint
+key_hint file = if bytes_eq file (codes "renames.properties") then hint.BadPackage else hint.BadKey
+
 -- the hint of a fault of rule files
 abbrev pub rule_hint : RuleFault → Hint
 rule_hint rule.NoRenames = hint.NoRenames
 rule_hint (rule.Properties file fault) = prop_hint fault
-rule_hint (rule.BadKey file key) = hint.BadKey
+rule_hint (rule.BadKey file key) = key_hint file
 rule_hint (rule.BadValue file key) = hint.BadValue
 rule_hint (rule.MissingText key name) = hint.MissingText
 rule_hint (rule.Chain kind first second) = chain_hint kind

@@ -1,12 +1,15 @@
 //! The hints behind a status: what stands against the run, and what to do.
 
 ghost use Rattle.std.specs.Prelude.{◌≡◌};
-ghost use Rattle.desk_hints.specs.Hints.{hint_text, hint_of, limit_hint, rule_hint, chain_hint, other_hint};
+ghost use Rattle.desk_hints.specs.Hints.{hint_text, hint_of, limit_hint, rule_hint, key_hint, chain_hint, other_hint};
 ghost use Rattle.desk_hints.specs.declared.hints.Hint.TheVariants as case;
 
 use desk_ledger::Header;
 use desk_report::{LimitKind, Status};
 use desk_rules::{ChainKind, PropFault, RuleFault};
+
+/// The rule file whose keys are packages alone.
+const RENAMES: &[u8] = b"renames.properties";
 
 /// Why a run ended, as far as there is a hint for it.
 #[derive(Clone, Copy, Debug, PartialEq, Eq)]
@@ -32,7 +35,9 @@ pub enum Hint {
     /// Status 22: a rule file has a `\u` that isn't followed by four hexadecimal digits of a character, at
     /// the byte that is told.
     Escape,
-    /// Status 22: a key of a rule file hasn't the form that the file asks for.
+    /// Status 22: a key of `renames.properties` is no package.
+    BadPackage,
+    /// Status 22: a key of another rule file hasn't the form that the file asks for.
     BadKey,
     /// Status 22: a value of a rule file hasn't the form that the file asks for.
     BadValue,
@@ -92,7 +97,7 @@ pub enum Hint {
     Moved,
 }
 
-/// Every hint.
+/// Every hint, in the order of the statuses that it is for.
 pub const HINTS: &[Hint] = &[
     Hint::Refusals,
     Hint::Memory,
@@ -104,6 +109,7 @@ pub const HINTS: &[Hint] = &[
     Hint::NoRenames,
     Hint::NotUtf8,
     Hint::Escape,
+    Hint::BadPackage,
     Hint::BadKey,
     Hint::BadValue,
     Hint::MissingText,
@@ -146,13 +152,13 @@ impl Hint {
             Hint::Memory =>
                 b"migrate: memory ran out, so the run stopped\n         give it more memory and run again: what was written and noted in the ledger is kept\n",
             Hint::Folders =>
-                b"migrate: a file or folder could not be used as it should, so the run stopped\n         put right what is said above and run again: the run goes on where it stopped\n",
+                b"migrate: a file or folder could not be used as it should, so the run stopped\n         put right what is said above and run again: what was done is kept\n",
             Hint::Ledger =>
                 b"migrate: the ledger could not be used, so the run stopped\n         put right what is said above and run again, or name another ledger, which starts anew\n",
             Hint::Output =>
                 b"migrate: standard output took no more, so the report isn't whole; all files are done\n         run again with an output that takes it: the files are kept, and the report is printed\n",
             Hint::Usage =>
-                b"migrate: these words ask for nothing that can be done\n         give the words as in the line of usage; README.md says each\n",
+                b"migrate: these words ask for nothing that can be done\n         give the words as in the line of usage; docs/REFERENCE.md says each\n",
             Hint::Nested =>
                 b"migrate: no root may lie where another would be changed: source and target, rules and target, the ledger in any\n         name a target and a ledger that lie in none of the other folders\n",
             Hint::NoRenames =>
@@ -161,10 +167,12 @@ impl Hint {
                 b"migrate: a rule file isn't in UTF-8, from the byte on that is told\n         store the file in UTF-8 without a byte order mark\n",
             Hint::Escape =>
                 b"migrate: a rule file has a `\\u` that isn't followed by four hexadecimal digits of a character, at the byte that is told\n         write the character itself, or two backslashes where one is meant\n",
+            Hint::BadPackage =>
+                b"migrate: a key of `renames.properties` isn't a package\n         mend that line: a package is identifiers joined by `.`, with `.*` at its end for all below it\n",
             Hint::BadKey =>
-                b"migrate: a key of a rule file hasn't the form that the file asks for\n         mend that line: a package is identifiers joined by `.`, with `.*` at its end for all below it\n",
+                b"migrate: a key of a rule file hasn't the form that the file asks for\n         mend that line: docs/REFERENCE.md lists for each file what a key may be\n",
             Hint::BadValue =>
-                b"migrate: a value of a rule file hasn't the form that the file asks for\n         mend that line: README.md lists for each file what a value may be\n",
+                b"migrate: a value of a rule file hasn't the form that the file asks for\n         mend that line: docs/REFERENCE.md lists for each file what a value may be\n",
             Hint::MissingText =>
                 b"migrate: `text.properties` names a file that the rule folder lacks\n         add the file, or mend its name\n",
             Hint::Chain1 =>
@@ -240,6 +248,17 @@ fn chain_hint(kind: ChainKind) -> Hint
     }
 }
 
+/// The hint of a key that hasn't the form that its rule file asks for, by the file's name.
+fn key_hint(file: &[u8]) -> Hint
+    ensures { result ≡ key_hint file.now }
+{
+    if file == RENAMES {
+        Hint::BadPackage
+    } else {
+        Hint::BadKey
+    }
+}
+
 /// The hint of a fault of rule files.
 fn rule_hint(fault: &RuleFault) -> Hint
     ensures { result ≡ rule_hint fault.now }
@@ -250,7 +269,7 @@ fn rule_hint(fault: &RuleFault) -> Hint
             PropFault::NotUtf8 { .. } => Hint::NotUtf8,
             PropFault::Escape { .. } => Hint::Escape,
         },
-        RuleFault::BadKey { .. } => Hint::BadKey,
+        RuleFault::BadKey { file, .. } => key_hint(file.as_bytes()),
         RuleFault::BadValue { .. } => Hint::BadValue,
         RuleFault::MissingText { .. } => Hint::MissingText,
         RuleFault::Chain { kind, .. } => chain_hint(*kind),

@@ -33,16 +33,84 @@ fn stands_alone(word: &[u8]) -> bool {
     }
 }
 
-/// The line of the first word that is no option, and no value of one: where an option is wanted, a word that doesn't
-/// begin with `--`; where a value is wanted, one that begins with `-`, or none.
-fn loose_word(alloc: Global, words: &[Text]) -> Result<Option<Text>, Memory> {
+/// The options of a task, without their dashes.
+struct TaskOptions {
+    task: &'static [u8],
+    names: &'static [&'static [u8]],
+}
+
+const RUN: TaskOptions = TaskOptions {
+    task: b"run",
+    names: &[b"rules", b"from", b"to", b"ledger", b"workers", b"verify"],
+};
+
+const GENERATE: TaskOptions = TaskOptions {
+    task: b"generate",
+    names: &[b"count", b"workers"],
+};
+
+/// The name of an option: what stands behind its dashes, before a `=`.
+fn name_of(option: &[u8]) -> &[u8] {
+    let name = option.strip_prefix(b"--").unwrap_or(option);
+    name.split(|byte| *byte == b'=').next().unwrap_or(name)
+}
+
+/// Whether one name is the other but for a slip: a byte more, one less, another byte, or two neighbours exchanged.
+fn is_slip(one: &[u8], other: &[u8]) -> bool {
+    let pairs = one.iter().zip(other.iter());
+    let same = pairs.take_while(|pair| pair.0 == pair.1).count();
+    let one = one.get(same..).unwrap_or(&[]);
+    let other = other.get(same..).unwrap_or(&[]);
+    match (one, other) {
+        ([a, b, rest @ ..], [c, d, more @ ..]) if a == d && b == c && rest == more => true,
+        ([_, rest @ ..], [_, more @ ..]) if rest == more => true,
+        ([_, rest @ ..], _) if rest == other => true,
+        (_, [_, more @ ..]) => more == one,
+        _ => false,
+    }
+}
+
+/// What is said of an option that a task doesn't have: the one that it may be a slip of, or all that there are.
+fn no_option(alloc: Global, options: &TaskOptions, option: &[u8]) -> Result<Text, Memory> {
+    let name = name_of(option);
+    let mut said = Text::from_bytes(alloc, b"is no option of `")?;
+    said.append(options.task)?;
+    said.append(b"`: ")?;
+    match options.names.iter().find(|known| is_slip(name, known)) {
+        Some(known) => {
+            said.append(b"is `--")?;
+            said.append(known)?;
+            said.append(b"` meant?")?;
+        }
+        None => {
+            said.append(b"it has")?;
+            for known in options.names {
+                said.append(b" --")?;
+                said.append(known)?;
+            }
+        }
+    }
+    line_of(alloc, option, said.as_bytes())
+}
+
+/// The line of the first word that is no option of a task, and no value of one: where an option is wanted, a word that doesn't
+/// begin with `--`, or an option that the task doesn't have; where a value is wanted, one that begins with `-`, or none.
+fn loose_word(
+    alloc: Global,
+    options: &TaskOptions,
+    words: &[Text],
+) -> Result<Option<Text>, Memory> {
     let mut name = None;
     for word in words {
         let bytes = word.as_bytes();
         match name {
             Some(_) if !bytes.starts_with(b"-") => name = None,
             Some(option) => return Ok(Some(line_of(alloc, option, NO_VALUE)?)),
+            None if asks_for_help(bytes) => return Ok(Some(Text::from_bytes(alloc, HELP)?)),
             None if !bytes.starts_with(b"--") => return Ok(Some(line_of(alloc, bytes, NO_OPTION)?)),
+            None if !options.names.contains(&name_of(bytes)) => {
+                return Ok(Some(no_option(alloc, options, bytes)?));
+            }
             None if !stands_alone(bytes) => name = Some(bytes),
             None => {}
         }
@@ -52,6 +120,21 @@ fn loose_word(alloc: Global, words: &[Text]) -> Result<Option<Text>, Memory> {
         None => Ok(None),
     }
 }
+
+/// Whether a word asks what the words of the program are.
+fn asks_for_help(word: &[u8]) -> bool {
+    word == b"--help".as_slice() || word == b"-h".as_slice() || word == b"--version".as_slice()
+}
+
+const HELP: &[u8] =
+    b"migrate: migrates a compiled application to other packages, as from javax to jakarta (version 1.0)
+         migrate run --rules R --from A --to B --ledger L [--workers N] [--verify]
+           migrates the files below A to B by the rules in folder R, and notes each in the file L; prints a line a file
+         migrate generate --count N [--workers N]
+           migrates a made-up application of N classes in memory; prints the totals
+         as: migrate run --rules rules/jakarta-ee-9 --from app --to new --ledger ledger >report
+         README.md and docs/REFERENCE.md of its repository say the rest
+";
 
 const NO_VALUE: &[u8] =
     b"has no value; one that begins with `-` is written in one word, as `--name=value`";
@@ -107,7 +190,7 @@ fn workers_line(alloc: Global, workers: &Option<Text>) -> Result<Option<Text>, M
 
 /// The line of words behind `run`.
 fn run_line(alloc: Global, words: &[Text]) -> Result<Option<Text>, Memory> {
-    if let Some(line) = loose_word(alloc, words)? {
+    if let Some(line) = loose_word(alloc, &RUN, words)? {
         return Ok(Some(line));
     }
     match run_values(alloc, words)? {
@@ -138,7 +221,7 @@ fn generate_value(alloc: Global, values: &GenerateValues) -> Result<Option<Text>
 
 /// The line of words behind `generate`.
 fn generate_line(alloc: Global, words: &[Text]) -> Result<Option<Text>, Memory> {
-    if let Some(line) = loose_word(alloc, words)? {
+    if let Some(line) = loose_word(alloc, &GENERATE, words)? {
         return Ok(Some(line));
     }
     match generate_values(alloc, words)? {
@@ -156,12 +239,15 @@ pub fn words_hint(alloc: Global, words: &[Text]) -> Result<Option<Text>, Memory>
             b"migrate: no words are given: the first is `run` or `generate`\n",
         )?)),
         [first, behind @ ..] => {
-            if first.as_bytes() == b"run".as_slice() {
+            let first = first.as_bytes();
+            if first == RUN.task {
                 run_line(alloc, behind)
-            } else if first.as_bytes() == b"generate".as_slice() {
+            } else if first == GENERATE.task {
                 generate_line(alloc, behind)
+            } else if asks_for_help(first) || first == b"help".as_slice() {
+                Ok(Some(Text::from_bytes(alloc, HELP)?))
             } else {
-                Ok(Some(line_of(alloc, first.as_bytes(), NO_TASK)?))
+                Ok(Some(line_of(alloc, first, NO_TASK)?))
             }
         }
     }

@@ -4,15 +4,15 @@ use crate::commands::{COMMANDS, Command};
 use crate::words::{named, word};
 use crate::{disk, faults, hints, names, places, reports, told};
 use desk_base::{Memory, Text};
-use desk_notes::{is_archive, is_signature, rule_notes, slip_of};
-use desk_report::Line;
+use desk_notes::{is_archive_file, is_signature, rule_notes, slip_of};
+use desk_report::ReportLine;
 use test_cases::Answers;
 
 /// The lines of a report that were put, and the text that was taken last.
 #[derive(Drop)]
 pub struct Case<'r> {
     rt: &'r HostRuntime,
-    lines: Vec<Line>,
+    lines: Vec<ReportLine>,
     taken: Text,
 }
 
@@ -91,7 +91,7 @@ fn tell(
         Command::ReleaseLine => hints::tell_release_line(alloc, words, out),
         Command::Fault => faults::tell_fault(alloc, words, out),
         Command::ReportLine => names::tell_said(word(words, 0), out),
-        Command::Archive => told::is_so(out, is_archive(word(words, 0))),
+        Command::Archive => told::is_so(out, is_archive_file(word(words, 0))),
         Command::Signature => told::is_so(out, is_signature(word(words, 0))),
         Command::Slip => told::value(out, &slip_of(word(words, 0))),
         Command::Unshown => names::tell_unshown(alloc, word(words, 0), out),

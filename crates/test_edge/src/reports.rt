@@ -3,18 +3,18 @@
 use crate::words::{number, word};
 use desk_base::{Memory, Text};
 use desk_notes::{Notes, Overheard};
-use desk_report::{Detail, Line, MemorySink, Reason, Sink, write_line};
+use desk_report::{Detail, MemorySink, Reason, ReportLine, Sink, write_line};
 use std::alloc::Global;
 
 /// How many bytes a report may have.
 const ROOM: u32 = 100_000;
 
 /// The line of a file that was copied to its own path.
-fn copied(alloc: Global, path: &[u8]) -> Result<Line, Memory> {
+fn copied(alloc: Global, path: &[u8]) -> Result<ReportLine, Memory> {
     let target = Text::from_bytes(alloc, path)?;
     let path = Text::from_bytes(alloc, path)?;
     let detail = Detail::Copy;
-    Ok(Line::Written {
+    Ok(ReportLine::Written {
         path,
         target,
         detail,
@@ -22,7 +22,11 @@ fn copied(alloc: Global, path: &[u8]) -> Result<Line, Memory> {
 }
 
 /// Puts the lines of files that were copied: how many, and their path.
-pub fn put_copied(alloc: Global, lines: &mut Vec<Line>, words: &[Text]) -> Result<(), Memory> {
+pub fn put_copied(
+    alloc: Global,
+    lines: &mut Vec<ReportLine>,
+    words: &[Text],
+) -> Result<(), Memory> {
     for _ in 0..number(words, 0) {
         lines.push(copied(alloc, word(words, 1))?)?;
     }
@@ -30,22 +34,26 @@ pub fn put_copied(alloc: Global, lines: &mut Vec<Line>, words: &[Text]) -> Resul
 }
 
 /// Puts the line of a file that was kept at its own path.
-pub fn put_kept(alloc: Global, lines: &mut Vec<Line>, words: &[Text]) -> Result<(), Memory> {
+pub fn put_kept(alloc: Global, lines: &mut Vec<ReportLine>, words: &[Text]) -> Result<(), Memory> {
     let target = Text::from_bytes(alloc, word(words, 0))?;
     let path = Text::from_bytes(alloc, word(words, 0))?;
-    Ok(lines.push(Line::Kept { path, target })?)
+    Ok(lines.push(ReportLine::Kept { path, target })?)
 }
 
 /// Puts the line of a text that a second migration would change again: its path, and where.
-pub fn put_unsettled(alloc: Global, lines: &mut Vec<Line>, words: &[Text]) -> Result<(), Memory> {
+pub fn put_unsettled(
+    alloc: Global,
+    lines: &mut Vec<ReportLine>,
+    words: &[Text],
+) -> Result<(), Memory> {
     let path = Text::from_bytes(alloc, word(words, 0))?;
     let at = u64::from(number(words, 1));
     let reason = Reason::Unsettled { at };
-    Ok(lines.push(Line::Refused { path, reason })?)
+    Ok(lines.push(ReportLine::Refused { path, reason })?)
 }
 
 /// Writes lines, and counts those that were written.
-fn write_lines<O: Sink>(lines: &[Line], out: &mut O) -> usize {
+fn write_lines<O: Sink>(lines: &[ReportLine], out: &mut O) -> usize {
     let mut written = 0_usize;
     for line in lines {
         if write_line(line, out).is_ok() {
@@ -82,7 +90,7 @@ fn tell_counts(notes: &Notes, out: &mut String) -> Result<(), Memory> {
 }
 
 /// Writes lines to a sink, and gives it.
-fn unheard(alloc: Global, lines: &[Line]) -> Result<Box<MemorySink>, Memory> {
+fn unheard(alloc: Global, lines: &[ReportLine]) -> Result<Box<MemorySink>, Memory> {
     let mut sink = Box::new(alloc, MemorySink::with_room(alloc, ROOM)?)?;
     write_lines(lines, &mut *sink);
     Ok(sink)
@@ -90,7 +98,7 @@ fn unheard(alloc: Global, lines: &[Line]) -> Result<Box<MemorySink>, Memory> {
 
 /// Writes lines to a sink, and to one that is listened to; tells whether both hold the same and what was noted, and gives what
 /// is told of it.
-pub fn overhear(rt: &HostRuntime, lines: &[Line], out: &mut String) -> Result<Text, Memory> {
+pub fn overhear(rt: &HostRuntime, lines: &[ReportLine], out: &mut String) -> Result<Text, Memory> {
     let alloc = rt.alloc();
     let plain = unheard(alloc, lines)?;
     let sink = MemorySink::with_room(alloc, ROOM)?;
