@@ -8,39 +8,21 @@ use Rattle.std.proofs.lemmas.List.{append_assoc, append-nil, drop_more}
 use Rattle.std.proofs.lemmas.Slice.Eq.{bytes_eq-Decides, starts_is}
 use Rattle.desk_base.specs.Names.{Text, Package, segments, written, front, simple, dot, same, begins_with, is_dotted, is_identifier, is_package, is_empty}
 use Rattle.desk_packages.specs.Renames.{Renaming, key_of, changes, in_scope, in_reach, covers, is_rename}
-use Rattle.desk_packages.specs.Keys.{IsTable, RiseBy, NoneChanging, wanted_tail}
+use Rattle.desk_packages.specs.Keys.{IsTable, NoneChanging, wanted_tail}
 use Rattle.desk_packages.specs.Fronts.{IsFrontEnd}
-use Rattle.desk_packages.proofs.Picks.{In, Found, find_Some, find_None, all_In}
-use Rattle.desk_packages.proofs.Searched.{find_only, find_nothing, one_key}
+use Rattle.desk_packages.proofs.Picks.{In, all_In}
+use Rattle.desk_packages.proofs.Searched.{find_nothing}
 use Rattle.desk_packages.proofs.Lookup.{contained, written_more}
 use Rattle.desk_packages.proofs.Same.{same_is, same_from, begins_is, begins_from, covers_is}
 use Rattle.desk_packages.proofs.Cuts.{segments_written, front_simple}
 use Rattle.desk_packages.proofs.KeyLaws.{identifier_cuts}
 use Rattle.desk_packages.proofs.Segments.{front_parts}
 use Rattle.desk_chains.specs.Chains.{first_pair, meets, front_in_reach, front_in_scope, rename_then_rename, rename_then_direct, one_then_another, direct_then_rename, update_then_update, package_then_name, name_then_package, package_then_direct, direct_then_package}
-use Rattle.desk_chains.specs.Exchanges.{Exchange, BundleUpdate, alters, renames_bundle}
+use Rattle.desk_entries.specs.Exchanges.{Exchange, BundleUpdate, alters, renames_bundle}
 use Rattle.desk_chains.proofs.Fronts.{goes_is, reach_told}
 
 flipped : (a b : Text) → bytes_eq a b ≡ true → bytes_eq b a ≡ true
 flipped a b h = (bytes_eq-Decides b a).1 (sym ((bytes_eq-Decides a b).0 h))
-
--- where only items with one key are related, the one with that key is found if it is related
-module _ {B : Type 0} (key : B → Text) (ys : List B) (rise : RiseBy key ys) (t : Text) (R : B → Bool) (only : (y : B) → R y ≡ true → bytes_eq (key y) t ≡ true) where
-  same_item : (y z : B) → Some y ≡ find (λ r. bytes_eq (key r) t) ys → In ys z → R z ≡ true → z ≡ y
-  same_item y z found js k =
-      let f : Found (λ (r : B). bytes_eq (key r) t) ys y = find_Some (λ (r : B). bytes_eq (key r) t) ys y (sym found) in
-      one_key key ys rise z y js f.there ((bytes_eq-Decides (key z) t).0 (only z k) ∙ sym ((bytes_eq-Decides (key y) t).0 f.passes))
-
-  pub keyed_some : (y : B) → Some y ≡ find (λ r. bytes_eq (key r) t) ys → R y ≡ true → Some y ≡ find R ys
-  keyed_some y found related =
-      let f : Found (λ (r : B). bytes_eq (key r) t) ys y = find_Some (λ (r : B). bytes_eq (key r) t) ys y (sym found) in
-      sym (find_only R ys y f.there related (λ z js k. same_item y z found js k))
-
-  pub keyed_other : (y : B) → Some y ≡ find (λ r. bytes_eq (key r) t) ys → R y ≡ false → None ≡ find R ys
-  keyed_other y found apart = sym (find_nothing R ys (λ z js k. both_ways (R z) (ap R (same_item y z found js k) ∙ apart) k))
-
-  pub keyed_none : None ≡ find (λ r. bytes_eq (key r) t) ys → None ≡ find R ys
-  keyed_none none = sym (find_nothing R ys (λ z js k. both_ways (bytes_eq (key z) t) (find_None (λ (r : B). bytes_eq (key r) t) ys z (sym none) js) (only z k)))
 
 pub directs_only : (d e : Exchange) (t : Text) → t ≡ d.1 → one_then_another d e ≡ true → bytes_eq e.0 t ≡ true
 directs_only d e t is k = subst (λ (w : Text). bytes_eq e.0 w ≡ true) (sym is) (flipped d.1 e.0 (and_parts (alters d && alters e) (bytes_eq d.1 e.0) k).1)
@@ -105,7 +87,8 @@ pub unmoved : (rs : List Renaming) (r : Renaming) → changes r ≡ false → No
 unmoved rs r stays = sym (find_nothing (rename_then_rename r) rs (λ s js k.
     both_ways (changes r) stays (and_parts (changes r) (changes s) (and_parts (changes r && changes s) (meets r s) k).0).0))
 
-any_in : {A : Type 0} (test : A → Bool) (S : A → Bool) (xs : List A) (x : A) → In xs x → S x ≡ true → test x ≡ true → list_any test (filter S xs) ≡ true
+-- what is in a list, is left and passes a test passes it among what is left
+pub any_in : {A : Type 0} (test : A → Bool) (S : A → Bool) (xs : List A) (x : A) → In xs x → S x ≡ true → test x ≡ true → list_any test (filter S xs) ≡ true
 any_in test S [] x is k h = absurd is
 any_in test S (y ∷ ys) x (inl here) k h =
     ap (λ (b : Bool). list_any test (cond b (y ∷ filter S ys) (filter S ys))) (ap S here ∙ k) ∙ or_left _ _ (ap test here ∙ h)
@@ -115,7 +98,7 @@ any_in test S (y ∷ ys) x (inr later) k h = elim (S y) as (λ (b : Bool). list_
 ]
 
 -- the key of a rename whose source lies below a package begins with the package and a dot
-key_under : (t : Package) → not (is_empty t) ≡ true → (s : Renaming) (y : Text) (ys : Package) → s.source ≡ t ++ y ∷ ys → starts_with ◌==◌ (key_of s) (written dot t ++ 46 ∷ []) ≡ true
+pub key_under : (t : Package) → not (is_empty t) ≡ true → (s : Renaming) (y : Text) (ys : Package) → s.source ≡ t ++ y ∷ ys → starts_with ◌==◌ (key_of s) (written dot t ++ 46 ∷ []) ≡ true
 key_under [] filled s y ys e = absurd cc
 key_under (x ∷ xs) filled s y ys e =
     let end = wanted_tail s.below in
@@ -196,7 +179,8 @@ under_more : (t : Package) → not (is_empty t) ≡ true → (s : Renaming) (res
 under_more t filled s [] x e = key_under t filled s x [] e
 under_more t filled s (z ∷ zs) x e = key_under t filled s z (zs ++ x ∷ []) e
 
-front_under : (t : Package) → not (is_empty t) ≡ true → (s : Renaming) (p : Package) → s.source ≡ p → (rest : Package) → front p ≡ t ++ rest → starts_with ◌==◌ (key_of s) (written dot t ++ 46 ∷ []) ≡ true
+-- and that of one whose source's front is a package, or lies below it
+pub front_under : (t : Package) → not (is_empty t) ≡ true → (s : Renaming) (p : Package) → s.source ≡ p → (rest : Package) → front p ≡ t ++ rest → starts_with ◌==◌ (key_of s) (written dot t ++ 46 ∷ []) ≡ true
 front_under [] filled s p e rest covered = absurd cc
 front_under (y ∷ ys) filled s [] e rest covered = absurd cc
 front_under (y ∷ ys) filled s (x ∷ xs) e rest covered =
@@ -239,3 +223,9 @@ pub pair_here : {A B : Type 0} (R : A → B → Bool) (xs : List A) (ys : List B
 pair_here {A} {B} R xs ys i x y within is found =
     ap (λ (l : List A). first_pair R l ys) (drop_more xs i x within ∙ ap (λ (w : A). w ∷ drop (i + 1) xs) (sym is))
     ∙ ap (λ (o : Option B). elim o as (λ (w : Option B). Option (A × B)) [ Some v ↦ Some (x, v) | None ↦ first_pair R (drop (i + 1) xs) ys ]) (sym found)
+
+-- where the first item has none, the first pair stands behind it
+pub pair_later : {A B : Type 0} (R : A → B → Bool) (xs : List A) (ys : List B) (i : ℕ) (x : A) → i < length xs → x ≡ get_or xs i x → None ≡ find (R x) ys → first_pair R (drop (i + 1) xs) ys ≡ first_pair R (drop i xs) ys
+pair_later {A} {B} R xs ys i x within is none = sym (
+    ap (λ (l : List A). first_pair R l ys) (drop_more xs i x within ∙ ap (λ (w : A). w ∷ drop (i + 1) xs) (sym is))
+    ∙ ap (λ (o : Option B). elim o as (λ (w : Option B). Option (A × B)) [ Some v ↦ Some (x, v) | None ↦ first_pair R (drop (i + 1) xs) ys ]) (sym none))

@@ -1,6 +1,6 @@
 -- Whether a dotted name's front lies in a scope or reach, told from the bytes.
-use Rattle.std.proofs.Common.{◌≡◌, ◌+◌, ℕ, Bool, true, false, not, ◌&&◌, ◌||◌, ◌==◌, cond, List, [], ◌∷◌, ◌++◌, length, drop, get_or, nat_lt, refl, sym, ap, ◌∙◌, arith, length-append}
-use Rattle.std.specs.List.{list_all, slice_split, starts_with, onto_first}
+use Rattle.std.proofs.Common.{◌≡◌, ◌+◌, ℕ, Bool, true, false, not, ◌&&◌, ◌||◌, ◌==◌, [], ◌∷◌, ◌++◌, length, drop, get_or, nat_lt, refl, sym, ap, ◌∙◌, arith, length-append}
+use Rattle.std.specs.List.{list_all, slice_split, starts_with}
 use Rattle.std.proofs.lemmas.Bool.{and_parts, and_from, lt-ltb, ltb-true, eq-eqb, eqb-true}
 use Rattle.std.proofs.lemmas.Bool.Decides.{Decides-eqb}
 use Rattle.std.proofs.lemmas.List.{append-nil, append_assoc, drop_at, drop-drop, drop_more, get_or_at}
@@ -8,11 +8,14 @@ use Rattle.std.proofs.lemmas.List.Folds.{list_all-append}
 use Rattle.std.proofs.lemmas.List.Splits.{slice_split_none}
 use Rattle.std.proofs.lemmas.Slice.Eq.{starts_is}
 use Rattle.desk_base.specs.Names.{Text, Package, segments, written, front, simple, is_empty, is_dotted, is_identifier, is_whole}
+use Rattle.desk_base.proofs.Bools.{same_answer}
+use Rattle.desk_base.proofs.Lists.{not_empty-push}
+use Rattle.desk_base.proofs.Separated.{none_is, split_filled}
 use Rattle.desk_packages.specs.Renames.{Renaming, covers, in_reach, in_scope, is_rename}
 use Rattle.desk_chains.specs.Chains.{front_in_reach, front_in_scope}
 use Rattle.desk_packages.specs.Keys.{goes_on}
 use Rattle.desk_packages.proofs.Same.{same_is, same_from, begins_is, begins_from}
-use Rattle.desk_packages.proofs.Cuts.{none_is, segments_behind, written-segments, front_simple}
+use Rattle.desk_packages.proofs.Cuts.{segments_behind, written-segments, front_simple}
 use Rattle.desk_packages.proofs.Bytes.{identifier_whole}
 use Rattle.desk_packages.proofs.KeyLaws.{identifier_cuts}
 use Rattle.desk_packages.proofs.Lookup.{written_more}
@@ -22,24 +25,6 @@ pub front_all : (test : Text → Bool) (ps : Package) → not (is_empty ps) ≡ 
 front_all test ps filled h =
     let both : (list_all test (front ps) && list_all test (simple ps ∷ [])) ≡ true = sym (list_all-append test (front ps) (simple ps ∷ [])) ∙ ap (list_all test) (front_simple ps filled) ∙ h in
     ((and_parts _ _ both).0, (and_parts _ _ (and_parts _ _ both).1).0)
-
--- a text has parts
-split_filled : (s : ℕ) (t : Text) → not (is_empty (slice_split (λ b. b == s) t)) ≡ true
-split_filled s [] = refl
-split_filled s (b ∷ t) = elim (b == s) as (λ (x : Bool). not (is_empty (cond x ([] ∷ slice_split (λ b. b == s) t) (onto_first b (slice_split (λ b. b == s) t)))) ≡ true) [
-  | true ↦ refl
-  | false ↦ onto_filled (slice_split (λ b. b == s) t)
-]
-  where
-    onto_filled : (ps : List Text) → not (is_empty (onto_first b ps)) ≡ true
-    onto_filled [] = refl
-    onto_filled (p ∷ ps) = refl
-
-same_answer : (a b : Bool) → (a ≡ true → b ≡ true) → (b ≡ true → a ≡ true) → a ≡ b
-same_answer true true f g = refl
-same_answer true false f g = sym (f refl)
-same_answer false true f g = g refl
-same_answer false false f g = refl
 
 front-append : (p q : Package) → not (is_empty q) ≡ true → front (p ++ q) ≡ p ++ front q
 front-append [] q h = refl
@@ -78,16 +63,12 @@ written_behind [] q h k = absurd cc
 written_behind (x ∷ p) [] h k = absurd cc
 written_behind (x ∷ p) (y ∷ q) h k = written_more 46 x p y q
 
-filled_push : (rest : Package) (x : Text) → not (is_empty (rest ++ x ∷ [])) ≡ true
-filled_push [] x = refl
-filled_push (y ∷ rest) x = refl
-
 module _ (p : Package) (filled : not (is_empty p) ≡ true) (formed : list_all is_identifier p ≡ true) (t : Text) (named : is_dotted t ≡ true) where
   spelled_out : (rest : Package) → front (segments 46 t) ≡ p ++ rest → t ≡ written 46 p ++ 46 ∷ written 46 (rest ++ simple (segments 46 t) ∷ [])
   spelled_out rest e =
       sym (written-segments 46 t)
       ∙ ap (written 46) (sym (front_simple (segments 46 t) (and_parts _ _ named).0) ∙ ap (λ (f : Package). f ++ simple (segments 46 t) ∷ []) e ∙ append_assoc p rest (simple (segments 46 t) ∷ []))
-      ∙ written_behind p (rest ++ simple (segments 46 t) ∷ []) filled (filled_push rest (simple (segments 46 t)))
+      ∙ written_behind p (rest ++ simple (segments 46 t) ∷ []) filled (not_empty-push rest (simple (segments 46 t)))
 
   told : (below : Bool) → covers below p (front (segments 46 t)) ≡ true → goes_on below (written 46 p) t ≡ true
   told true h = ap (goes_on true (written 46 p)) (spelled_out (drop (length p) (front (segments 46 t))) (begins_is (front (segments 46 t)) p h)) ∙ goes_from true (written 46 p) _ refl

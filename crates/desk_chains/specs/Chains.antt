@@ -4,7 +4,7 @@ use Rattle.std.specs.List.{find}
 use Rattle.std.specs.Str.{bytes_eq}
 use Rattle.desk_base.specs.Names.{Text, same, begins_with, segments, written, dot, is_dotted, front}
 use Rattle.desk_packages.specs.Renames.{Renaming, changes, in_scope, in_reach, key_of}
-use Rattle.desk_chains.specs.Exchanges.{Exchange, BundleUpdate, alters, renames_bundle, old_text, old_name}
+use Rattle.desk_entries.specs.Exchanges.{Exchange, BundleUpdate, alters, renames_bundle, old_text, old_name}
 use Rattle.desk_chains.specs.declared.ChainKind.{ChainKind}
 use Rattle.desk_chains.specs.declared.ChainKind.TheVariants.{RenameThenRename, RenameThenDirect, DirectThenDirect, DirectThenRename, BundleThenBundle, PackageThenName, NameThenPackage, PackageThenDirect, DirectThenPackage}
 

@@ -1,2 +1,2 @@
-pub mod Exchanges
 pub mod Chains
+pub mod Gifts

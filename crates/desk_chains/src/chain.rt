@@ -1,128 +1,24 @@
 //! Chains of rules, of which the second changes what the first gives.
 
-ghost use Rattle.std.specs.Prelude.{◌≡◌, ◌==◌, ◌&&◌, ◌++◌, ◌∷◌, [], None, Some, MatchOption};
+ghost use Rattle.std.specs.Prelude.{◌≡◌, ◌==◌, ◌&&◌, ◌++◌, ◌∷◌, [], None, Some, MatchOption, IfSome};
 ghost use Rattle.std.specs.Option.{option_copied};
 ghost use Rattle.std.specs.List.{find, filter, list_any, starts_with};
-ghost use Rattle.desk_base.specs.Names.{is_whole, written, dot, front};
-ghost use Rattle.desk_packages.specs.Renames.{changes, in_reach, in_scope, key_of};
-ghost use Rattle.desk_packages.specs.Keys.{goes_on, IsTable, RiseBy};
-ghost use Rattle.desk_chains.specs.Chains.{meets, rename_then_rename, rename_then_direct, direct_then_rename, one_then_another, update_then_update, package_then_name, name_then_package, package_then_direct, direct_then_package, first_pair, front_in_reach, front_in_scope, chain_of, first_chain_of, first_package_chain, first_chain_in, chain_at};
+ghost use Rattle.desk_base.specs.Names.{written, dot};
+ghost use Rattle.desk_packages.specs.Renames.{changes, key_of};
+ghost use Rattle.desk_packages.specs.Keys.{IsTable, RiseBy};
+ghost use Rattle.desk_chains.specs.Gifts.{IsGift, Tells};
+ghost use Rattle.desk_chains.specs.Chains.{first_pair, chain_of, first_chain_of, first_package_chain, first_chain_in, chain_at};
 
 use crate::ChainKind;
-use crate::keyed::{BundleRule, DirectRule};
+use crate::reaches::{front_in_reach, front_in_scope, meet, source_in_reach, target_in_scope};
+use crate::tried::{holds, note};
+use desk_entries::{BundleRule, DirectRule};
 use desk_names::is_dotted;
-use desk_packages::{Keyed, Rename, Separator, changing_for, front_end, rule_of, rules_under};
-
-fn has_no_dot(text: &[u8]) -> bool
-    ensures { result ≡ is_whole 46 text.now }
-{
-    text.iter().all(|byte| *byte != b'.')
-}
-
-/// Whether a text goes on behind a start and a dot, with one segment or, below it, with more.
-fn goes_on(start: &[u8], below: bool, text: &[u8]) -> bool
-    ensures { result ≡ goes_on below start.now text.now }
-{
-    text.starts_with(start)
-        && start.len() < text.len()
-        && text[start.len()] == b'.'
-        && (below || has_no_dot(&text[start.len() + 1..]))
-}
-
-/// Whether a package lies in the reach of the first and in the scope of the second.
-fn meet(first: &Rename, second: &Rename) -> bool
-    ensures { result ≡ meets first.now second.now }
-{
-    first.target_segments() == second.source()
-        || (second.is_below() && first.target_segments().starts_with(second.source()))
-        || (first.is_below() && second.source().starts_with(first.target_segments()))
-}
-
-fn rename_and_rename(first: &Rename, second: &Rename) -> bool
-    ensures { result ≡ rename_then_rename first.now second.now }
-{
-    first.changes() && second.changes() && meet(first, second)
-}
-
-/// Whether a text is a dotted name whose front lies in the reach of a rename.
-fn front_in_reach(rename: &Rename, text: &[u8]) -> bool
-    ensures { result ≡ front_in_reach rename.now text.now }
-{
-    let _ = rename.is_formed();
-    is_dotted(text) && goes_on(rename.dotted_target(), rename.is_below(), text)
-}
-
-/// Whether a text is a dotted name whose front lies in the scope of a rename.
-fn front_in_scope(rename: &Rename, text: &[u8]) -> bool
-    ensures { result ≡ front_in_scope rename.now text.now }
-{
-    let _ = rename.is_formed();
-    is_dotted(text) && goes_on(rename.dotted_source(), rename.is_below(), text)
-}
-
-/// Whether the front of another rename's target lies in the scope of a rename.
-fn target_in_scope(rename: &Rename, other: &Rename) -> bool
-    ensures { result ≡ in_scope rename.now (front other.now.target) }
-{
-    let _ = other.is_formed();
-    front_in_scope(rename, other.dotted_target())
-}
-
-/// Whether the front of another rename's source lies in the reach of a rename.
-fn source_in_reach(rename: &Rename, other: &Rename) -> bool
-    ensures { result ≡ in_reach rename.now (front other.now.source) }
-{
-    let _ = other.is_formed();
-    front_in_reach(rename, other.dotted_source())
-}
-
-fn rename_and_direct(first: &Rename, second: &DirectRule) -> bool
-    ensures { result ≡ rename_then_direct first.now second.now }
-{
-    first.changes() && second.changes() && front_in_reach(first, second.key())
-}
-
-fn direct_and_direct(first: &DirectRule, second: &DirectRule) -> bool
-    ensures { result ≡ one_then_another first.now second.now }
-{
-    first.changes() && second.changes() && first.target() == second.key()
-}
-
-fn direct_and_rename(first: &DirectRule, second: &Rename) -> bool
-    ensures { result ≡ direct_then_rename first.now second.now }
-{
-    first.changes() && second.changes() && front_in_scope(second, first.target())
-}
-
-fn bundle_and_bundle(first: &BundleRule, second: &BundleRule) -> bool
-    ensures { result ≡ update_then_update first.now second.now }
-{
-    first.changes() && second.changes() && first.name() == second.key()
-}
-
-fn package_and_name(first: &Rename, second: &Rename) -> bool
-    ensures { result ≡ package_then_name first.now second.now }
-{
-    first.changes() && second.changes() && target_in_scope(second, first)
-}
-
-fn name_and_package(first: &Rename, second: &Rename) -> bool
-    ensures { result ≡ name_then_package first.now second.now }
-{
-    first.changes() && second.changes() && source_in_reach(first, second)
-}
-
-fn package_and_direct(first: &Rename, second: &DirectRule) -> bool
-    ensures { result ≡ package_then_direct first.now second.now }
-{
-    first.changes() && second.changes() && first.dotted_target() == second.key()
-}
-
-fn direct_and_package(first: &DirectRule, second: &Rename) -> bool
-    ensures { result ≡ direct_then_package first.now second.now }
-{
-    first.changes() && second.changes() && first.target() == second.dotted_source()
-}
+use desk_packages::{
+    Keyed, PackageRename, Separator, changing_for, front_end, rules_at, rules_under,
+};
+use std::alloc::Global;
+use std::collections::BTreeSet;
 
 /// What the first of two rules gives is changed as what it is: a package as a package, a name as a name.
 struct AsGiven;
@@ -135,250 +31,314 @@ struct TextAsPackage;
 
 /// What may come first in a chain: what it gives may be changed by a second rule, which takes it for a package or for a text.
 trait LeadsTo<B: Keyed, Taken>: Keyed {
-    ghost use Rattle.std.specs.Prelude.{Bool, List};
+    ghost use Rattle.std.specs.Prelude.{Bool, List, ℕ};
 
     ghost leads: { Self → B → Bool };
 
+    ghost gives: { Self → List ℕ → Type 0 };
+
     ghost in_order: { List B → Type 0 };
 
-    /// The first rule, by its key, that changes what this one gives.
-    fn second<'r>(&self, rules: &'r [B]) -> Option<&'r B>
+    /// Whether a rule changes what this one gives.
+    fn leads_to(&self, second: &B) -> bool
+        ensures { result ≡ leads self.now second.now };
+
+    /// Those of the rules that are looked through for the first that changes what this one gives: it stands among them where
+    /// there is one.
+    fn candidates<'r>(&self, rules: &'r [B]) -> &'r [B]
         requires { in_order rules.now }
-        ensures { option_copied result ≡ find (leads self.now) rules.now };
+        ensures { find (leads self.now) result.now ≡ find (leads self.now) rules.now };
+
+    /// Where there may be many candidates, a text that tells what this one gives: what gives the same leads to no other rule.
+    fn gift(&self) -> Option<&[u8]>
+        ensures { IfSome result (λ text. Tells gives leads self.now text.now) };
 }
 
 /// Whether one of the renames changes.
-fn some_change(renames: &[Rename]) -> bool
+fn some_change(renames: &[PackageRename]) -> bool
     ensures { result ≡ list_any changes renames.now }
 {
     renames.iter().any(|rename| rename.changes())
 }
 
 /// Whether a rename gives packages below its target, and a changing rename has its source there.
-fn leads_below(first: &Rename, renames: &[Rename]) -> bool
+fn leads_below(first: &PackageRename, renames: &[PackageRename]) -> bool
     requires { RiseBy key_of renames.now }
     ensures { result ≡ (first.now.below && list_any changes (filter (λ r. starts_with ◌==◌ (key_of r) (written dot first.now.target ++ 46 ∷ [])) renames.now)) }
 {
     first.is_below() && some_change(rules_under(renames, first.target_start()))
 }
 
-/// The first rename that changes what this one gives.
-fn rename_after<'r>(first: &Rename, renames: &'r [Rename]) -> Option<&'r Rename>
-    ensures { option_copied result ≡ find (rename_then_rename first.now) renames.now }
+/// What a changing rename gives, as a text: its target with dots, and a dot behind it where it gives packages below too.
+fn gift_of(rename: &PackageRename) -> Option<&[u8]>
+    ensures { IfSome result (λ text. IsGift rename.now text.now) }
 {
-    renames
-        .iter()
-        .find(|second| rename_and_rename(first, second))
-}
-
-/// The first direct rule that changes what this rename gives.
-fn direct_after_rename<'r>(first: &Rename, rules: &'r [DirectRule]) -> Option<&'r DirectRule>
-    ensures { option_copied result ≡ find (rename_then_direct first.now) rules.now }
-{
-    rules.iter().find(|second| rename_and_direct(first, second))
-}
-
-/// The first rename that changes what this direct rule gives.
-fn rename_after_direct<'r>(first: &DirectRule, renames: &'r [Rename]) -> Option<&'r Rename>
-    ensures { option_copied result ≡ find (direct_then_rename first.now) renames.now }
-{
-    renames
-        .iter()
-        .find(|second| direct_and_rename(first, second))
-}
-
-/// The first rename that changes, as a dotted name, the package that this one gives.
-fn rename_after_package<'r>(first: &Rename, renames: &'r [Rename]) -> Option<&'r Rename>
-    ensures { option_copied result ≡ find (package_then_name first.now) renames.now }
-{
-    renames
-        .iter()
-        .find(|second| package_and_name(first, second))
-}
-
-/// The first rename whose source is a dotted name that this one gives.
-fn rename_after_name<'r>(first: &Rename, renames: &'r [Rename]) -> Option<&'r Rename>
-    ensures { option_copied result ≡ find (name_then_package first.now) renames.now }
-{
-    renames
-        .iter()
-        .find(|second| name_and_package(first, second))
-}
-
-/// The first rename of the package that this direct rule gives.
-fn package_after_direct<'r>(first: &DirectRule, renames: &'r [Rename]) -> Option<&'r Rename>
-    ensures { option_copied result ≡ find (direct_then_package first.now) renames.now }
-{
-    renames
-        .iter()
-        .find(|second| direct_and_package(first, second))
-}
-
-impl LeadsTo<Rename, AsGiven> for Rename {
-    ghost use Rattle.desk_packages.specs.Keys.{IsTable};
-    ghost use Rattle.desk_chains.specs.Chains.{rename_then_rename};
-
-    ghost leads = { rename_then_rename };
-
-    ghost in_order = { IsTable };
-
-    fn second<'r>(&self, rules: &'r [Rename]) -> Option<&'r Rename> {
-        if !self.changes() {
-            return None;
-        }
-        let _ = self.is_formed();
-        match changing_for(rules, self.dotted_target(), Separator::Dot) {
-            Some(_) => rename_after(self, rules),
-            None if leads_below(self, rules) => rename_after(self, rules),
-            None => None,
-        }
+    let _ = rename.is_formed();
+    if !rename.changes() {
+        return None;
+    }
+    if rename.is_below() {
+        Some(rename.target_start())
+    } else {
+        Some(rename.dotted_target())
     }
 }
 
-impl LeadsTo<DirectRule, AsGiven> for Rename {
+impl LeadsTo<PackageRename, AsGiven> for PackageRename {
+    ghost use Rattle.desk_packages.specs.Keys.{IsTable};
+    ghost use Rattle.desk_chains.specs.Chains.{rename_then_rename};
+    ghost use Rattle.desk_chains.specs.Gifts.{IsGift};
+
+    ghost leads = { rename_then_rename };
+
+    ghost gives = { IsGift };
+
+    ghost in_order = { IsTable };
+
+    fn leads_to(&self, second: &PackageRename) -> bool {
+        self.changes() && second.changes() && meet(self, second)
+    }
+
+    fn candidates<'r>(&self, rules: &'r [PackageRename]) -> &'r [PackageRename] {
+        if !self.changes() {
+            return &rules[..0];
+        }
+        let _ = self.is_formed();
+        match changing_for(rules, self.dotted_target(), Separator::Dot) {
+            Some(_) => rules,
+            None if leads_below(self, rules) => rules,
+            None => &rules[..0],
+        }
+    }
+
+    fn gift(&self) -> Option<&[u8]> {
+        gift_of(self)
+    }
+}
+
+impl LeadsTo<DirectRule, AsGiven> for PackageRename {
     ghost use Rattle.desk_packages.specs.Keys.{RiseBy};
     ghost use Rattle.desk_chains.specs.Chains.{rename_then_direct};
-    ghost use Rattle.desk_chains.specs.Exchanges.{old_text};
+    ghost use Rattle.desk_entries.specs.Exchanges.{old_text};
+    ghost use Rattle.desk_chains.specs.Gifts.{IsGift};
 
     ghost leads = { rename_then_direct };
 
+    ghost gives = { IsGift };
+
     ghost in_order = { RiseBy old_text };
 
-    fn second<'r>(&self, rules: &'r [DirectRule]) -> Option<&'r DirectRule> {
+    fn leads_to(&self, second: &DirectRule) -> bool {
+        self.changes() && second.changes() && front_in_reach(self, second.key())
+    }
+
+    fn candidates<'r>(&self, rules: &'r [DirectRule]) -> &'r [DirectRule] {
         let _ = self.is_formed();
-        direct_after_rename(self, rules_under(rules, self.target_start()))
+        rules_under(rules, self.target_start())
+    }
+
+    fn gift(&self) -> Option<&[u8]> {
+        gift_of(self)
     }
 }
 
 impl LeadsTo<DirectRule, AsGiven> for DirectRule {
     ghost use Rattle.desk_packages.specs.Keys.{RiseBy};
     ghost use Rattle.desk_chains.specs.Chains.{one_then_another};
-    ghost use Rattle.desk_chains.specs.Exchanges.{old_text};
+    ghost use Rattle.desk_entries.specs.Exchanges.{old_text};
+    ghost use Rattle.desk_chains.specs.Gifts.{GivesNoText};
 
     ghost leads = { one_then_another };
 
+    ghost gives = { GivesNoText };
+
     ghost in_order = { RiseBy old_text };
 
-    fn second<'r>(&self, rules: &'r [DirectRule]) -> Option<&'r DirectRule> {
-        match rule_of(rules, self.target()) {
-            Some(second) if direct_and_direct(self, second) => Some(second),
-            _ => None,
-        }
+    fn leads_to(&self, second: &DirectRule) -> bool {
+        self.changes() && second.changes() && self.target() == second.key()
+    }
+
+    fn candidates<'r>(&self, rules: &'r [DirectRule]) -> &'r [DirectRule] {
+        rules_at(rules, self.target())
+    }
+
+    fn gift(&self) -> Option<&[u8]> {
+        None
     }
 }
 
-impl LeadsTo<Rename, AsGiven> for DirectRule {
+impl LeadsTo<PackageRename, AsGiven> for DirectRule {
     ghost use Rattle.desk_packages.specs.Keys.{IsTable};
     ghost use Rattle.desk_chains.specs.Chains.{direct_then_rename};
+    ghost use Rattle.desk_chains.specs.Gifts.{GivesNoText};
 
     ghost leads = { direct_then_rename };
 
+    ghost gives = { GivesNoText };
+
     ghost in_order = { IsTable };
 
-    fn second<'r>(&self, rules: &'r [Rename]) -> Option<&'r Rename> {
+    fn leads_to(&self, second: &PackageRename) -> bool {
+        self.changes() && second.changes() && front_in_scope(second, self.target())
+    }
+
+    fn candidates<'r>(&self, rules: &'r [PackageRename]) -> &'r [PackageRename] {
         let text = self.target();
         if !self.changes() {
-            return None;
+            return &rules[..0];
         }
         if !is_dotted(text) {
-            return None;
+            return &rules[..0];
         }
         match changing_for(rules, &text[..front_end(text, b'.')], Separator::Dot) {
-            Some(_) => rename_after_direct(self, rules),
-            None => None,
+            Some(_) => rules,
+            None => &rules[..0],
         }
+    }
+
+    fn gift(&self) -> Option<&[u8]> {
+        None
     }
 }
 
 impl LeadsTo<BundleRule, AsGiven> for BundleRule {
     ghost use Rattle.desk_packages.specs.Keys.{RiseBy};
     ghost use Rattle.desk_chains.specs.Chains.{update_then_update};
-    ghost use Rattle.desk_chains.specs.Exchanges.{old_name};
+    ghost use Rattle.desk_entries.specs.Exchanges.{old_name};
+    ghost use Rattle.desk_chains.specs.Gifts.{GivesNoText};
 
     ghost leads = { update_then_update };
 
+    ghost gives = { GivesNoText };
+
     ghost in_order = { RiseBy old_name };
 
-    fn second<'r>(&self, rules: &'r [BundleRule]) -> Option<&'r BundleRule> {
-        match rule_of(rules, self.name()) {
-            Some(second) if bundle_and_bundle(self, second) => Some(second),
-            _ => None,
-        }
+    fn leads_to(&self, second: &BundleRule) -> bool {
+        self.changes() && second.changes() && self.name() == second.key()
+    }
+
+    fn candidates<'r>(&self, rules: &'r [BundleRule]) -> &'r [BundleRule] {
+        rules_at(rules, self.name())
+    }
+
+    fn gift(&self) -> Option<&[u8]> {
+        None
     }
 }
 
-impl LeadsTo<Rename, PackageAsText> for Rename {
+impl LeadsTo<PackageRename, PackageAsText> for PackageRename {
     ghost use Rattle.desk_packages.specs.Keys.{IsTable};
     ghost use Rattle.desk_chains.specs.Chains.{package_then_name};
+    ghost use Rattle.desk_chains.specs.Gifts.{GivesNoText};
 
     ghost leads = { package_then_name };
 
+    ghost gives = { GivesNoText };
+
     ghost in_order = { IsTable };
 
-    fn second<'r>(&self, rules: &'r [Rename]) -> Option<&'r Rename> {
+    fn leads_to(&self, second: &PackageRename) -> bool {
+        self.changes() && second.changes() && target_in_scope(second, self)
+    }
+
+    fn candidates<'r>(&self, rules: &'r [PackageRename]) -> &'r [PackageRename] {
         if !self.changes() {
-            return None;
+            return &rules[..0];
         }
         let _ = self.is_formed();
         let target = self.dotted_target();
         match changing_for(rules, &target[..front_end(target, b'.')], Separator::Dot) {
-            Some(_) => rename_after_package(self, rules),
-            None => None,
+            Some(_) => rules,
+            None => &rules[..0],
         }
+    }
+
+    fn gift(&self) -> Option<&[u8]> {
+        None
     }
 }
 
-impl LeadsTo<Rename, TextAsPackage> for Rename {
+impl LeadsTo<PackageRename, TextAsPackage> for PackageRename {
     ghost use Rattle.desk_packages.specs.Keys.{IsTable};
     ghost use Rattle.desk_chains.specs.Chains.{name_then_package};
+    ghost use Rattle.desk_chains.specs.Gifts.{IsGift};
 
     ghost leads = { name_then_package };
 
+    ghost gives = { IsGift };
+
     ghost in_order = { IsTable };
 
-    fn second<'r>(&self, rules: &'r [Rename]) -> Option<&'r Rename> {
+    fn leads_to(&self, second: &PackageRename) -> bool {
+        self.changes() && second.changes() && source_in_reach(self, second)
+    }
+
+    fn candidates<'r>(&self, rules: &'r [PackageRename]) -> &'r [PackageRename] {
         let _ = self.is_formed();
-        rename_after_name(self, rules_under(rules, self.target_start()))
+        rules_under(rules, self.target_start())
+    }
+
+    fn gift(&self) -> Option<&[u8]> {
+        gift_of(self)
     }
 }
 
-impl LeadsTo<DirectRule, PackageAsText> for Rename {
+impl LeadsTo<DirectRule, PackageAsText> for PackageRename {
     ghost use Rattle.desk_packages.specs.Keys.{RiseBy};
     ghost use Rattle.desk_chains.specs.Chains.{package_then_direct};
-    ghost use Rattle.desk_chains.specs.Exchanges.{old_text};
+    ghost use Rattle.desk_entries.specs.Exchanges.{old_text};
+    ghost use Rattle.desk_chains.specs.Gifts.{GivesNoText};
 
     ghost leads = { package_then_direct };
 
+    ghost gives = { GivesNoText };
+
     ghost in_order = { RiseBy old_text };
 
-    fn second<'r>(&self, rules: &'r [DirectRule]) -> Option<&'r DirectRule> {
-        match rule_of(rules, self.dotted_target()) {
-            Some(second) if package_and_direct(self, second) => Some(second),
-            _ => None,
-        }
+    fn leads_to(&self, second: &DirectRule) -> bool {
+        self.changes() && second.changes() && self.dotted_target() == second.key()
+    }
+
+    fn candidates<'r>(&self, rules: &'r [DirectRule]) -> &'r [DirectRule] {
+        rules_at(rules, self.dotted_target())
+    }
+
+    fn gift(&self) -> Option<&[u8]> {
+        None
     }
 }
 
-impl LeadsTo<Rename, TextAsPackage> for DirectRule {
+impl LeadsTo<PackageRename, TextAsPackage> for DirectRule {
     ghost use Rattle.desk_packages.specs.Keys.{IsTable};
     ghost use Rattle.desk_chains.specs.Chains.{direct_then_package};
+    ghost use Rattle.desk_chains.specs.Gifts.{GivesNoText};
 
     ghost leads = { direct_then_package };
 
+    ghost gives = { GivesNoText };
+
     ghost in_order = { IsTable };
 
-    fn second<'r>(&self, rules: &'r [Rename]) -> Option<&'r Rename> {
+    fn leads_to(&self, second: &PackageRename) -> bool {
+        self.changes() && second.changes() && self.target() == second.dotted_source()
+    }
+
+    fn candidates<'r>(&self, rules: &'r [PackageRename]) -> &'r [PackageRename] {
         let text = self.target();
         if !self.changes() {
-            return None;
+            return &rules[..0];
         }
         if !is_dotted(text) {
-            return None;
+            return &rules[..0];
         }
         match changing_for(rules, text, Separator::Dot) {
-            Some(_) => package_after_direct(self, rules),
-            None => None,
+            Some(_) => rules,
+            None => &rules[..0],
         }
+    }
+
+    fn gift(&self) -> Option<&[u8]> {
+        None
     }
 }
 
@@ -393,8 +353,25 @@ pub struct Chained<'r> {
     pub second: &'r [u8],
 }
 
-/// The first chain of a kind: by the first key, then by the second.
+/// The first of some rules that changes what another gives.
+fn first_led<'r, Taken, A: LeadsTo<B, Taken>, B: Keyed>(first: &A, rules: &'r [B]) -> Option<&'r B>
+    ensures { option_copied result ≡ find (A.leads first.now) rules.now }
+{
+    rules.iter().find(|second| first.leads_to(second))
+}
+
+/// The first rule, by its key, that changes what another gives.
+fn second_of<'r, Taken, A: LeadsTo<B, Taken>, B: Keyed>(first: &A, rules: &'r [B]) -> Option<&'r B>
+    requires { A.in_order rules.now }
+    ensures { option_copied result ≡ find (A.leads first.now) rules.now }
+{
+    first_led::<Taken, _, _>(first, first.candidates(rules))
+}
+
+/// The first chain of a kind: by the first key, then by the second. What gives what an earlier rule gave in vain isn't looked
+/// for again, unless memory lacks to note it.
 fn first_between<'r, Taken, A: LeadsTo<B, Taken>, B: Keyed>(
+    alloc: Global,
     kind: ChainKind,
     firsts: &'r [A],
     seconds: &'r [B],
@@ -404,22 +381,29 @@ fn first_between<'r, Taken, A: LeadsTo<B, Taken>, B: Keyed>(
         (chain_of kind A.key_of B.key_of (first_pair A.leads firsts.now seconds.now) ≡ None)
         (λ f. chain_of kind A.key_of B.key_of (first_pair A.leads firsts.now seconds.now) ≡ Some (chain_at f.kind f.first.now f.second.now)) }
 {
+    let mut tried = BTreeSet::new(alloc);
     for first in firsts {
-        if let Some(second) = first.second(seconds) {
+        let given = first.gift();
+        if holds(&tried, given) {
+            continue;
+        }
+        if let Some(second) = second_of::<Taken, _, _>(first, seconds) {
             return Some(Chained {
                 kind,
                 first: first.key(),
                 second: second.key(),
             });
         }
+        note(&mut tried, given);
     }
     None
 }
 
 /// The first chain of a kind among renames, direct rules and bundle updates.
 fn first_of<'r>(
+    alloc: Global,
     kind: ChainKind,
-    renames: &'r [Rename],
+    renames: &'r [PackageRename],
     direct: &'r [DirectRule],
     bundles: &'r [BundleRule],
 ) -> Option<Chained<'r>>
@@ -431,21 +415,34 @@ fn first_of<'r>(
         (λ f. first_chain_of kind renames.now direct.now bundles.now ≡ Some (chain_at f.kind f.first.now f.second.now)) }
 {
     match kind {
-        ChainKind::RenameThenRename => first_between::<AsGiven, _, _>(kind, renames, renames),
-        ChainKind::RenameThenDirect => first_between::<AsGiven, _, _>(kind, renames, direct),
-        ChainKind::DirectThenDirect => first_between::<AsGiven, _, _>(kind, direct, direct),
-        ChainKind::DirectThenRename => first_between::<AsGiven, _, _>(kind, direct, renames),
-        ChainKind::BundleThenBundle => first_between::<AsGiven, _, _>(kind, bundles, bundles),
-        ChainKind::PackageThenName => first_between::<PackageAsText, _, _>(kind, renames, renames),
-        ChainKind::NameThenPackage => first_between::<TextAsPackage, _, _>(kind, renames, renames),
-        ChainKind::PackageThenDirect => first_between::<PackageAsText, _, _>(kind, renames, direct),
-        ChainKind::DirectThenPackage => first_between::<TextAsPackage, _, _>(kind, direct, renames),
+        ChainKind::RenameThenRename => first_between::<AsGiven, _, _>(
+            alloc, kind, renames, renames,
+        ),
+        ChainKind::RenameThenDirect => first_between::<AsGiven, _, _>(alloc, kind, renames, direct),
+        ChainKind::DirectThenDirect => first_between::<AsGiven, _, _>(alloc, kind, direct, direct),
+        ChainKind::DirectThenRename => first_between::<AsGiven, _, _>(alloc, kind, direct, renames),
+        ChainKind::BundleThenBundle => first_between::<AsGiven, _, _>(
+            alloc, kind, bundles, bundles,
+        ),
+        ChainKind::PackageThenName => first_between::<PackageAsText, _, _>(
+            alloc, kind, renames, renames,
+        ),
+        ChainKind::NameThenPackage => first_between::<TextAsPackage, _, _>(
+            alloc, kind, renames, renames,
+        ),
+        ChainKind::PackageThenDirect => first_between::<PackageAsText, _, _>(
+            alloc, kind, renames, direct,
+        ),
+        ChainKind::DirectThenPackage => first_between::<TextAsPackage, _, _>(
+            alloc, kind, direct, renames,
+        ),
     }
 }
 
-/// The first chain of the kinds in which a string is a package. It takes no memory.
+/// The first chain of the kinds in which a string is a package.
 fn first_with_packages<'r>(
-    renames: &'r [Rename],
+    alloc: Global,
+    renames: &'r [PackageRename],
     direct: &'r [DirectRule],
     bundles: &'r [BundleRule],
 ) -> Option<Chained<'r>>
@@ -456,26 +453,40 @@ fn first_with_packages<'r>(
         (first_package_chain renames.now direct.now bundles.now ≡ None)
         (λ f. first_package_chain renames.now direct.now bundles.now ≡ Some (chain_at f.kind f.first.now f.second.now)) }
 {
-    let found = first_of(ChainKind::PackageThenName, renames, direct, bundles);
+    let found = first_of(alloc, ChainKind::PackageThenName, renames, direct, bundles);
     if found.is_some() {
         return found;
     }
-    let found = first_of(ChainKind::NameThenPackage, renames, direct, bundles);
+    let found = first_of(alloc, ChainKind::NameThenPackage, renames, direct, bundles);
     if found.is_some() {
         return found;
     }
-    let found = first_of(ChainKind::PackageThenDirect, renames, direct, bundles);
+    let found = first_of(
+        alloc,
+        ChainKind::PackageThenDirect,
+        renames,
+        direct,
+        bundles,
+    );
     if found.is_some() {
         return found;
     }
-    first_of(ChainKind::DirectThenPackage, renames, direct, bundles)
+    first_of(
+        alloc,
+        ChainKind::DirectThenPackage,
+        renames,
+        direct,
+        bundles,
+    )
 }
 
 /// The first chain among renames, direct rules and bundle updates: by its kind, in the order of `ChainKind`, then by the first
 /// key, then by the second; none exactly where no rule changes what another gives. The rules of each kind stand in byte order of
-/// their keys, and each rename has the form of one. It takes no memory.
+/// their keys, and each rename has the form of one. It takes memory to look only once for what several rules give, and where that
+/// lacks it looks again.
 pub fn first_chain<'r>(
-    renames: &'r [Rename],
+    alloc: Global,
+    renames: &'r [PackageRename],
     direct: &'r [DirectRule],
     bundles: &'r [BundleRule],
 ) -> Option<Chained<'r>>
@@ -486,25 +497,25 @@ pub fn first_chain<'r>(
         (first_chain_in renames.now direct.now bundles.now ≡ None)
         (λ f. first_chain_in renames.now direct.now bundles.now ≡ Some (chain_at f.kind f.first.now f.second.now)) }
 {
-    let found = first_of(ChainKind::RenameThenRename, renames, direct, bundles);
+    let found = first_of(alloc, ChainKind::RenameThenRename, renames, direct, bundles);
     if found.is_some() {
         return found;
     }
-    let found = first_of(ChainKind::RenameThenDirect, renames, direct, bundles);
+    let found = first_of(alloc, ChainKind::RenameThenDirect, renames, direct, bundles);
     if found.is_some() {
         return found;
     }
-    let found = first_of(ChainKind::DirectThenDirect, renames, direct, bundles);
+    let found = first_of(alloc, ChainKind::DirectThenDirect, renames, direct, bundles);
     if found.is_some() {
         return found;
     }
-    let found = first_of(ChainKind::DirectThenRename, renames, direct, bundles);
+    let found = first_of(alloc, ChainKind::DirectThenRename, renames, direct, bundles);
     if found.is_some() {
         return found;
     }
-    let found = first_of(ChainKind::BundleThenBundle, renames, direct, bundles);
+    let found = first_of(alloc, ChainKind::BundleThenBundle, renames, direct, bundles);
     if found.is_some() {
         return found;
     }
-    first_with_packages(renames, direct, bundles)
+    first_with_packages(alloc, renames, direct, bundles)
 }

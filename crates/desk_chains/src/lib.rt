@@ -2,17 +2,18 @@
 //!
 //! ```text
 //! let renames = vec![in alloc; first, second]?; // `a` to `b`, and `b` to `c`, in byte order of their keys
-//! first_chain(&renames, &direct, &bundles); // Some: RenameThenRename, `a` and `b`
+//! first_chain(alloc, &renames, &direct, &bundles); // Some: RenameThenRename, `a` and `b`
 //! ```
 #![tactic(auto)]
 
 ghost use Rattle.std.specs.Prelude.{◌≡◌};
 
 mod chain;
-mod keyed;
+mod reaches;
+mod tried;
 
 pub use chain::{Chained, first_chain};
-pub use keyed::{BundleRule, DirectRule};
+pub use reaches::{goes_on, meet, source_in_reach};
 
 /// Which two rules make a chain: the first, and the second, which changes what the first gives.
 #[derive(Clone, Copy, Debug, PartialEq, Eq)]

@@ -1,33 +1,23 @@
 -- Cutting a text at its dots.
-use Rattle.std.proofs.Common.{◌≡◌, ◌≤◌, ◌<◌, ◌+◌, ◌-◌, ℕ, true, false, not, ◌==◌, [], ◌∷◌, ◌++◌, length, take, drop, get_or, refl, sym, ap, ◌∙◌, arith, length-drop}
-use Rattle.std.proofs.lemmas.Bool.{and_parts, and_from, not-true, not_from_false, ne_eqb}
-use Rattle.std.proofs.lemmas.List.Elements.{All-nil, All-cons}
-use Rattle.std.proofs.lemmas.List.{take-append-drop, drop-drop, drop_more, take_more, get_or-drop, append_assoc, take_all}
+use Rattle.std.proofs.Common.{◌≡◌, ◌≤◌, ◌<◌, ◌+◌, ◌-◌, ℕ, true, not, ◌==◌, [], ◌∷◌, ◌++◌, length, take, drop, get_or, refl, sym, ap, ◌∙◌, arith, length-drop}
+use Rattle.std.proofs.lemmas.Bool.{and_from, not_from_false, ne_eqb}
+use Rattle.std.proofs.lemmas.List.{take_more, get_or-drop, append_assoc, take_all}
 use Rattle.std.proofs.lemmas.List.Folds.{list_all-append}
-use Rattle.std.specs.List.{All, slice_split}
+use Rattle.std.specs.List.{slice_split}
 use Rattle.std.proofs.lemmas.List.Splits.{slice_split_at, slice_split_none}
 use Rattle.desk_base.specs.Names.{Text, Package, is_whole}
+use Rattle.desk_base.proofs.Lists.{rest_at}
+use Rattle.desk_base.proofs.Separated.{none_is}
 
 -- the parts of a text between dots
 abbrev pub parts_of : Text → Package
 parts_of text = slice_split (λ b. b == 46) text
-
-none_is : (separator : ℕ) (t : Text) → is_whole separator t ≡ true → All (λ b. (b == separator) ≡ false) t
-none_is separator [] h = All-nil (λ b. (b == separator) ≡ false)
-none_is separator (b ∷ t) h =
-    All-cons (λ b. (b == separator) ≡ false) b t (not-true _ (and_parts _ _ h).0) (none_is separator t (and_parts _ _ h).1)
 
 -- how far a text is cut
 pub record IsCutTo (text : Text) (parts : Package) (from i : ℕ) : Type 0 where
   pub order : from ≤ i
   pub cut : parts ++ parts_of (drop from text) ≡ parts_of text
   pub clear : is_whole 46 (take (i - from) (drop from text)) ≡ true
-
-rest_at : (text : Text) (from i : ℕ) → from ≤ i → i < length text → drop from text ≡ take (i - from) (drop from text) ++ get_or text i 0 ∷ drop (i + 1) text
-rest_at text from i order within =
-    let there : from + (i - from) ≡ i = omega arith in
-    sym (take-append-drop (i - from) (drop from text))
-    ∙ ap (λ (t : Text). take (i - from) (drop from text) ++ t) (drop-drop (i - from) from text ∙ ap (λ (n : ℕ). drop n text) there ∙ drop_more text i 0 within)
 
 pub cut_dot : (text : Text) (parts : Package) (from i : ℕ) → IsCutTo text parts from i → i < length text → get_or text i 0 ≡ 46 → (x : Text) → x ≡ take (i - from) (drop from text) → IsCutTo text (parts ++ x ∷ []) (i + 1) (i + 1)
 cut_dot text parts from i so_far within dot x is =

@@ -3,7 +3,7 @@ use Rattle.std.specs.Prelude.{◌≡◌, ⊤, Bool, not, ◌&&◌, ◌||◌, ◌
 use Rattle.std.specs.List.{list_any, before_first, after_first}
 use Rattle.desk_base.specs.Names.{Text, segments, dot, is_dotted, is_empty}
 use Rattle.desk_lines.specs.Blanks.{trimmed_end}
-use Rattle.desk_entries.specs.Forms.{is_semicolon, reach_of, source_text, is_symbolic_name, is_version, is_plain, is_stored}
+use Rattle.desk_entries.specs.Forms.{is_semicolon, reach_of, source_text, is_symbolic_name, is_version, is_plain, is_stored, is_written_package}
 use Rattle.desk_entries.specs.declared.faults.EntryFault.{EntryFault}
 use Rattle.desk_entries.specs.declared.faults.EntryFault.TheVariants.{Key, Value}
 use Rattle.desk_entries.specs.declared.faults.EntryError.{EntryError}
@@ -25,8 +25,8 @@ IsError read Memory = ⊤
 
 abbrev pub rename_between : Reach → Text → Text → Result Rename EntryFault
 rename_between reach source target =
-    if not (is_dotted source) then Err Key
-    else if not (is_dotted target) || not (is_stored target) then Err Value
+    if not (is_written_package source) then Err Key
+    else if not (is_written_package target) then Err Value
     else Ok (record { source = segments dot source; target = segments dot target; reach = reach })
 
 abbrev pub rename_of : Text → Text → Result Rename EntryFault

@@ -2,7 +2,8 @@
 use Rattle.std.specs.Prelude.{ℕ, Bool, not, ◌&&◌, ◌||◌, ◌==◌, nat_lt, nat_le, ◌-◌, length, take, [], ◌∷◌, is_none, if◌then◌else◌}
 use Rattle.std.specs.List.{list_all, ends_with}
 use Rattle.desk_base.specs.Limits.{file_size}
-use Rattle.desk_base.specs.Names.{Text, is_empty, is_letter, is_digit}
+use Rattle.std.specs.Str.{is_utf8}
+use Rattle.desk_base.specs.Names.{Text, is_empty, is_letter, is_digit, is_dotted}
 use Rattle.desk_base.specs.Utf8.{bad_form}
 use Rattle.desk_packages.specs.declared.Reach.{Reach}
 use Rattle.desk_packages.specs.declared.Reach.TheVariants.{Exact, Below}
@@ -51,3 +52,7 @@ is_plain = list_all is_plain_byte
 -- rule file holds
 abbrev pub is_stored : Text → Bool
 is_stored t = nat_le (length t) file_size && is_none (bad_form t)
+
+-- a package as a rule file writes it: identifiers joined by `.`, in UTF-8 and in modified UTF-8
+abbrev pub is_written_package : Text → Bool
+is_written_package t = is_dotted t && is_stored t && is_utf8 t

@@ -4,19 +4,21 @@ ghost use Rattle.std.specs.Prelude.{◌≡◌};
 
 use desk_base::Memory;
 
-/// Which part of an entry hasn't its form.
+/// Which part of an entry of a rule file hasn't the form that the file wants.
 #[derive(Clone, Copy, Debug, PartialEq, Eq)]
 pub enum EntryFault {
-    /// The key.
+    /// The key hasn't the form of a key of its rule file.
     Key,
-    /// The value, where the key has its form.
+    /// The key has its form, and the value hasn't that of its rule file.
     Value,
 }
 
 /// Why an entry isn't read: its first fault, or want of memory.
 #[derive(Clone, Copy, Debug, PartialEq, Eq)]
 pub enum EntryError {
+    /// The entry hasn't its form.
     Fault(EntryFault),
+    /// Memory ran out.
     Memory,
 }
 

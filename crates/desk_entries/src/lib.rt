@@ -10,6 +10,7 @@ ghost use Rattle.std.specs.Prelude.{◌≡◌};
 
 mod bundles;
 mod dots;
+mod exchanges;
 mod faults;
 mod patterns;
 mod renames;
@@ -18,6 +19,7 @@ mod values;
 mod versions;
 
 pub use bundles::{Update, read_update};
+pub use exchanges::{BundleRule, DirectRule};
 pub use faults::{EntryError, EntryFault};
 pub use patterns::{read_mark, read_text_name};
 pub use renames::{Rename, read_rename};

@@ -2,19 +2,19 @@
 
 ghost use Rattle.std.specs.Prelude.{◌≡◌, Ok, IfOk, IfErr};
 ghost use Rattle.desk_base.specs.Names.{segments, dot};
-ghost use Rattle.desk_entries.specs.Forms.{reach_of, source_text};
+ghost use Rattle.desk_entries.specs.Forms.{reach_of, source_text, is_written_package};
 ghost use Rattle.desk_entries.specs.Entries.{rename_of, IsError};
 
 use crate::dots::split_at_dots;
 use crate::faults::{EntryError, EntryFault};
-use crate::values::is_stored;
+use crate::values::{is_stored, is_utf8};
 use desk_base::{Memory, TextList};
 use desk_lines::trim_trailing_blanks;
 use desk_names::is_dotted;
 use desk_packages::Reach;
 use std::alloc::Global;
 
-/// A rename of packages.
+/// An entry of `renames.properties`: packages to be renamed.
 #[derive(Debug, Drop)]
 pub struct Rename {
     /// The segments of the package that is renamed.
@@ -35,6 +35,13 @@ fn cut_key(key: &[u8]) -> (&[u8], Reach)
     } else {
         (key, Reach::Exact)
     }
+}
+
+/// Whether a text is a package as a rule file writes it: identifiers with a `.` between each two, in UTF-8 and in modified UTF-8.
+fn is_written_package(text: &[u8]) -> bool
+    ensures { result ≡ is_written_package text.now }
+{
+    is_dotted(text) && is_stored(text) && is_utf8(text)
 }
 
 /// The segments of a package that is written with dots; an empty text has none.
@@ -58,10 +65,10 @@ pub fn read_rename(alloc: Global, key: &[u8], value: &[u8]) -> Result<Rename, En
 {
     let (source, reach) = cut_key(key);
     let target = trim_trailing_blanks(value);
-    if !is_dotted(source) {
+    if !is_written_package(source) {
         return Err(EntryError::Fault(EntryFault::Key));
     }
-    if !is_dotted(target) || !is_stored(target) {
+    if !is_written_package(target) {
         return Err(EntryError::Fault(EntryFault::Value));
     }
     Ok(Rename {

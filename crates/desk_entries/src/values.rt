@@ -2,9 +2,10 @@
 
 ghost use Rattle.std.specs.Prelude.{◌≡◌};
 ghost use Rattle.std.specs.List.{list_any, before_first, after_first, position_or_len};
+ghost use Rattle.std.specs.Str.{is_utf8};
 ghost use Rattle.desk_entries.specs.Forms.{is_semicolon, is_stored};
 
-use desk_base::{FILE_SIZE, check_utf8};
+use desk_base::{MAX_FILE_SIZE, check_utf8};
 
 /// The place of the first `;`, or the text's length.
 fn place_of_semicolon(text: &[u8]) -> usize
@@ -43,5 +44,15 @@ pub fn cut_at_semicolon(text: &[u8]) -> (&[u8], &[u8])
 pub fn is_stored(text: &[u8]) -> bool
     ensures { result ≡ is_stored text.now }
 {
-    text.len() <= FILE_SIZE && check_utf8(text).is_ok()
+    text.len() <= MAX_FILE_SIZE && check_utf8(text).is_ok()
+}
+
+/// Whether a text is UTF-8. It takes no memory.
+pub(crate) fn is_utf8(text: &[u8]) -> bool
+    ensures { result ≡ is_utf8 text.now }
+{
+    match str::from_utf8(text) {
+        Ok(_) => true,
+        Err(_) => false,
+    }
 }

@@ -12,7 +12,7 @@ use desk_lines::trim_trailing_blanks;
 use desk_names::is_dotted;
 use std::alloc::Global;
 
-/// The versions of a new package.
+/// An entry of `versions.properties`: the versions of a new package.
 #[derive(Debug, Drop)]
 pub struct Versions {
     /// The version where the package is imported.

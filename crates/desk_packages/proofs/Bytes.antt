@@ -1,8 +1,8 @@
 -- Which bytes stand in identifiers and in parts of class names.
-use Rattle.std.proofs.Common.{◌≡◌, ℕ, Bool, true, false, not, ◌==◌, [], ◌∷◌, refl, inl, inr}
-use Rattle.std.specs.List.{list_all}
-use Rattle.std.proofs.lemmas.Bool.{cases_Bool, and_parts, and_from, or_cases, or_parts, eqb-true, not_from_false, not-true, both_ways}
+use Rattle.std.proofs.Common.{◌≡◌, ℕ, true, false, not, ◌==◌, [], ◌∷◌, refl, inl, inr}
+use Rattle.std.proofs.lemmas.Bool.{cases_Bool, and_parts, or_cases, or_parts, eqb-true, not_from_false, not-true, both_ways}
 use Rattle.desk_base.specs.Names.{is_whole, Text, is_part, is_identifier, is_identifier_byte, is_reserved}
+use Rattle.desk_base.proofs.Lists.{all_weaker}
 
 -- no byte of an identifier is reserved in class names
 reserved_not_identifier : (b : ℕ) → is_reserved b ≡ true → is_identifier_byte b ≡ false
@@ -32,18 +32,14 @@ undotted b h = elim (cases_Bool (b == 46)) [
 pub unslashed : (b : ℕ) → not (is_reserved b) ≡ true → not (b == 47) ≡ true
 unslashed b h = not_from_false _ (or_parts _ _ (not-true _ h)).1
 
-pub each_byte : (p q : ℕ → Bool) → ((b : ℕ) → p b ≡ true → q b ≡ true) → (t : Text) → list_all p t ≡ true → list_all q t ≡ true
-each_byte p q weaker [] h = refl
-each_byte p q weaker (b ∷ t) h = and_from _ _ (weaker b (and_parts _ _ h).0) (each_byte p q weaker t (and_parts _ _ h).1)
-
 pub identifier_part : (t : Text) → is_identifier t ≡ true → is_part t ≡ true
 identifier_part [] h = absurd cc
-identifier_part (b ∷ t) h = each_byte is_identifier_byte (λ b. not (is_reserved b)) unreserved (b ∷ t) (and_parts _ _ h).1
+identifier_part (b ∷ t) h = all_weaker is_identifier_byte (λ b. not (is_reserved b)) unreserved (b ∷ t) (and_parts _ _ h).1
 
 pub part_whole : (t : Text) → is_part t ≡ true → is_whole 47 t ≡ true
 part_whole [] h = refl
-part_whole (b ∷ t) h = each_byte (λ b. not (is_reserved b)) (λ b. not (b == 47)) unslashed (b ∷ t) h
+part_whole (b ∷ t) h = all_weaker (λ b. not (is_reserved b)) (λ b. not (b == 47)) unslashed (b ∷ t) h
 
 pub identifier_whole : (t : Text) → is_identifier t ≡ true → is_whole 46 t ≡ true
 identifier_whole [] h = refl
-identifier_whole (b ∷ t) h = each_byte is_identifier_byte (λ b. not (b == 46)) undotted (b ∷ t) (and_parts _ _ h).1
+identifier_whole (b ∷ t) h = all_weaker is_identifier_byte (λ b. not (b == 46)) undotted (b ∷ t) (and_parts _ _ h).1

@@ -1,12 +1,12 @@
 -- Whether a changing rename fits a package.
 use Rattle.std.proofs.Common.{◌≡◌, ◌<◌, ◌≤◌, ◌-◌, ℕ, Bool, true, false, not, ◌&&◌, List, [], ◌∷◌, length, take, Option, Some, None, refl, sym, ap, ◌∙◌, inl, inr, arith}
 use Rattle.std.specs.List.{list_all, find}
-use Rattle.std.proofs.lemmas.Bool.{and_parts, and_from, both_ways, cases_lt, cases_Bool, not_from_false}
+use Rattle.std.proofs.lemmas.Bool.{and_parts, and_from, both_ways, cases_lt, cases_Bool, not_from_false, not-true}
 use Rattle.desk_base.specs.Names.{Text, Package, segments, written, is_identifier, is_empty}
 use Rattle.desk_packages.specs.Renames.{Renaming, in_scope, changes, exact}
 use Rattle.desk_packages.specs.Keys.{is_separator, IsTable, EndsBelow, NoneEnds, IsChanging, NoneChanging, IsNoneBeyond}
 use Rattle.desk_packages.proofs.Picks.{In, Found, find_Some, find_None}
-use Rattle.desk_packages.proofs.Lookup.{Prefix, formed, one_source, fitting, covers_start, prefix_start, covers_only, not_true, written_filled, one_of, contained}
+use Rattle.desk_packages.proofs.Lookup.{Prefix, formed, one_source, fitting, covers_start, prefix_start, covers_only, written_filled, one_of, contained}
 use Rattle.desk_packages.proofs.Searched.{one_key}
 
 module _ (rs : List Renaming) (table : IsTable rs) (s : ℕ) (h : is_separator s ≡ true) (path : Text) where
@@ -72,8 +72,8 @@ module _ (rs : List Renaming) (table : IsTable rs) (s : ℕ) (h : is_separator s
   pub none_but : (r : Renaming) → exact rs (segments s path) ≡ Some r → changes r ≡ false → IsNoneBeyond rs s path 0 → NoneChanging rs (segments s path)
   none_but r found_r stays below x found = none_by x found below (λ plain.
       let f : Found (λ (r : Renaming). not r.below && in_scope r (segments s path)) rs r = find_Some _ rs r found_r in
-      let plain_r : r.below ≡ false = not_true _ (and_parts _ _ f.passes).0 in
+      let plain_r : r.below ≡ false = not-true _ (and_parts _ _ f.passes).0 in
       let source_r : r.source ≡ segments s path = covers_only r.below r.source (segments s path) plain_r (and_parts _ _ f.passes).1 in
-      let source_x : x.source ≡ segments s path = covers_only x.below x.source (segments s path) (not_true _ plain) found.fits in
-      let same : x ≡ r = one_source rs table s h path x r (one_of rs x found.there) f.there false (not_true _ plain) plain_r (ap (written s) (source_x ∙ sym source_r)) in
+      let source_x : x.source ≡ segments s path = covers_only x.below x.source (segments s path) (not-true _ plain) found.fits in
+      let same : x ≡ r = one_source rs table s h path x r (one_of rs x found.there) f.there false (not-true _ plain) plain_r (ap (written s) (source_x ∙ sym source_r)) in
       both_ways (changes x) (ap changes same ∙ stays) found.moves)

@@ -1,16 +1,11 @@
 -- Texts cut at a separator and put together again.
 use Rattle.std.proofs.Common.{◌≡◌, ℕ, Bool, true, false, not, ◌==◌, [], ◌∷◌, ◌++◌, refl, ap, ◌∙◌}
-use Rattle.std.specs.List.{All, slice_split, list_all}
-use Rattle.std.proofs.lemmas.Bool.{and_parts, and_from, not-true, eq-eqb, both_ways}
+use Rattle.std.specs.List.{slice_split, list_all}
+use Rattle.std.proofs.lemmas.Bool.{and_parts, and_from, eq-eqb, both_ways}
 use Rattle.std.proofs.lemmas.List.{append_assoc}
-use Rattle.std.proofs.lemmas.List.Elements.{All-nil, All-cons}
 use Rattle.std.proofs.lemmas.List.Splits.{slice_split_none, slice_split_at, join_with_byte-slice_split}
 use Rattle.desk_base.specs.Names.{Text, Package, segments, written, front, simple, is_empty, is_whole}
-
-pub none_is : (separator : ℕ) (t : Text) → is_whole separator t ≡ true → All (λ b. (b == separator) ≡ false) t
-none_is separator [] h = All-nil (λ b. (b == separator) ≡ false)
-none_is separator (b ∷ t) h =
-    All-cons (λ b. (b == separator) ≡ false) b t (not-true _ (and_parts _ _ h).0) (none_is separator t (and_parts _ _ h).1)
+use Rattle.desk_base.proofs.Separated.{none_is}
 
 -- whole parts, joined and followed by a separator, are cut apart again
 pub split_behind : (separator : ℕ) (x : Text) (xs : Package) (more : Text) → list_all (is_whole separator) (x ∷ xs) ≡ true → slice_split (λ b. b == separator) (written separator (x ∷ xs) ++ separator ∷ more) ≡ (x ∷ xs) ++ slice_split (λ b. b == separator) more
@@ -52,16 +47,6 @@ segments_behind separator part cuts (b ∷ p) (q ∷ ps) more h = split_behind s
 pub written-segments : (separator : ℕ) (t : Text) → written separator (segments separator t) ≡ t
 written-segments separator [] = refl
 written-segments separator (b ∷ t) = join_with_byte-slice_split separator (b ∷ t)
-
-pub front-push : (p : Package) (x : Text) → front (p ++ x ∷ []) ≡ p
-front-push [] x = refl
-front-push (a ∷ []) x = refl
-front-push (a ∷ b ∷ p) x = ap (λ (ps : Package). a ∷ ps) (front-push (b ∷ p) x)
-
-pub simple-push : (p : Package) (x : Text) → simple (p ++ x ∷ []) ≡ x
-simple-push [] x = refl
-simple-push (a ∷ []) x = refl
-simple-push (a ∷ b ∷ p) x = simple-push (b ∷ p) x
 
 pub front_simple : (p : Package) → not (is_empty p) ≡ true → front p ++ simple p ∷ [] ≡ p
 front_simple [] h = absurd cc

@@ -11,3 +11,4 @@ pub mod Ranges
 pub mod Segments
 pub mod Changed
 pub mod HasSource
+pub mod FilledImages

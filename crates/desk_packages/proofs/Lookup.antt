@@ -1,7 +1,7 @@
 -- A rename is found by the bytes of a path as it is picked for the path's package.
 use Rattle.std.proofs.Common.{◌≡◌, ◌<◌, ◌≤◌, ◌+◌, ◌-◌, ℕ, Bool, true, false, cond, not, ◌&&◌, ◌==◌, List, [], ◌∷◌, ◌++◌, length, take, drop, Option, Some, None, nat_lt, refl, sym, ap, ◌∙◌, ◌⊎◌, inl, inr, arith, length-append}
 use Rattle.std.specs.List.{list_all, slice_split, Contains}
-use Rattle.std.proofs.lemmas.Bool.{and_parts, and_from, both_ways, cases_lt, ltb-true, ltb-false}
+use Rattle.std.proofs.lemmas.Bool.{and_parts, and_from, both_ways, cases_lt, ltb-true, ltb-false, not-true}
 use Rattle.std.proofs.lemmas.Slice.Eq.{bytes_eq-Decides}
 use Rattle.std.proofs.lemmas.List.{append-nil, append_assoc, take_at, take_all, take-append-drop, drop_more, get_or_at, length-take-le}
 use Rattle.desk_base.specs.Names.{Text, Package, segments, written, is_identifier, is_empty}
@@ -150,10 +150,6 @@ pub covers_start : (b : Bool) (start p rest : Package) → b ≡ true → p ≡ 
 covers_start true start p rest is e = begins_from p start rest e
 covers_start false start p rest is e = absurd cc
 
-pub not_true : (b : Bool) → not b ≡ true → b ≡ false
-not_true true h = absurd cc
-not_true false h = refl
-
 pub one_of : (rs : List Renaming) (r : Renaming) → Contains rs r → In rs r
 one_of rs r there = rw there.2 at (at_in rs there.0 r there.1)
 
@@ -183,18 +179,18 @@ module _ (rs : List Renaming) (table : IsTable rs) (s : ℕ) (h : is_separator s
   exact_found r found =
       let is : In rs r = one_of rs r found.there in
       let parts = and_parts _ _ found.is in
-      let plain : r.below ≡ false = not_true _ parts.0 in
+      let plain : r.below ≡ false = not-true _ parts.0 in
       let text : written s r.source ≡ path = (bytes_eq-Decides (written s r.source) path).0 parts.1 in
       find_only (λ (r : Renaming). not r.below && in_scope r (segments s path)) rs r is
       (and_from _ _ parts.0 (covers_same r.below r.source (segments s path) plain (written_here r is text)))
       (λ y js test.
-      let plain_y : y.below ≡ false = not_true _ (and_parts _ _ test).0 in
+      let plain_y : y.below ≡ false = not-true _ (and_parts _ _ test).0 in
       let source_y : y.source ≡ segments s path = covers_only y.below y.source (segments s path) plain_y (and_parts _ _ test).1 in
       one_source y r js is false plain_y plain (ap (written s) source_y ∙ written-segments s path ∙ sym text))
 
   pub exact_missing : NoSource rs s path false → exact rs (segments s path) ≡ None
   exact_missing none = find_nothing (λ (r : Renaming). not r.below && in_scope r (segments s path)) rs (λ y js test.
-      let plain_y : y.below ≡ false = not_true _ (and_parts _ _ test).0 in
+      let plain_y : y.below ≡ false = not-true _ (and_parts _ _ test).0 in
       let source_y : y.source ≡ segments s path = covers_only y.below y.source (segments s path) plain_y (and_parts _ _ test).1 in
       none y record {
         there = contained rs y js;

@@ -6,17 +6,17 @@ use Rattle.std.specs.Ordering.{nat_cmp, is_lt, ordering_then}
 use Rattle.std.specs.Cmp.{nat_cmp_is}
 use Rattle.std.specs.Cmp.Lexicographic.{slice_cmp}
 use Rattle.std.specs.List.{filter, starts_with}
+use Rattle.std.specs.Str.{bytes_eq}
 use Rattle.std.proofs.lemmas.Bool.{both_ways, cases_lt, cases_order, cases_Bool, eqb-true, eq-eqb}
 use Rattle.std.proofs.lemmas.List.{get_or_default, get_or-drop, length-drop}
 use Rattle.std.proofs.lemmas.Cmp.{nat_list_cmp_total, nat_cmp_total, tied_itself}
+use Rattle.std.proofs.lemmas.Slice.Eq.{bytes_eq-Decides}
 use Rattle.desk_base.specs.Names.{Text}
-use Rattle.desk_packages.specs.Keys.{RiseBy, IsCutAt, IsLeading}
+use Rattle.desk_base.proofs.Orderings.{less_is, then_is}
+use Rattle.desk_packages.specs.Keys.{RiseBy, IsNowhere, IsPlaceOf, IsCutAt, IsLeading}
 
 tied : (x c : ℕ) → c ≡ x → nat_cmp x c ≡ Equal
 tied x c same = rw same (tied_itself nat_cmp_total x)
-
-then_is : (o p : Ordering) → o ≡ Equal → ordering_then o p ≡ p
-then_is o p e = rw e refl
 
 -- what begins with a text doesn't stand before it
 before_none : (key start : Text) → is_lt (slice_cmp nat_cmp key start) ≡ true → starts_with ◌==◌ key start ≡ false
@@ -56,11 +56,6 @@ behind_none (c ∷ cs) (x ∷ xs) (y ∷ ys) from apart more = elim (cases_Bool 
         ]
       ]
 ]
-
-less_is : (o : Ordering) → is_lt o ≡ true → o ≡ Less
-less_is Less h = refl
-less_is Equal h = absurd cc
-less_is Greater h = absurd cc
 
 -- the items from i on, n of them, are those that pass
 filtered : {A : Type 0} (test : A → Bool) (xs : List A) (i n : ℕ) → i + n ≤ length xs
@@ -120,3 +115,33 @@ module _ {A : Type 0} (f : A → Text) (xs : List A) (rise : RiseBy f xs) (text 
 
       next_at : (n : ℕ) → IsLeading f (drop i xs) text n → (d : A) → i + n < length xs → starts_with ◌==◌ (f (get_or xs (i + n) d)) text ≡ false
       next_at n leading d lt = rw (get_or-drop i xs n d) at (leading.next d (omega (arith, length-drop i xs)))
+
+-- texts of which one stands before the other are two
+apart_less : (a b : Text) → slice_cmp nat_cmp a b ≡ Less → a ≡ b → ⊥
+apart_less a b less same =
+    let tied_b : slice_cmp nat_cmp b b ≡ Equal = tied_itself nat_list_cmp_total b in
+    let less_itself : slice_cmp nat_cmp b b ≡ Less = ap (λ (t : Text). slice_cmp nat_cmp t b) (sym same) ∙ less in
+    absurd (cc (tied_b, less_itself))
+
+other_key : (a b : Text) → (a ≡ b → ⊥) → bytes_eq a b ≡ false
+other_key a b apart = elim (cases_Bool (bytes_eq a b)) [
+  | inl same ↦ absurd (apart ((bytes_eq-Decides a b).0 same))
+  | inr known ↦ known
+]
+
+module _ {A : Type 0} (f : A → Text) (xs : List A) (key : Text) where
+  -- where nothing has a key, none of the items is left
+  pub none_at : IsNowhere f xs key → [] ≡ filter (λ (x : A). bytes_eq (f x) key) xs
+  none_at none = filtered (λ (x : A). bytes_eq (f x) key) xs 0 0 (omega arith)
+      (λ k d lt. absurd (omega arith))
+      (λ k d le lt. absurd (omega arith))
+      (λ k d le lt. other_key (f (get_or xs k d)) key (none k d lt))
+
+  -- the item at a key's place is all that has the key
+  pub one_at : RiseBy f xs → (k : ℕ) → IsPlaceOf f xs key k → take 1 (drop k xs) ≡ filter (λ (x : A). bytes_eq (f x) key) xs
+  one_at rise k at =
+      let within : k < length xs = at.0 in
+      filtered (λ (x : A). bytes_eq (f x) key) xs k 1 (omega arith)
+      (λ j d lt. other_key (f (get_or xs j d)) key (λ same. apart_less (f (get_or xs j d)) (f (get_or xs k d)) (rise j k d lt within) (same ∙ sym (at.1 d))))
+      (λ j d le lt. let here : j ≡ k = omega arith in rw here ((bytes_eq-Decides (f (get_or xs k d)) key).1 (at.1 d)))
+      (λ j d le lt. other_key (f (get_or xs j d)) key (λ same. apart_less (f (get_or xs k d)) (f (get_or xs j d)) (rise k j d (omega arith) lt) (at.1 d ∙ sym same)))

@@ -12,7 +12,7 @@ use Rattle.std.specs.FinMap.{slice_cmp-IsAntisymmetric, nat_cmp-IsAntisymmetric}
 use Rattle.std.proofs.lemmas.Bool.{cases_lt, cases_order, both_ways}
 use Rattle.std.proofs.lemmas.Cmp.{nat_list_cmp_total, tied_itself}
 use Rattle.desk_base.specs.Names.{Text}
-use Rattle.desk_packages.specs.Keys.{RiseBy}
+use Rattle.desk_packages.specs.Keys.{RiseBy, IsNowhere, IsPlaceOf}
 use Rattle.desk_packages.proofs.Picks.{In, Found, find_Some, find_None}
 
 -- one of a list stands at a place, and what stands at a place is one of the list
@@ -97,13 +97,34 @@ module _ {A : Type 0} (f : A → Text) (xs : List A) (rise : RiseBy f xs) (key :
         | inr ge ↦ let more = narrowed.higher at.0 y (omega arith) at.1 in absurd (cc (tied, more))
       ])
 
-  -- the item with the key is found
-  pub found_item : (i : ℕ) (x : A) → i < length xs → x ≡ get_or xs i x → slice_cmp nat_cmp (f x) key ≡ Equal → find (λ x. bytes_eq (f x) key) xs ≡ Some x
-  found_item i x within is tied =
-      let same : f x ≡ key = slice_cmp-IsAntisymmetric nat_cmp-IsAntisymmetric (f x) key tied in
-      let there : In xs x = subst (λ (y : A). In xs y) (sym is) (at_in xs i x within) in
+  -- the item at the key's place is found
+  pub item_at : (k : ℕ) (x : A) → IsPlaceOf f xs key k → x ≡ get_or xs k x → find (λ x. bytes_eq (f x) key) xs ≡ Some x
+  item_at k x at is =
+      let same : f x ≡ key = ap f is ∙ at.1 x in
+      let there : In xs x = subst (λ (y : A). In xs y) (sym is) (at_in xs k x at.0) in
       find_only (λ x. bytes_eq (f x) key) xs x there ((bytes_eq-Decides (f x) key).1 same)
       (λ y js test. one_key f xs rise y x js there ((bytes_eq-Decides (f y) key).0 test ∙ sym same))
+
+module _ {A : Type 0} (f : A → Text) (xs : List A) (key : Text) where
+  -- where all is ruled out, nothing has the key
+  pub nowhere : (low high : ℕ) → Narrowed f xs key low high → high ≤ low → IsNowhere f xs key
+  nowhere low high narrowed done k d within same =
+      let tied : slice_cmp nat_cmp (f (get_or xs k d)) key ≡ Equal = ap (λ (t : Text). slice_cmp nat_cmp t key) same ∙ tied_itself nat_list_cmp_total key in
+      elim (cases_lt k low) [
+        | inl lt ↦ let less = narrowed.lower k d lt in absurd (cc (tied, less))
+        | inr ge ↦ let more = narrowed.higher k d (omega arith) within in absurd (cc (tied, more))
+      ]
+
+  -- what compares equal has the key
+  pub place_found : (i : ℕ) (x : A) → i < length xs → slice_cmp nat_cmp (f (get_or xs i x)) key ≡ Equal → IsPlaceOf f xs key i
+  place_found i x within tied =
+      (within, λ d. ap f (get_or_default xs i d x within) ∙ slice_cmp-IsAntisymmetric nat_cmp-IsAntisymmetric (f (get_or xs i x)) key tied)
+
+  -- where nothing has the key, nothing is found by it
+  pub none_found : IsNowhere f xs key → find (λ x. bytes_eq (f x) key) xs ≡ None
+  none_found none = find_nothing (λ x. bytes_eq (f x) key) xs (λ y is test.
+      let at = in_at xs y is in
+      none at.0 y at.1 (ap f (at.2 y) ∙ (bytes_eq-Decides (f y) key).0 test))
 
 -- what a comparison with the key of an item that was read says of its place
 pub at_place : {A : Type 0} (f : A → Text) (xs : List A) (key k : Text) (i : ℕ) (x : A) (o : Ordering) → x ≡ get_or xs i x → k ≡ f x → o ≡ slice_cmp nat_cmp k key → slice_cmp nat_cmp (f (get_or xs i x)) key ≡ o

@@ -1,11 +1,11 @@
 -- Texts cut at a separator.
-use Rattle.std.proofs.Common.{◌≡◌, ◌<◌, ◌+◌, ℕ, Bool, true, false, cond, ◌==◌, [], ◌∷◌, ◌++◌, length, take, drop, refl, sym, ap, ◌∙◌, inl, inr, arith}
+use Rattle.std.proofs.Common.{◌≡◌, ◌<◌, ◌+◌, ℕ, Bool, true, false, ◌==◌, [], ◌∷◌, ◌++◌, length, take, drop, refl, sym, ap, ◌∙◌, inl, inr, arith}
 use Rattle.std.specs.List.{list_all, slice_split, onto_first}
-use Rattle.std.proofs.lemmas.Bool.{and_parts, and_from, not_from_false, eq-eqb, both_ways}
+use Rattle.std.proofs.lemmas.Bool.{and_parts, eq-eqb, both_ways}
 use Rattle.std.proofs.lemmas.List.{take-append-drop, drop_more}
 use Rattle.std.proofs.lemmas.List.Splits.{slice_split_at, slice_split_none, slice_split-cons_yes, slice_split-cons_no, length-slice_split}
 use Rattle.desk_base.specs.Names.{Text, Package, segments, front, is_name, is_whole}
-use Rattle.desk_packages.proofs.Cuts.{none_is, front-push}
+use Rattle.desk_base.proofs.Separated.{none_is, split_whole, front-push}
 use Rattle.desk_packages.specs.Fronts.{IsLastAt, IsFrontEnd}
 
 onto_first_push : (b : ℕ) (ps : Package) (more : Text) → 0 < length ps → onto_first b (ps ++ more ∷ []) ≡ onto_first b ps ++ more ∷ []
@@ -56,18 +56,6 @@ whole_parts s (b ∷ text) h = ap front (whole_alone s b text h)
 pub front_parts : (s : ℕ) (part : Text → Bool) → part [] ≡ false → (text : Text) (n : ℕ) → is_name part s text ≡ true → IsFrontEnd s text n → front (segments s text) ≡ segments s (take n text)
 front_parts s part filled text n named (inl cut) = ap front (parts_last s part filled text n named cut) ∙ front-push (segments s (take n text)) (drop (n + 1) text)
 front_parts s part filled text n named (inr none) = whole_parts s text none.1 ∙ ap (λ (m : ℕ). segments s (take m text)) (sym none.0)
-
-onto_whole : (s b : ℕ) (ps : Package) → (b == s) ≡ false → list_all (is_whole s) ps ≡ true → list_all (is_whole s) (onto_first b ps) ≡ true
-onto_whole s b [] e h = and_from _ _ (and_from _ _ (not_from_false _ e) refl) refl
-onto_whole s b (p ∷ ps) e h = and_from _ _ (and_from _ _ (not_from_false _ e) (and_parts _ _ h).0) (and_parts _ _ h).1
-
--- the parts of a text hold no separator
-pub split_whole : (s : ℕ) (t : Text) → list_all (is_whole s) (slice_split (λ b. b == s) t) ≡ true
-split_whole s [] = refl
-split_whole s (b ∷ t) = elim (b == s) as (λ (x : Bool). (b == s) ≡ x → list_all (is_whole s) (cond x ([] ∷ slice_split (λ b. b == s) t) (onto_first b (slice_split (λ b. b == s) t))) ≡ true) [
-  | true ↦ λ e. split_whole s t
-  | false ↦ λ e. onto_whole s b (slice_split (λ b. b == s) t) e (split_whole s t)
-] refl
 
 pub segments_whole : (s : ℕ) (t : Text) → list_all (is_whole s) (segments s t) ≡ true
 segments_whole s [] = refl

@@ -1,5 +1,5 @@
 -- How a rename is found by the key that a path would have.
-use Rattle.std.proofs.Common.{◌≡◌, ◌<◌, ◌≤◌, ◌+◌, ℕ, Bool, true, false, not, List, [], ◌∷◌, ◌++◌, length, map, drop, get_or, refl, sym, ap, subst, ◌∙◌, arith}
+use Rattle.std.proofs.Common.{◌≡◌, ◌<◌, ◌≤◌, ◌+◌, ℕ, Bool, true, false, List, [], ◌∷◌, ◌++◌, length, map, drop, get_or, refl, sym, ap, subst, ◌∙◌, arith}
 use Rattle.std.specs.declared.cmp.Ordering.{Ordering}
 use Rattle.std.specs.declared.cmp.Ordering.TheVariants.{Less, Equal, Greater}
 use Rattle.std.specs.Ordering.{nat_cmp}
@@ -7,7 +7,7 @@ use Rattle.std.specs.Cmp.Lexicographic.{slice_cmp}
 use Rattle.std.specs.FinMap.{slice_cmp-IsAntisymmetric, nat_cmp-IsAntisymmetric}
 use Rattle.std.specs.Str.{bytes_eq}
 use Rattle.std.specs.List.{list_all}
-use Rattle.std.proofs.lemmas.Bool.{and_parts, and_from, both_ways}
+use Rattle.std.proofs.lemmas.Bool.{and_parts, and_from, both_ways, not-true}
 use Rattle.std.proofs.lemmas.Slice.Eq.{bytes_eq-Decides}
 use Rattle.std.proofs.lemmas.List.{drop_more, drop_all}
 use Rattle.desk_base.specs.Names.{Text, written, is_identifier}
@@ -27,11 +27,7 @@ separates Slash = refl
 
 kind_is : (b : Bool) (r : Renaming) → is_of_kind b r ≡ true → r.below ≡ b
 kind_is true r h = h
-kind_is false r h = plain r.below h
-  where
-    plain : (b : Bool) → not b ≡ true → b ≡ false
-    plain true h = absurd cc
-    plain false h = refl
+kind_is false r h = not-true r.below h
 
 module _ (rs : List Renaming) (table : IsTable rs) (s : Separator) (path : Text) (below : Bool) where
   formed : (r : Renaming) → In rs r → list_all is_identifier r.source ≡ true

@@ -1,5 +1,5 @@
 -- Keys of renames, and how their sources are found.
-use Rattle.std.specs.Prelude.{◌≡◌, ◌<◌, ◌≤◌, ◌⊎◌, ℕ, Bool, true, false, not, ◌||◌, ◌&&◌, ◌==◌, ◌+◌, nat_lt, List, [], ◌∷◌, ◌++◌, map, take, drop, length, slice_index, slice_index_or, if◌then◌else◌, IsTrue}
+use Rattle.std.specs.Prelude.{◌≡◌, ◌≢◌, ◌<◌, ◌≤◌, ◌⊎◌, ℕ, Bool, true, false, not, ◌||◌, ◌&&◌, ◌==◌, ◌+◌, nat_lt, List, [], ◌∷◌, ◌++◌, map, take, drop, length, slice_index, slice_index_or, if◌then◌else◌, IsTrue}
 use Rattle.std.specs.List.{list_all, Contains, starts_with}
 use Rattle.std.specs.declared.cmp.Ordering.TheVariants.{Less}
 use Rattle.std.specs.Ordering.{nat_cmp, is_lt}
@@ -48,6 +48,14 @@ key_with source below = written dot source ++ wanted_tail below
 -- the items stand in byte order of their keys, each key once
 abbrev pub RiseBy : {A : Type 0} → (A → Text) → List A → Type 0
 RiseBy {A} key items = (i j : ℕ) (d : A) → i < j → j < length items → slice_cmp nat_cmp (key (slice_index_or items i d)) (key (slice_index_or items j d)) ≡ Less
+
+-- no item has a key
+abbrev pub IsNowhere : {A : Type 0} → (A → Text) → List A → Text → Type 0
+IsNowhere {A} key items text = (k : ℕ) (d : A) → k < length items → key (slice_index_or items k d) ≢ text
+
+-- the item at a place has a key
+abbrev pub IsPlaceOf : {A : Type 0} → (A → Text) → List A → Text → ℕ → Type 0
+IsPlaceOf {A} key items text k = (k < length items) × ((d : A) → key (slice_index_or items k d) ≡ text)
 
 -- the keys of the items before low stand before a text in byte order, and those from high on don't
 pub record IsCutAt {A : Type 0} (key : A → Text) (items : List A) (text : Text) (low high : ℕ) : Type 0 where

@@ -13,9 +13,9 @@ mod picking;
 mod rename;
 
 pub use fronts::front_end;
-pub use keyed::{Keyed, rule_of, rules_under};
-pub use picking::{changing_for, is_source, pick};
-pub use rename::Rename;
+pub use keyed::{Keyed, place_of, rule_of, rules_at, rules_under};
+pub use picking::{changing_for, is_source, longest_of, pick};
+pub use rename::PackageRename;
 
 /// What stands between two segments of a package as it is written.
 #[derive(Clone, Copy, Debug, PartialEq, Eq)]
@@ -26,12 +26,12 @@ pub enum Separator {
     Slash,
 }
 
-/// Which packages a rename is for.
+/// Which packages a rename is for, as its key says it.
 #[derive(Clone, Copy, Debug, PartialEq, Eq)]
 pub enum Reach {
-    /// Its source alone.
+    /// The package that the rule names, and no other: the key is the package.
     Exact,
-    /// Its source, and all packages below it.
+    /// That package and all packages below it: the key ends in `.*`.
     Below,
 }
 
@@ -39,7 +39,7 @@ impl Separator {
     ghost use Rattle.std.specs.Prelude.{◌≡◌};
     ghost use Rattle.desk_packages.specs.Keys.{byte_of};
 
-    /// Its byte.
+    /// The byte that a package is written with between two segments.
     pub fn byte(self) -> u8
         ensures { result ≡ byte_of self }
     {

@@ -8,7 +8,7 @@ ghost use Rattle.desk_packages.specs.Renames.{exact, has_source, longest, pick};
 ghost use Rattle.desk_packages.specs.Keys.{byte_of, goes_below, spelled, wanted, wanted_tail, IsTable, IsSource, NoSource, EndsBelow, NoneEnds, IsChanging, NoneChanging, IsNoneBeyond};
 
 use crate::keyed::Keyed;
-use crate::{Reach, Rename, Separator};
+use crate::{PackageRename, Reach, Separator};
 use std::cmp::Ordering;
 
 /// A byte of a path as a key spells it: the separator and `.` change places.
@@ -53,11 +53,11 @@ fn compare(key: &[u8], path: &[u8], separator: u8, reach: Reach) -> Ordering
 
 /// The rename of this reach with the source that a separator writes so; none exactly where there is none.
 fn find<'r>(
-    renames: &'r [Rename],
+    renames: &'r [PackageRename],
     path: &[u8],
     separator: Separator,
     reach: Reach,
-) -> Option<&'r Rename>
+) -> Option<&'r PackageRename>
     requires { IsTable renames.now }
     ensures { MatchOption result
         (NoSource renames.now (byte_of separator) path.now (goes_below reach))
@@ -79,7 +79,11 @@ fn find<'r>(
 }
 
 /// The exact rename of a path's package.
-fn exact_of<'r>(renames: &'r [Rename], path: &[u8], separator: Separator) -> Option<&'r Rename>
+fn exact_of<'r>(
+    renames: &'r [PackageRename],
+    path: &[u8],
+    separator: Separator,
+) -> Option<&'r PackageRename>
     requires { IsTable renames.now }
     ensures { MatchOption result
         (exact renames.now (segments (byte_of separator) path.now) ≡ None)
@@ -90,7 +94,7 @@ fn exact_of<'r>(renames: &'r [Rename], path: &[u8], separator: Separator) -> Opt
 
 /// Whether a package that is written with a separator is the source of a rename, of an exception too, among renames in byte
 /// order of their keys. It takes no memory.
-pub fn is_source(renames: &[Rename], path: &[u8], separator: Separator) -> bool
+pub fn is_source(renames: &[PackageRename], path: &[u8], separator: Separator) -> bool
     requires { IsTable renames.now }
     ensures { result ≡ has_source renames.now (segments (byte_of separator) path.now) }
 {
@@ -102,11 +106,11 @@ pub fn is_source(renames: &[Rename], path: &[u8], separator: Separator) -> bool
 
 /// The below rename whose source is a path up to a place, where a segment ends there.
 fn below_at<'r>(
-    renames: &'r [Rename],
+    renames: &'r [PackageRename],
     path: &[u8],
     separator: Separator,
     end: usize,
-) -> Option<&'r Rename>
+) -> Option<&'r PackageRename>
     requires table { IsTable renames.now }
     requires within { end ≤ length path.now }
     ensures { MatchOption result
@@ -119,10 +123,15 @@ fn below_at<'r>(
     find(renames, &path[..end], separator, Reach::Below)
 }
 
-/// The below rename with the longest source that fits a path's package.
-fn longest_of<'r>(renames: &'r [Rename], path: &[u8], separator: Separator) -> Option<&'r Rename>
+/// The below rename with the longest source that fits a package that is written with a separator, among renames in byte order of
+/// their keys; none exactly where no below rename fits. Exact renames don't count. It takes no memory.
+pub fn longest_of<'r>(
+    renames: &'r [PackageRename],
+    path: &[u8],
+    separator: Separator,
+) -> Option<&'r PackageRename>
     requires { IsTable renames.now }
-    ensures { MatchOption result
+    ensures longest { MatchOption result
         (longest renames.now (segments (byte_of separator) path.now) ≡ None)
         (λ r. longest renames.now (segments (byte_of separator) path.now) ≡ Some r.now) }
 {
@@ -138,7 +147,11 @@ fn longest_of<'r>(renames: &'r [Rename], path: &[u8], separator: Separator) -> O
 
 /// The rename that is picked for a package that is written with a separator, among renames in byte order of their keys: the
 /// exact one, else the longest below one; none exactly where none fits. It takes no memory.
-pub fn pick<'r>(renames: &'r [Rename], path: &[u8], separator: Separator) -> Option<&'r Rename>
+pub fn pick<'r>(
+    renames: &'r [PackageRename],
+    path: &[u8],
+    separator: Separator,
+) -> Option<&'r PackageRename>
     requires { IsTable renames.now }
     ensures { MatchOption result
         (pick renames.now (segments (byte_of separator) path.now) ≡ None)
@@ -152,10 +165,10 @@ pub fn pick<'r>(renames: &'r [Rename], path: &[u8], separator: Separator) -> Opt
 
 /// A changing below rename that fits a path's package.
 fn changing_below<'r>(
-    renames: &'r [Rename],
+    renames: &'r [PackageRename],
     path: &[u8],
     separator: Separator,
-) -> Option<&'r Rename>
+) -> Option<&'r PackageRename>
     requires { IsTable renames.now }
     ensures { MatchOption result
         (IsNoneBeyond renames.now (byte_of separator) path.now 0)
@@ -174,10 +187,10 @@ fn changing_below<'r>(
 /// A rename that changes and fits a package that is written with a separator, among renames in byte order of their keys;
 /// none exactly where there is none. It takes no memory.
 pub fn changing_for<'r>(
-    renames: &'r [Rename],
+    renames: &'r [PackageRename],
     path: &[u8],
     separator: Separator,
-) -> Option<&'r Rename>
+) -> Option<&'r PackageRename>
     requires { IsTable renames.now }
     ensures { MatchOption result
         (NoneChanging renames.now (segments (byte_of separator) path.now))

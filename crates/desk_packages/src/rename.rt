@@ -14,7 +14,7 @@ use std::marker::Model;
 /// A rename of packages: of its source alone, or of all packages below the source too. It keeps its
 /// texts as they are asked for.
 #[derive(Debug, Drop)]
-pub struct Rename {
+pub struct PackageRename {
     source: TextList,
     target: TextList,
     reach: Reach,
@@ -24,7 +24,7 @@ pub struct Rename {
     target_start: Text,
 }
 
-impl Model for Rename {
+impl Model for PackageRename {
     ghost use Rattle.desk_packages.specs.Renames.{Renaming, renaming_code};
     ghost use Rattle.desk_packages.specs.Keys.{IsSpelled, goes_below};
 
@@ -71,18 +71,18 @@ fn start_of(alloc: Global, package: &[Text]) -> Result<Text, Memory>
     Ok(start)
 }
 
-impl Rename {
+impl PackageRename {
     /// The rename of one package to another. The only error is want of memory.
     pub fn new(
         alloc: Global,
         source: TextList,
         target: TextList,
         reach: Reach,
-    ) -> Result<Rename, Memory>
+    ) -> Result<PackageRename, Memory>
         requires { IsTrue (is_rename (renaming source target (goes_below reach))) }
         ensures { IfOk result (λ rename. rename ≡ renaming source target (goes_below reach)) }
     {
-        Ok(Rename {
+        Ok(PackageRename {
             reach,
             changing: source.as_slice() != target.as_slice(),
             key: key_for(alloc, source.as_slice(), reach)?,
@@ -107,14 +107,14 @@ impl Rename {
         self.changing
     }
 
-    /// The segments of the source.
+    /// The segments of the package that is renamed.
     pub fn source(&self) -> &[Text]
         ensures { result.now ≡ self.now.source }
     {
         self.source.as_slice()
     }
 
-    /// The segments of the target.
+    /// The segments of the package that it becomes.
     pub fn target(&self) -> &TextList
         ensures { result.now ≡ self.now.target }
     {
@@ -128,7 +128,7 @@ impl Rename {
         self.target.as_slice()
     }
 
-    /// The source with dots.
+    /// The package that is renamed, written with dots.
     pub fn dotted_source(&self) -> &[u8]
         ensures { result.now ≡ written dot self.now.source }
     {
@@ -140,7 +140,7 @@ impl Rename {
         }
     }
 
-    /// The source as it is written with a separator.
+    /// The package that is renamed, as it is written with a separator.
     pub fn source_text(&self, separator: Separator) -> &[u8]
         ensures { result.now ≡ written (byte_of separator) self.now.source }
     {
@@ -150,7 +150,7 @@ impl Rename {
         }
     }
 
-    /// The target with dots.
+    /// The package that it becomes, written with dots.
     pub fn dotted_target(&self) -> &[u8]
         ensures { result.now ≡ written dot self.now.target }
     {
@@ -182,7 +182,7 @@ impl Rename {
     }
 }
 
-impl Keyed for Rename {
+impl Keyed for PackageRename {
     ghost use Rattle.desk_packages.specs.Renames.{key_of as key_of_rename};
 
     ghost key_of = { key_of_rename };

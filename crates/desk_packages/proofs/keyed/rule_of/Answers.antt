@@ -1,31 +1,12 @@
-use Rattle.std.proofs.Common.{sym, arith}
-use Rattle.desk_packages.proofs.Searched.{lower_still, higher_still, ruled_out, found_item, at_place}
+use Rattle.std.proofs.Common.{sym}
+use Rattle.desk_packages.proofs.Searched.{item_at, none_found}
 use Rattle.desk_packages.proofs.keyed.rule_of.Goals as goal
 
-pub loop-low-preserved-in-Less : goal.loop-low-preserved-in-Less
-loop-low-preserved-in-Less g c =
-    let at = at_place g.R.Keyed.key_of c.args.rules.now c.args.key.now _ _ _ _ c.index-rules-middle.is c.key.ensures c.in-Less.ensures in
-    record {
-      order = omega arith;
-      within = c.loop-low.invariant.within;
-      lower = lower_still g.R.Keyed.key_of c.args.rules.now c.requires c.args.key.now _ _ (omega arith) at;
-      higher = c.loop-low.invariant.higher;
-    }
+pub bounds-rules-place : goal.bounds-rules-place
+bounds-rules-place g c = c.in-Some.ensures.0
 
-pub loop-low-preserved : goal.loop-low-preserved
-loop-low-preserved g c =
-    let at = at_place g.R.Keyed.key_of c.args.rules.now c.args.key.now _ _ _ _ c.index-rules-middle.is c.key.ensures c.in-Greater.ensures in
-    record {
-      order = omega arith;
-      within = omega arith;
-      lower = c.loop-low.invariant.lower;
-      higher = higher_still g.R.Keyed.key_of c.args.rules.now c.requires c.args.key.now _ _ at;
-    }
+pub returns-in-Some : goal.returns-in-Some
+returns-in-Some g c = sym (item_at g.R.Keyed.key_of c.args.rules.now c.requires c.args.key.now c.in-Some.place c.index-rules-place.result c.in-Some.ensures c.index-rules-place.is)
 
-pub returns-in-Equal : goal.returns-in-Equal
-returns-in-Equal g c =
-    let at = at_place g.R.Keyed.key_of c.args.rules.now c.args.key.now _ _ _ _ c.index-rules-middle.is c.key.ensures c.in-Equal.ensures in
-    sym (found_item g.R.Keyed.key_of c.args.rules.now c.requires c.args.key.now _ c.index-rules-middle.result (omega arith) c.index-rules-middle.is (rw (← c.index-rules-middle.is) at at))
-
-pub returns : goal.returns
-returns g c = sym (ruled_out g.R.Keyed.key_of c.args.rules.now c.requires c.args.key.now _ _ c.loop-low.invariant (omega arith))
+pub returns-in-None : goal.returns-in-None
+returns-in-None g c = sym (none_found g.R.Keyed.key_of c.args.rules.now c.args.key.now c.in-None.ensures)
