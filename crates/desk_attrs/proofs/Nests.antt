@@ -9,8 +9,8 @@ use Rattle.desk_base.specs.declared.faults.FaultKind.TheVariants as faults
 use Rattle.desk_base.specs.declared.faults.ReadFault.{ReadFault}
 use Rattle.desk_base.specs.declared.faults.ReadFault.TheVariants as read_faults
 use Rattle.desk_format.specs.declared.attributes.Attribute.{Attribute}
-use Rattle.desk_format.specs.declared.attributes.Place.{Place}
-use Rattle.desk_format.specs.declared.attributes.Place.TheVariants as places
+use Rattle.desk_format.specs.declared.attributes.Location.{Location}
+use Rattle.desk_format.specs.declared.attributes.Location.TheVariants as places
 use Rattle.desk_format.specs.Layouts.{Layout, any}
 use Rattle.desk_format.specs.Attributes.{attribute_named, body_at, attributes_of, inner_attributes, code_head, component_head}
 use Rattle.desk_format.specs.Reading.{Reader, read, times, number_at, index_at, fenced, fence_fault, attribute_at}
@@ -20,7 +20,7 @@ use Rattle.desk_format.proofs.Nested.{nested_in_code, nested_in_component}
 use Rattle.desk_attrs.specs.Heads.{HeadWalked}
 
 -- how deep attributes may nest below those of a place
-abbrev pub rank : Place → ℕ
+abbrev pub rank : Location → ℕ
 rank places.OfCode = 0
 rank places.OfComponent = 0
 rank _ = 1
@@ -35,14 +35,14 @@ pub component_walked : {T : Type 0} (result : Result T ReadFault) (spot : Spot) 
 component_walked result spot us pool w w' h k =
     rw (row_walks pool component_head (inner_attributes places.OfComponent) w w' h) (subst (λ (l : Layout). Walks result (walk (read pool l) w') spot us) (sym nested_in_component) k)
 
-abbrev pub body_in : Place → Pool → ℕ → List ℕ → Reader
+abbrev pub body_in : Location → Pool → ℕ → List ℕ → Reader
 body_in place pool size name = read pool (body_at place size (attribute_named name))
 
-pub attributes_walked : {T : Type 0} (result : Result T ReadFault) (spot : Spot) (us : List Used) (pool : Pool) (place : Place) (w w' : Walk) (n : ℕ) → walk (number_at w16 any) w ≡ Ok w' → n ≡ from_be_bytes w16 (take 2 w.left)
+pub attributes_walked : {T : Type 0} (result : Result T ReadFault) (spot : Spot) (us : List Used) (pool : Pool) (place : Location) (w w' : Walk) (n : ℕ) → walk (number_at w16 any) w ≡ Ok w' → n ≡ from_be_bytes w16 (take 2 w.left)
     → Walks result (walk (times n (attribute_at pool (body_in place pool))) w') spot us → Walks result (walk (read pool (attributes_of place)) w) spot us
 attributes_walked result spot us pool place w w' n h is k = rw (attributes_walk pool (λ size name. body_at place size (attribute_named name)) w w' n h is) k
 
-pub attributes_stopped : (e : ReadFault) (us : List Used) (pool : Pool) (place : Place) (w : Walk) → Stops e (walk (number_at w16 any) w) us → Stops e (walk (read pool (attributes_of place)) w) us
+pub attributes_stopped : (e : ReadFault) (us : List Used) (pool : Pool) (place : Location) (w : Walk) → Stops e (walk (number_at w16 any) w) us → Stops e (walk (read pool (attributes_of place)) w) us
 attributes_stopped e us pool place w h = stops e _ _ us h (λ f k. attributes_stop pool (λ size name. body_at place size (attribute_named name)) w f k)
 
 -- ---- the head of an attribute, and its body
@@ -65,12 +65,12 @@ pub length_stopped : (e : ReadFault) (us : List Used) (pool : Pool) (body : ℕ 
 length_stopped e us pool body w w' named h = stops e _ _ us h (λ f k. length_stops pool (λ size name. read pool (body size (attribute_named name))) w w' f named k)
 
 -- a body that reaches past the end
-pub body_short : (pool : Pool) (place : Place) (w : Walk) (us : List Used) (spot : Spot) (k : Option Attribute) (n at : ℕ) → HeadWalked pool w (walk_at us spot) k n at → length spot.left < n
+pub body_short : (pool : Pool) (place : Location) (w : Walk) (us : List Used) (spot : Spot) (k : Option Attribute) (n at : ℕ) → HeadWalked pool w (walk_at us spot) k n at → length spot.left < n
     → walk (attribute_at pool (body_in place pool)) w ≡ Err (record { fault = record { kind = faults.Truncated; at = spot.at }; before = us })
 body_short pool place w us spot k n at h short = h.goes_on (body_at place) ∙ fence_short n (read pool (body_at place n k)) (walk_at us spot) short
 
 -- one with a fault
-pub body_stopped : (e : ReadFault) (vs : List Used) (pool : Pool) (place : Place) (w : Walk) (us : List Used) (spot inner : Spot) (k : Option Attribute) (n at : ℕ) → HeadWalked pool w (walk_at us spot) k n at
+pub body_stopped : (e : ReadFault) (vs : List Used) (pool : Pool) (place : Location) (w : Walk) (us : List Used) (spot inner : Spot) (k : Option Attribute) (n at : ℕ) → HeadWalked pool w (walk_at us spot) k n at
     → n ≤ length spot.left → inner ≡ first n spot → Stops e (walk (read pool (body_at place n k)) (walk_at us inner)) vs → Stops (fault_in_fence (at + 4) e) (walk (attribute_at pool (body_in place pool)) w) vs
 body_stopped (read_faults.Malformed f) vs pool place w us spot inner k n at h room is fails =
     h.goes_on (body_at place)
@@ -79,7 +79,7 @@ body_stopped (read_faults.Malformed f) vs pool place w us spot inner k n at h ro
 body_stopped read_faults.Memory vs pool place w us spot inner k n at h room is fails = tt
 
 -- one of which bytes are left
-pub body_left : (pool : Pool) (place : Place) (w : Walk) (us vs : List Used) (spot inner behind : Spot) (k : Option Attribute) (n at : ℕ) → HeadWalked pool w (walk_at us spot) k n at
+pub body_left : (pool : Pool) (place : Location) (w : Walk) (us vs : List Used) (spot inner behind : Spot) (k : Option Attribute) (n at : ℕ) → HeadWalked pool w (walk_at us spot) k n at
     → n ≤ length spot.left → inner ≡ first n spot → walk (read pool (body_at place n k)) (walk_at us inner) ≡ Ok (walk_at vs behind) → 0 < length behind.left
     → walk (attribute_at pool (body_in place pool)) w ≡ Err (record { fault = record { kind = faults.AttributeLength; at = at }; before = vs })
 body_left pool place w us vs spot inner behind k n at h room is reads more =
@@ -88,7 +88,7 @@ body_left pool place w us vs spot inner behind k n at h room is reads more =
     ∙ ap (λ (m : ℕ). Err (record { fault = record { kind = faults.AttributeLength; at = m }; before = vs })) (omega (arith, h.place))
 
 -- one that was read to its end
-pub body_done : (pool : Pool) (place : Place) (w : Walk) (us vs : List Used) (spot inner behind new : Spot) (k : Option Attribute) (n at : ℕ) → HeadWalked pool w (walk_at us spot) k n at
+pub body_done : (pool : Pool) (place : Location) (w : Walk) (us vs : List Used) (spot inner behind new : Spot) (k : Option Attribute) (n at : ℕ) → HeadWalked pool w (walk_at us spot) k n at
     → n ≤ length spot.left → inner ≡ first n spot → new ≡ past n spot → walk (read pool (body_at place n k)) (walk_at us inner) ≡ Ok (walk_at vs behind) → length behind.left ≡ 0
     → walk (attribute_at pool (body_in place pool)) w ≡ Ok (walk_at vs new)
 body_done pool place w us vs spot inner behind new k n at h room is moved reads none =

@@ -4,7 +4,7 @@ ghost use Rattle.std.specs.Prelude.{◌≡◌, ◌+◌};
 ghost use Rattle.desk_format.specs.Layouts.{Layout};
 ghost use Rattle.desk_format.specs.Rows.{many};
 ghost use Rattle.desk_format.specs.Attributes.{attribute_named, body_at, attributes_of, code_head, component_head, inner_attributes};
-ghost use Rattle.desk_format.specs.declared.attributes.Place.TheVariants.{OfCode, OfComponent};
+ghost use Rattle.desk_format.specs.declared.attributes.Location.TheVariants.{OfCode, OfComponent};
 ghost use Rattle.desk_format.specs.Reading.{read, times, attribute_at};
 ghost use Rattle.desk_format.specs.Walk.{walk, walk_at, Walks, fault_in_fence};
 ghost use Rattle.desk_annos.specs.Stands.{StandsWithin};
@@ -15,7 +15,7 @@ use crate::parts::{walk_code_head, walk_raw};
 use crate::places::may_stand;
 use desk_annos::{walk_row, walk_u2};
 use desk_base::{Cursor, FaultKind, Malformed, PoolView, ReadFault, UseKind, Visit};
-use desk_format::{Attribute, Place, Slot};
+use desk_format::{Attribute, Location, Slot};
 
 /// The fault of a body whose length stands at an offset, as it is seen from outside.
 fn in_fence(length_at: u32, fault: ReadFault) -> ReadFault
@@ -35,7 +35,7 @@ fn in_fence(length_at: u32, fault: ReadFault) -> ReadFault
     }
 }
 
-/// A Code (JVMS 4.7.3).
+/// The body of a Code: its code, its table of handlers, and its own attributes (JVMS 4.7.3).
 #[cycle(attributes)]
 #[tactic(auto, using(crate::proofs::Nests::code_walked, desk_format::proofs::Walks::row_stopped))]
 fn walk_code<P: PoolView, V: Visit>(
@@ -47,7 +47,7 @@ fn walk_code<P: PoolView, V: Visit>(
     ensures stands { StandsWithin cursor.old cursor.new }
 {
     walk_code_head(cursor, pool, visit)?;
-    walk_attributes(Place::OfCode, cursor, pool, visit)
+    walk_attributes(Location::OfCode, cursor, pool, visit)
 }
 
 /// A component of a record (JVMS 4.7.30).
@@ -66,10 +66,10 @@ fn walk_component<P: PoolView, V: Visit>(
         Slot::Index(UseKind::FieldDescriptor),
     ];
     walk_row(&head, cursor, pool, visit)?;
-    walk_attributes(Place::OfComponent, cursor, pool, visit)
+    walk_attributes(Location::OfComponent, cursor, pool, visit)
 }
 
-/// So many components.
+/// So many components of a record, one behind the other.
 #[cycle(attributes)]
 #[tactic(auto, using(desk_format::proofs::Walks::times_begin, desk_format::proofs::Walks::times_on, desk_format::proofs::Walks::times_stopped, desk_format::proofs::Walks::times_done))]
 fn walk_components<P: PoolView, V: Visit>(
@@ -87,7 +87,7 @@ fn walk_components<P: PoolView, V: Visit>(
     Ok(())
 }
 
-/// A Record (JVMS 4.7.30).
+/// The body of a Record: its components, behind their two-byte count (JVMS 4.7.30).
 #[cycle(attributes)]
 #[tactic(auto, using(desk_format::proofs::Walks::table_walked, desk_format::proofs::Walks::table_stopped))]
 fn walk_record<P: PoolView, V: Visit>(
@@ -105,7 +105,7 @@ fn walk_record<P: PoolView, V: Visit>(
 /// The body of an attribute of a name at a place; raw where it has no layout there.
 #[cycle(attributes)]
 fn walk_body<P: PoolView, V: Visit>(
-    place: Place,
+    place: Location,
     attribute: Option<Attribute>,
     length: u32,
     cursor: &mut Cursor<'_>,
@@ -139,7 +139,7 @@ fn walk_body<P: PoolView, V: Visit>(
 /// says. The first of these is the answer; what was handed over by then are the uses before it.
 #[cycle(attributes)]
 pub fn walk_attribute<P: PoolView, V: Visit>(
-    place: Place,
+    place: Location,
     cursor: &mut Cursor<'_>,
     pool: &P,
     visit: &mut V,
@@ -163,12 +163,12 @@ pub fn walk_attribute<P: PoolView, V: Visit>(
     }
 }
 
-/// So many attributes at a place.
+/// So many attributes that stand at one place, one behind the other.
 #[cycle(attributes)]
 #[tactic(auto, using(desk_format::proofs::Walks::times_begin, desk_format::proofs::Walks::times_on, desk_format::proofs::Walks::times_stopped, desk_format::proofs::Walks::times_done))]
 fn walk_each_attribute<P: PoolView, V: Visit>(
     count: u16,
-    place: Place,
+    place: Location,
     cursor: &mut Cursor<'_>,
     pool: &P,
     visit: &mut V,
@@ -191,7 +191,7 @@ fn walk_each_attribute<P: PoolView, V: Visit>(
 #[cycle(attributes)]
 #[tactic(auto, using(crate::proofs::Nests::attributes_walked, crate::proofs::Nests::attributes_stopped))]
 pub fn walk_attributes<P: PoolView, V: Visit>(
-    place: Place,
+    place: Location,
     cursor: &mut Cursor<'_>,
     pool: &P,
     visit: &mut V,

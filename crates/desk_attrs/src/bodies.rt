@@ -14,12 +14,12 @@ use desk_annos::{
 };
 use desk_base::{Cursor, PoolView, ReadFault, UseKind, Visit};
 use desk_format::Slot::{Index, Number};
-use desk_format::{Attribute, Place};
+use desk_format::{Attribute, Location};
 
 /// The body of an attribute at one of its places, other than Code and Record.
 pub(crate) fn walk_known<P: PoolView, V: Visit>(
     attribute: Attribute,
-    place: Place,
+    place: Location,
     length: u32,
     cursor: &mut Cursor<'_>,
     pool: &P,

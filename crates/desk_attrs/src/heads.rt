@@ -21,9 +21,9 @@ use desk_format::Attribute;
 pub(crate) struct Head {
     /// The attribute that is named, if its name is known.
     pub attribute: Option<Attribute>,
-    /// How many bytes the body has.
+    /// `attribute_length`: how many bytes the body has (JVMS 4.7).
     pub length: u32,
-    /// The offset of that length.
+    /// The offset of `attribute_length` from the start of the file, in bytes.
     pub length_at: u32,
 }
 

@@ -2,7 +2,7 @@
 //!
 //! ```text
 //! let mut uses = Vec::new(alloc);              // the attributes of a method, behind their count
-//! walk_attributes(Place::OfMethod, &mut cursor, &pool, &mut uses)?;
+//! walk_attributes(Location::OfMethod, &mut cursor, &pool, &mut uses)?;
 //! ```
 #![tactic(auto)]
 
@@ -15,4 +15,5 @@ mod places;
 
 pub use attributes::{walk_attribute, walk_attributes};
 pub use desk_annos::walk_rows;
-pub use desk_format::{Place, Slot};
+pub use desk_format::{Location, Slot};
+pub use names::attribute_named;

@@ -84,7 +84,7 @@ fn named_by_length(size: usize) -> &'static [Attribute]
 }
 
 /// The attribute of a name; none where no attribute has that name.
-pub(crate) fn attribute_named(name: &[u8]) -> Option<Attribute>
+pub fn attribute_named(name: &[u8]) -> Option<Attribute>
     ensures { result ≡ attribute_named name.now }
 {
     for attribute in named_by_length(name.len()) {

@@ -11,6 +11,7 @@ use Rattle.std.specs.BTreeSet.{insert_key}
 use Rattle.std.specs.FinMap.{slice_cmp-IsAntisymmetric, nat_cmp-IsAntisymmetric}
 use Rattle.std.proofs.lemmas.Cmp.{nat_list_cmp_total, tied_itself}
 use Rattle.desk_base.specs.Names.{Text}
+use Rattle.desk_base.proofs.Orderings.{none_sorted}
 use Rattle.desk_packages.proofs.Picks.{In}
 use Rattle.desk_packages.proofs.Searched.{in_at, at_in}
 use Rattle.desk_class.specs.Held.{put_all, ascending}
@@ -129,12 +130,8 @@ in_ascending ts q h = puts_new [] ts q h
 pub from_ascending : (ts : List Text) (q : Text) → In (ascending ts) q → In ts q
 from_ascending ts q h = elim (puts_only [] ts q h) [ inl none ↦ absurd none | inr h ↦ h ]
 
-none_sorted : IsStrictlySortedBy (slice_cmp nat_cmp) []
-unfolding IsStrictlySortedBy
-none_sorted = tt
-
 pub ascending_sorted : (ts : List Text) → IsStrictlySortedBy (slice_cmp nat_cmp) (ascending ts)
-ascending_sorted ts = puts_sorted [] ts none_sorted
+ascending_sorted ts = puts_sorted [] ts (none_sorted (slice_cmp nat_cmp))
 
 -- ---- one ascending list of the same items
 

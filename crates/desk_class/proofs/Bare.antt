@@ -9,8 +9,8 @@ use Rattle.desk_base.specs.Misfits.{misfit}
 use Rattle.desk_format.specs.declared.members.Member.{Member}
 use Rattle.desk_format.specs.declared.attributes.Attribute.{Attribute}
 use Rattle.desk_format.specs.declared.attributes.Attribute.TheVariants as attributes
-use Rattle.desk_format.specs.declared.attributes.Place.{Place}
-use Rattle.desk_format.specs.declared.attributes.Place.TheVariants as places
+use Rattle.desk_format.specs.declared.attributes.Location.{Location}
+use Rattle.desk_format.specs.declared.attributes.Location.TheVariants as places
 use Rattle.desk_format.specs.declared.attributes.Slot.{Slot}
 use Rattle.desk_format.specs.declared.attributes.Slot.TheVariants as slots
 use Rattle.desk_format.specs.Trees.{Tree, Use}
@@ -20,7 +20,7 @@ use Rattle.desk_format.specs.Rows.{u1, u2, rows, many, slot_layout, row_layout, 
 use Rattle.desk_format.specs.Frames.{verification_type, frame}
 use Rattle.desk_format.specs.Annotations.{element, element_cases, annotation, target, type_annotation}
 use Rattle.desk_format.specs.Attributes.{row_of, no_attributes, is_among, body_by, attribute_named, inner_attributes, attributes_of}
-use Rattle.desk_format.specs.Reading.{Got, Reader, item, number_at, raw_at, index_at, nothing_at, and_then, times, value_of, name_of, fenced, attribute_at, read}
+use Rattle.desk_format.specs.Reading.{Got, Reader, item, number_at, raw_at, code_at, index_at, nothing_at, and_then, times, value_of, name_of, fenced, attribute_at, read}
 use Rattle.desk_format.proofs.Steps.{ok_is, then_ok, item_ok, fenced_ok}
 
 -- ---- readers of trees without members
@@ -60,6 +60,9 @@ none_raw : (n : ℕ) → NoMembers (raw_at n)
 unfolding raw_at
 none_raw n = none_item n (λ _. None) (λ at bytes. Tree.raw bytes) (λ at bytes. refl)
 
+none_code : (n : ℕ) → NoMembers (code_at n)
+none_code n = none_item n (λ _. None) (λ at bytes. Tree.code bytes) (λ at bytes. refl)
+
 none_use : (pool : Pool) (kind : UseKind) → NoMembers (index_at pool kind)
 unfolding index_at
 none_use pool kind = none_item 2 (λ bytes. misfit pool kind (from_be_bytes w16 bytes)) (λ at bytes. Tree.used (record { at = at; kind = kind; index = from_be_bytes w16 bytes })) (λ at bytes. refl)
@@ -90,7 +93,7 @@ Bare (Layout.fault kind) = Unit {0}
 pub none_read : (pool : Pool) (l : Layout) → Bare l → NoMembers (read pool l)
 unfolding read
 none_read pool (Layout.number w check) h = none_number w check
-none_read pool (Layout.sized w check) h = none_then _ _ (none_number w check) (λ k. none_raw (value_of w k))
+none_read pool (Layout.sized w check) h = none_then _ _ (none_number w check) (λ k. none_code (value_of w k))
 none_read pool (Layout.raw n) h = none_raw n
 none_read pool (Layout.index kind) h = none_use pool kind
 none_read pool Layout.nothing h = none_nothing
@@ -172,7 +175,7 @@ bare_target =
 bare_type_annotation : Bare type_annotation
 bare_type_annotation = (bare_target, ((tt, (tt, tt)), (bare_annotation, tt)))
 
-bare_body : (inner : Place → Layout) → ((p : Place) → Bare (inner p)) → (a : Attribute) (place : Place) (size : ℕ) → Bare ((row_of inner a).body place size)
+bare_body : (inner : Location → Layout) → ((p : Location) → Bare (inner p)) → (a : Attribute) (place : Location) (size : ℕ) → Bare ((row_of inner a).body place size)
 bare_body inner h attributes.ConstantValue place size = bare_row _
 bare_body inner h attributes.Code place size = ((bare_row _, (tt, (bare_row _, tt))), h places.OfCode)
 bare_body inner h attributes.StackMapTable place size = bare_frame
@@ -205,12 +208,12 @@ bare_body inner h attributes.NestMembers place size = bare_row _
 bare_body inner h attributes.Record place size = (bare_row _, h places.OfComponent)
 bare_body inner h attributes.PermittedSubclasses place size = bare_row _
 
-bare_by : (inner : Place → Layout) → ((p : Place) → Bare (inner p)) → (place : Place) (size : ℕ) (a : Option Attribute) → Bare (body_by (row_of inner) place size a)
+bare_by : (inner : Location → Layout) → ((p : Location) → Bare (inner p)) → (place : Location) (size : ℕ) (a : Option Attribute) → Bare (body_by (row_of inner) place size a)
 bare_by inner h place size None = tt
 bare_by inner h place size (Some a) = bare_pick (is_among (row_of inner a).places place) ((row_of inner a).body place size) (Layout.raw size) (bare_body inner h a place size) tt
 
-bare_inner : (place : Place) → Bare (inner_attributes place)
+bare_inner : (place : Location) → Bare (inner_attributes place)
 bare_inner place = λ size name. bare_by no_attributes (λ p. tt) place size (attribute_named name)
 
-pub bare_attributes : (place : Place) → Bare (attributes_of place)
+pub bare_attributes : (place : Location) → Bare (attributes_of place)
 bare_attributes place = λ size name. bare_by inner_attributes bare_inner place size (attribute_named name)

@@ -4,7 +4,7 @@ use Rattle.desk_base.specs.Spot.{Spot}
 use Rattle.desk_base.specs.declared.faults.ReadFault.{ReadFault}
 use Rattle.desk_base.specs.declared.kinds.Used.{Used}
 use Rattle.desk_base.specs.Entries.{Pool}
-use Rattle.desk_format.specs.declared.attributes.Place.TheVariants.{OfClass}
+use Rattle.desk_format.specs.declared.attributes.Location.TheVariants.{OfClass}
 use Rattle.desk_format.specs.declared.members.Member.{Member}
 use Rattle.desk_format.specs.ClassBody.{class_body}
 use Rattle.desk_format.specs.Layouts.{Layout}

@@ -1,10 +1,9 @@
 -- The texts that a class uses have their forms.
-use Rattle.std.proofs.Common.{◌≡◌, ℕ, ◌+◌, Bool, true, false, cond, ◌&&◌, ◌||◌, ◌==◌, List, [], ◌∷◌, None, Some, Ok, nat_eq, refl, sym, ap, subst, ◌∙◌, if◌then◌else◌}
+use Rattle.std.proofs.Common.{◌≡◌, ℕ, ◌+◌, Bool, true, false, cond, ◌&&◌, ◌||◌, List, [], ◌∷◌, None, Some, Ok, nat_eq, sym, ap, subst, ◌∙◌, if◌then◌else◌}
 use Rattle.std.specs.List.{AllByRecursion}
-use Rattle.std.specs.Str.{bytes_eq}
-use Rattle.std.proofs.lemmas.Bool.{and_parts, or_left, or_right, or_cases, false_from_ne_true, both_ways, eqb-true}
+use Rattle.std.proofs.lemmas.Bool.{and_parts, or_left, or_right, or_cases, false_from_ne_true, both_ways}
 use Rattle.std.proofs.Common.{inl, inr}
-use Rattle.desk_base.specs.Names.{Text, is_class_name, is_reserved}
+use Rattle.desk_base.specs.Names.{Text, is_class_name}
 use Rattle.desk_base.specs.Descriptors.{DescriptorKind, is_descriptor}
 use Rattle.desk_base.specs.Entries.{Entry, utf8, integer, float, long, double, class, string, fieldref, methodref, interface_methodref, name_and_type, method_handle, method_type, dynamic, invoke_dynamic, module_named, package_named, Pool, text_at}
 use Rattle.desk_base.specs.Misfits.{or_else, wrong_entry, wrong_text, misfit}
@@ -18,6 +17,7 @@ use Rattle.desk_base.specs.declared.referents.Form.{Form}
 use Rattle.desk_base.specs.declared.referents.Form.TheVariants as forms
 use Rattle.desk_base.specs.declared.referents.Referent.{Referent}
 use Rattle.desk_base.specs.declared.referents.Referent.TheVariants as referents
+use Rattle.desk_base.proofs.Separated.{no_array}
 use Rattle.desk_format.specs.Classes.{Class, read_class, class_uses, entries_at}
 use Rattle.desk_format.specs.Exchange.{Fits}
 use Rattle.desk_format.specs.Laws.{IsBytes}
@@ -31,8 +31,7 @@ use Rattle.desk_laws.proofs.Moved.{handled_all, has_its_form}
 use Rattle.desk_laws.proofs.Passes.{Neither, neither}
 use Rattle.desk_laws.proofs.Whole.{printed_classes}
 use Rattle.desk_names.specs.Pieces.{pieces, names_in}
-use Rattle.desk_names.proofs.Bytes.{name_from, class_name_is}
-use Rattle.desk_pool.proofs.Begins.{returned_is}
+use Rattle.desk_names.proofs.FieldDescriptors.{field_returned}
 use Rattle.desk_class.specs.Formed.{IsFormed, AreFormed}
 use Rattle.desk_class.specs.Held.{descriptor_names, names_of}
 
@@ -49,12 +48,8 @@ Asks (referents.Text roles.Descriptor forms.Return) = Unit {0}
 Asks (referents.Text roles.Descriptor _) = ⊥
 Asks _ = Unit {0}
 
--- a field descriptor is a return descriptor
-field_return : (t : Text) → is_descriptor DescriptorKind.field t ≡ true → is_descriptor DescriptorKind.return t ≡ true
-field_return t h = returned_is t ∙ or_left (is_descriptor DescriptorKind.field t) (bytes_eq t (86 ∷ [])) h
-
 field_formed : (t : Text) → is_descriptor DescriptorKind.field t ≡ true → (is_descriptor DescriptorKind.return t || is_descriptor DescriptorKind.method t) ≡ true
-field_formed t h = or_left (is_descriptor DescriptorKind.return t) (is_descriptor DescriptorKind.method t) (field_return t h)
+field_formed t h = or_left (is_descriptor DescriptorKind.return t) (is_descriptor DescriptorKind.method t) (field_returned t h)
 
 either_formed : (t : Text) → (is_descriptor DescriptorKind.field t || is_descriptor DescriptorKind.method t) ≡ true → (is_descriptor DescriptorKind.return t || is_descriptor DescriptorKind.method t) ≡ true
 either_formed t h = elim (or_cases (is_descriptor DescriptorKind.field t) (is_descriptor DescriptorKind.method t) h) [
@@ -181,15 +176,6 @@ formed_class bytes c b reads =
     (subst (AreFormed c.pool) (sym (uses-indices c.body)) (formed_in_body c.pool (indices c.body) (all_indices (Fits c.pool) c.body p.fits)))
 
 -- ---- the names of a formed text
-
--- a class name does not begin with `[`
-no_array : (t : Text) → is_class_name t ≡ true → begins_array t ≡ false
-unfolding name_from
-no_array [] named = refl
-no_array (b ∷ t) named = false_from_ne_true (b == 91) (λ e.
-    let P : ℕ → Type 0 = λ c. name_from is_reserved false (c ∷ t) ≡ true in
-    let none : name_from is_reserved false (91 ∷ t) ≡ true = subst P (eqb-true b 91 e) (sym (class_name_is (b ∷ t)) ∙ named) in
-    absurd cc)
 
 pub descriptor_named : (t : Text) → IsFormed roles.Descriptor t → names_of roles.Descriptor t ≡ names_in (pieces t)
 unfolding names_of IsFormed

@@ -79,7 +79,7 @@ member_of_tree : (method : Bool) (at : ℕ) (s : List ℕ) (flags rest attribute
 member_of_tree true at s flags rest attributes = ap (λ (n : ℕ). record { at = n; name = from_be_bytes w16 (take 2 (drop 2 s)); descriptor = from_be_bytes w16 (take 2 (drop 2 (drop 2 s))); method = true } ∷ []) (back at)
 member_of_tree false at s flags rest attributes = ap (λ (n : ℕ). record { at = n; name = from_be_bytes w16 (take 2 (drop 2 s)); descriptor = from_be_bytes w16 (take 2 (drop 2 (drop 2 s))); method = false } ∷ []) (back at)
 
-member_read : (pool : Pool) (method : Bool) (at : ℕ) (s : List ℕ) (got : Got) → read pool (member_layout method) at s ≡ Ok got → member_in got.tree ≡ member_ahead method (record { at = at; left = s }) ∷ []
+pub member_read : (pool : Pool) (method : Bool) (at : ℕ) (s : List ℕ) (got : Got) → read pool (member_layout method) at s ≡ Ok got → member_in got.tree ≡ member_ahead method (record { at = at; left = s }) ∷ []
 unfolding read row_layout
 member_read pool method at s got e =
     let o = then_ok (read pool (head_layout method)) (λ _. read pool (attributes_of (member_place method))) at s got e in

@@ -1,7 +1,6 @@
 -- Numbers of texts, when a text gets one.
-use Rattle.std.proofs.Common.{◌≡◌, ℕ, Bool, true, false, cond, List, Option, Some, None, refl, sym, ap, ◌∙◌, ◌⊎◌, inl, inr, bytes_eq, Bor, slice_get}
+use Rattle.std.proofs.Common.{◌≡◌, ℕ, Bool, true, false, cond, List, Some, None, refl, sym, ap, ◌∙◌, ◌⊎◌, inl, inr, bytes_eq, Bor, slice_get}
 use Rattle.std.specs.BTreeMap.{BTreeMap}
-use Rattle.std.specs.Option.{option_copied}
 use Rattle.std.proofs.lemmas.Slice.Eq.{bytes_eq-Decides}
 use Rattle.desk_base.specs.Names.{Text}
 use Rattle.desk_class.specs.declared.numbers.TextNumbers.{TextNumbers}
@@ -30,10 +29,6 @@ comes_by old new s t i n false p put h = inl (sym put ∙ h)
 
 pub put_comes : (old new : Map) (s : Text) (i : ℕ) → ((t : Text) → number_at new t ≡ cond (bytes_eq s t) (Some i) (number_at old t)) → (t : Text) (n : ℕ) → number_at new t ≡ Some n → (number_at old t ≡ Some n) ⊎ ((t ≡ s) × (n ≡ i))
 put_comes old new s i put t n h = comes_by old new s t i n (bytes_eq s t) refl (put t) h
-
-pub never_copied : (o : Option (Bor ℕ)) → ((x : Bor ℕ) → o ≡ Some x → ⊥) → option_copied o ≡ None
-never_copied None h = refl
-never_copied (Some x) h = absurd (h x refl)
 
 -- a numbering with one more text, or one more index
 pub stays : (texts : ℕ → Text) (x y : TextNumbers) (t : Text) (index number : ℕ) → IsNumbering texts x → t ≡ texts index → number_in y t ≡ Some number

@@ -1,5 +1,5 @@
 -- Texts that stand one behind the other in one block.
-use Rattle.std.proofs.Common.{◌≡◌, ℕ, zero, suc, ◌+◌, ◌-◌, ◌<◌, ◌≤◌, List, [], ◌∷◌, ◌++◌, length, take, drop, get_or, refl, sym, ap, ap₂, subst, ◌∙◌, append_assoc, map, arith}
+use Rattle.std.proofs.Common.{◌≡◌, ℕ, zero, suc, ◌+◌, ◌-◌, ◌<◌, ◌≤◌, List, [], ◌∷◌, ◌++◌, length, take, drop, get_or, refl, sym, ap, ap₂, subst, ◌∙◌, append_assoc, map, arith, add-one}
 use Rattle.std.proofs.Math.Seq.{drop-append_seam, take-length, drop-cons}
 use Rattle.std.proofs.lemmas.List.{take-append-le, drop-append-le, length-append, length-drop, get_or_default}
 use Rattle.desk_base.specs.Names.{Text}
@@ -80,14 +80,11 @@ pub record Packing (names : List Text) (i : ℕ) (bytes : Text) (ends : List ℕ
   pub bounds : AreEnds 0 ends (length bytes)
   pub texts : cut_at bytes 0 ends ++ drop i names ≡ names
 
-next : (i : ℕ) → i + 1 ≡ suc i
-next i = omega arith
-
 -- one more name
 packed_more : (names : List Text) (i : ℕ) (item bytes bytes' : Text) (ends ends' : List ℕ) → i < length names → item ≡ get_or names i item → bytes' ≡ bytes ++ item → ends' ≡ ends ++ length bytes' ∷ [] → Packing names i bytes ends
     → Packing names (i + 1) bytes' ends'
 packed_more names i item bytes bytes' ends ends' h at b e p =
-    let cut : drop i names ≡ item ∷ drop (i + 1) names = drop-cons names i item h ∙ ap (λ (t : Text). t ∷ drop (suc i) names) (sym at) ∙ ap (λ (n : ℕ). item ∷ drop n names) (sym (next i)) in
+    let cut : drop i names ≡ item ∷ drop (i + 1) names = drop-cons names i item h ∙ ap (λ (t : Text). t ∷ drop (suc i) names) (sym at) ∙ ap (λ (n : ℕ). item ∷ drop n names) (sym (add-one i)) in
     let longer : length bytes ≤ length bytes' = omega (arith, ap length b, length-append bytes item) in
     record {
       bounds = subst (λ (es : List ℕ). AreEnds 0 es (length bytes')) (sym e) (ends_push 0 ends (length bytes) (length bytes') p.bounds longer);

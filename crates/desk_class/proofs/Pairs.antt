@@ -1,4 +1,5 @@
 -- Twins among members that are looked at one after the other.
+use mathlib.Core.Bool.{and_assoc, or-false, or_assoc}
 use Rattle.std.proofs.Common.{◌≡◌, ◌<◌, ◌+◌, length, take, drop, get_or, add-one, drop-cons, Bool, true, false, cond, ◌&&◌, ◌||◌, not, List, [], ◌∷◌, ◌++◌, ℕ, Option, Some, None, option_map, refl, sym, ap, ap₂, ◌∙◌, bytes_eq, nat_eq, arith}
 use Rattle.std.specs.List.{find, list_any}
 use Rattle.std.specs.Ordering.{nat_cmp, is_eq, ordering_then, bool_cmp}
@@ -10,8 +11,10 @@ use Rattle.std.proofs.lemmas.Bool.Decides.{nat_tests}
 use Rattle.std.proofs.lemmas.Slice.Eq.{bytes_eq-Decides}
 use Rattle.desk_base.specs.Names.{Text}
 use Rattle.desk_base.specs.Entries.{Pool, text_at}
+use Rattle.desk_base.proofs.Orderings.{is_eq-then, is_eq-nat_cmp}
 use Rattle.desk_format.specs.declared.members.Member.{Member}
 use Rattle.desk_format.specs.Members.{Named, named_in, Twins, same_kind, are_twins, twins_or, twins_behind, first_twins}
+use Rattle.desk_format.proofs.MemberKinds.{is_eq-bool_cmp}
 use Rattle.desk_class.specs.declared.numbers.TextNumbers.{TextNumbers}
 use Rattle.desk_class.specs.Numbers.{IsNumbering, Keeps, number_in}
 
@@ -24,28 +27,10 @@ Key = Bool × ℕ × ℕ
 abbrev pub key_order : Key → Key → Ordering
 key_order x y = ordering_then (ordering_then (bool_cmp x.0 y.0) (nat_cmp x.1 y.1)) (nat_cmp x.2 y.2)
 
-then-eq : (a b : Ordering) → is_eq (ordering_then a b) ≡ (is_eq a && is_eq b)
-then-eq orders.Less b = refl
-then-eq orders.Equal b = refl
-then-eq orders.Greater b = refl
-
-bool-eq : (a b : Bool) → is_eq (bool_cmp a b) ≡ same_kind a b
-bool-eq true true = refl
-bool-eq true false = refl
-bool-eq false true = refl
-bool-eq false false = refl
-
-number-eq : (a b : ℕ) → is_eq (nat_cmp a b) ≡ nat_eq a b
-number-eq a b = grind (arith, nat_tests)
-
-and_assoc : (a b c : Bool) → ((a && b) && c) ≡ (a && (b && c))
-and_assoc true b c = refl
-and_assoc false b c = refl
-
 key_cmp : (a b : Bool) (n m d e : ℕ) → is_eq (ordering_then (ordering_then (bool_cmp a b) (nat_cmp n m)) (nat_cmp d e)) ≡ (same_kind a b && (nat_eq n m && nat_eq d e))
 key_cmp a b n m d e =
-    then-eq (ordering_then (bool_cmp a b) (nat_cmp n m)) (nat_cmp d e)
-    ∙ ap₂ (λ (x y : Bool). x && y) (then-eq (bool_cmp a b) (nat_cmp n m) ∙ ap₂ (λ (x y : Bool). x && y) (bool-eq a b) (number-eq n m)) (number-eq d e)
+    is_eq-then (ordering_then (bool_cmp a b) (nat_cmp n m)) (nat_cmp d e)
+    ∙ ap₂ (λ (x y : Bool). x && y) (is_eq-then (bool_cmp a b) (nat_cmp n m) ∙ ap₂ (λ (x y : Bool). x && y) (is_eq-bool_cmp a b) (is_eq-nat_cmp n m)) (is_eq-nat_cmp d e)
     ∙ and_assoc (same_kind a b) (nat_eq n m) (nat_eq d e)
 
 -- ---- the first twin
@@ -80,15 +65,7 @@ none_here named before rest m total any so_far =
 
 any-push : (p : Member → Bool) (xs : List Member) (m : Member) → list_any p (xs ++ m ∷ []) ≡ (list_any p xs || p m)
 any-push p [] m = or-false (p m)
-  where
-    or-false : (x : Bool) → (x || false) ≡ x
-    or-false true = refl
-    or-false false = refl
-any-push p (x ∷ xs) m = ap (λ (b : Bool). p x || b) (any-push p xs m) ∙ or_assoc (p x) (list_any p xs) (p m)
-  where
-    or_assoc : (a b c : Bool) → (a || (b || c)) ≡ ((a || b) || c)
-    or_assoc true b c = refl
-    or_assoc false b c = refl
+any-push p (x ∷ xs) m = ap (λ (b : Bool). p x || b) (any-push p xs m) ∙ sym (or_assoc (p x) (list_any p xs) (p m))
 
 pub any_more : (p : Member → Bool) (xs : List Member) (m : Member) (x : Bool) → x ≡ p m → cond x true (list_any p xs) ≡ list_any p (xs ++ m ∷ [])
 any_more p xs m x e = ap (λ (b : Bool). cond b true (list_any p xs)) e ∙ swap (p m) (list_any p xs) ∙ sym (any-push p xs m)

@@ -1,5 +1,6 @@
 -- Names that are added, one after the other.
-use Rattle.std.proofs.Common.{◌≡◌, ℕ, ◌+◌, ◌<◌, ◌≤◌, length, take, drop, get_or, Option, arith, drop-cons, add-one, Bool, true, false, ◌||◌, List, [], ◌∷◌, ◌++◌, refl, sym, ap, ap₂, subst, ◌∙◌, ◌⊎◌, inl, inr, Some, slice_get}
+use mathlib.Core.Bool.{or_assoc}
+use Rattle.std.proofs.Common.{◌≡◌, ℕ, ◌+◌, ◌<◌, ◌≤◌, length, take, drop, get_or, Option, arith, drop-cons, add-one, Bool, ◌||◌, List, [], ◌∷◌, ◌++◌, refl, sym, ap, ap₂, subst, ◌∙◌, ◌⊎◌, inl, inr, Some, slice_get}
 use Rattle.std.specs.Ordering.{nat_cmp, eq_by_cmp}
 use Rattle.std.specs.Cmp.Lexicographic.{slice_cmp}
 use Rattle.std.proofs.lemmas.List.{length-append, take-append-le}
@@ -16,17 +17,9 @@ use Rattle.desk_class.specs.Held.{is_held, found_all, each_once, names_of, held_
 use Rattle.desk_class.specs.Noted.{Notes, HoldsNone}
 use Rattle.desk_class.proofs.Once.{found_append, found_old, found_in, absorbed}
 
-pub or-false : (x : Bool) → (x || false) ≡ x
-or-false true = refl
-or-false false = refl
-
-pub or-assoc : (a b c : Bool) → ((a || b) || c) ≡ (a || (b || c))
-or-assoc true b c = refl
-or-assoc false b c = refl
-
 pub is_held-append : (xs ys : List Text) (q : Text) → is_held (xs ++ ys) q ≡ (is_held xs q || is_held ys q)
 is_held-append [] ys q = refl
-is_held-append (x ∷ xs) ys q = ap (λ (b : Bool). eq_by_cmp (slice_cmp nat_cmp) q x || b) (is_held-append xs ys q) ∙ sym (or-assoc (eq_by_cmp (slice_cmp nat_cmp) q x) (is_held xs q) (is_held ys q))
+is_held-append (x ∷ xs) ys q = ap (λ (b : Bool). eq_by_cmp (slice_cmp nat_cmp) q x || b) (is_held-append xs ys q) ∙ sym (or_assoc (eq_by_cmp (slice_cmp nat_cmp) q x) (is_held xs q) (is_held ys q))
 
 -- ---- parts, one after the other
 

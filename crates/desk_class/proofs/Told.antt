@@ -1,8 +1,8 @@
 -- Class names that were found, told apart by their marks.
-use Rattle.std.proofs.Common.{◌≡◌, ◌⊎◌, inl, inr, ℕ, ◌+◌, ◌<◌, ◌≤◌, Bool, true, false, cond, not, ◌==◌, ◌&&◌, ◌||◌, List, [], ◌∷◌, ◌++◌, length, drop, get_or, drop-cons, add-one, refl, sym, ap, ap₂, subst, ◌∙◌, arith}
+use Rattle.std.proofs.Common.{◌≡◌, inl, inr, ℕ, ◌+◌, ◌<◌, ◌≤◌, Bool, true, false, cond, not, ◌==◌, ◌&&◌, ◌||◌, List, [], ◌∷◌, ◌++◌, length, drop, get_or, drop-cons, add-one, refl, sym, ap, ap₂, subst, ◌∙◌, arith}
 use Rattle.std.specs.List.{list_any}
 use Rattle.std.specs.Str.{bytes_eq}
-use Rattle.std.proofs.lemmas.Bool.{and_parts, eq-eqb}
+use Rattle.std.proofs.lemmas.Bool.{and_parts, eq-eqb, cases_lt}
 use Rattle.std.proofs.lemmas.List.{drop_all, length-append, drop-append-le}
 use Rattle.std.proofs.lemmas.Slice.Eq.{bytes_eq-Decides}
 use Rattle.std.specs.declared.cmp.Ordering.TheVariants.{Equal}
@@ -13,12 +13,14 @@ use Rattle.std.proofs.lemmas.Cmp.{nat_list_cmp_total, tied_itself}
 use Rattle.std.proofs.lemmas.Map.Lookups.{exact_bytes}
 use Rattle.std.proofs.lemmas.Map.Views.{tells_apart}
 use denote.Ref.{Bor}
+use mathlib.Core.Bool.{or-false, or_assoc}
 use Rattle.desk_base.specs.Names.{Text}
+use Rattle.desk_base.proofs.Bools.{same_answer}
 use Rattle.desk_class.specs.Held.{is_held, found_all}
 use Rattle.desk_class.specs.Found.{texts, AreFound, AreMarks, is_told, AreTold}
 use Rattle.desk_class.specs.Marks.{mark, marked_cmp}
-use Rattle.desk_class.specs.MarkOrder.{same_test, same_of_tie, tie_of_same}
-use Rattle.desk_class.proofs.Sets.{or-false, or-assoc, is_held-append}
+use Rattle.desk_class.specs.MarkOrder.{same_of_tie, tie_of_same}
+use Rattle.desk_class.proofs.Sets.{is_held-append}
 use Rattle.desk_class.proofs.Once.{found_there, found_new}
 
 same_text : (s t : Text) → is_eq (slice_cmp nat_cmp s t) ≡ true → s ≡ t
@@ -30,7 +32,7 @@ tied t = tied_itself nat_list_cmp_total t
 -- the order by marks ties what byte order ties
 alike : (s t : Text) → eq_by_cmp marked_cmp s t ≡ eq_by_cmp (slice_cmp nat_cmp) t s
 alike s t =
-    same_test (eq_by_cmp marked_cmp s t) (eq_by_cmp (slice_cmp nat_cmp) t s)
+    same_answer (eq_by_cmp marked_cmp s t) (eq_by_cmp (slice_cmp nat_cmp) t s)
     (λ e. ap is_eq (ap (slice_cmp nat_cmp t) (same_of_tie s t e) ∙ tied t))
     (λ e. tie_of_same s t (sym (same_text t s e)))
 
@@ -45,7 +47,7 @@ cond-or false false = refl
 -- a name stands at a place with its mark
 at_place : (m k : ℕ) (t q : Text) → m ≡ mark t → k ≡ mark q → (m == k && bytes_eq t q) ≡ eq_by_cmp (slice_cmp nat_cmp) q t
 at_place m k t q marked is =
-    same_test (m == k && bytes_eq t q) (eq_by_cmp (slice_cmp nat_cmp) q t)
+    same_answer (m == k && bytes_eq t q) (eq_by_cmp (slice_cmp nat_cmp) q t)
     (λ e. ap is_eq (ap (slice_cmp nat_cmp q) ((bytes_eq-Decides t q).0 (and_parts _ _ e).1) ∙ tied q))
     (λ e.
     let same : t ≡ q = sym (same_text q t e) in
@@ -57,7 +59,7 @@ held_split [] ts k q is h = refl
 held_split (m ∷ ms) [] k q is h = absurd h
 held_split (m ∷ ms) (t ∷ ts) k q is h =
     ap₂ (λ (a b : Bool). a || b) (sym (at_place m k t q h.0 is)) (held_split ms ts k q is h.1)
-    ∙ sym (or-assoc (m == k && bytes_eq t q) (is_told ms ts k q) (is_held (drop (length ms) ts) q))
+    ∙ sym (or_assoc (m == k && bytes_eq t q) (is_told ms ts k q) (is_held (drop (length ms) ts) q))
 
 no_more_marks : (ms : List ℕ) (ts : List Text) → AreMarks ms ts → length ms ≤ length ts
 no_more_marks [] ts h = omega arith
@@ -93,9 +95,6 @@ told_none (m ∷ ms) k q = refl
 told_end : (ms : List ℕ) (ts : List Text) (k : ℕ) (q : Text) (i : ℕ) → length ts ≤ i → is_told (drop i ms) (drop i ts) k q ≡ false
 told_end ms ts k q i le = ap (λ (ys : List Text). is_told (drop i ms) ys k q) (drop_all i ts le) ∙ told_none (drop i ms) k q
 
-within : (i n : ℕ) → (i < n) ⊎ (n ≤ i)
-within i n = grind arith
-
 -- what is looked for stands at a place
 pub told_here : (ms : List ℕ) (ts : List Text) (k : ℕ) (q : Text) (i : ℕ) → i < length ms → i < length ts → get_or ms i 0 ≡ k → get_or ts i [] ≡ q
     → is_told (drop i ms) (drop i ts) k q ≡ is_told ms ts k q → true ≡ is_told ms ts k q
@@ -106,18 +105,10 @@ told_here ms ts k q i h l mark_is name_is before =
 -- or it doesn't
 pub told_on : (ms : List ℕ) (ts : List Text) (k : ℕ) (q : Text) (i : ℕ) → i < length ms → (i < length ts → (get_or ms i 0 == k && bytes_eq (get_or ts i []) q) ≡ false)
     → is_told (drop i ms) (drop i ts) k q ≡ is_told ms ts k q → is_told (drop (i + 1) ms) (drop (i + 1) ts) k q ≡ is_told ms ts k q
-told_on ms ts k q i h other before = elim (within i (length ts)) [
+told_on ms ts k q i h other before = elim (cases_lt i (length ts)) [
   | inl l ↦ ap (λ (b : Bool). b || is_told (drop (i + 1) ms) (drop (i + 1) ts) k q) (sym (other l)) ∙ sym (told_at ms ts k q i h l) ∙ before
   | inr le ↦ told_end ms ts k q (i + 1) (omega (arith, le)) ∙ sym (told_end ms ts k q i le) ∙ before
 ]
-
--- it is another mark, or another name
-pub other_mark : (a b : Bool) → a ≡ false → (a && b) ≡ false
-other_mark a b e = ap (λ (x : Bool). x && b) e
-
-pub other_name : (a b : Bool) → b ≡ false → (a && b) ≡ false
-other_name true b e = e
-other_name false b e = refl
 
 -- ---- a name that is added
 

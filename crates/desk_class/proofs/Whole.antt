@@ -2,7 +2,7 @@
 use Rattle.std.proofs.Common.{◌≡◌, ℕ, ◌-◌, Bool, true, false, ◌==◌, List, [], ◌∷◌, ◌++◌, refl, sym, ap, ◌∙◌, append_assoc, append-nil, if◌then◌else◌}
 use Rattle.std.specs.List.{list_all}
 use Rattle.std.proofs.Common.{inl, inr}
-use Rattle.std.proofs.lemmas.Bool.{and_parts, or_cases}
+use Rattle.std.proofs.lemmas.Bool.{and_parts, or_cases, ne_eqb}
 use Rattle.desk_base.specs.Names.{Text, is_reserved, is_class_name}
 use Rattle.desk_base.specs.Referents.{begins_array}
 use Rattle.desk_base.specs.declared.kinds.Role.TheVariants as roles
@@ -11,7 +11,6 @@ use Rattle.desk_names.specs.Pieces.{pieces, names_in}
 use Rattle.desk_names.proofs.Bytes.{name_from, class_name_is}
 use Rattle.desk_names.proofs.Cuts.{goes}
 use Rattle.desk_names.proofs.Takes.{other}
-use Rattle.desk_names.proofs.Pieces.{apart}
 use Rattle.desk_names.proofs.PieceNames.{names_are}
 use Rattle.desk_names.proofs.Scanned.{tree_of}
 use Rattle.desk_class.specs.Formed.{IsFormed}
@@ -28,7 +27,7 @@ unfolding standing
 name_on i seen [] t h = ap (λ (l : Text). l ∷ standing_in t) (sym (append-nil seen))
 name_on i seen (b ∷ n) t h =
     let g = goes is_reserved i b n h in
-    ap (λ (w : Bool). if w then seen ∷ standing false [] (n ++ 59 ∷ t) else standing true (seen ++ b ∷ []) (n ++ 59 ∷ t)) (apart as_is b 59 (g.on 59 refl refl))
+    ap (λ (w : Bool). if w then seen ∷ standing false [] (n ++ 59 ∷ t) else standing true (seen ++ b ∷ []) (n ++ 59 ∷ t)) (ne_eqb b 59 (g.on 59 refl refl))
     ∙ name_on g.inside (seen ++ b ∷ []) n t g.more
     ∙ ap (λ (l : Text). l ∷ standing_in t) (append_assoc seen (b ∷ []) n)
 

@@ -1,6 +1,6 @@
 -- The order of marked texts is total, and ties no two texts.
 use mathlib.Core.Bool.{true≢false}
-use Rattle.std.proofs.Common.{◌≡◌, Bool, true, false, ◌==◌, refl, sym, ap, subst, ◌∙◌}
+use Rattle.std.proofs.Common.{◌≡◌, true, ◌==◌, sym, ap, subst, ◌∙◌}
 use Rattle.std.specs.Str.{bytes_eq}
 use Rattle.std.specs.Cmp.{IsTotalOrder, IsPartialOrder, on_total, po, tied_itself}
 use Rattle.std.specs.Cmp.Lexicographic.{slice_cmp, pointwise, bytes_decides}
@@ -11,12 +11,8 @@ use Rattle.std.proofs.lemmas.Cmp.{nat_cmp_total, nat_list_cmp_total, then_total}
 use Rattle.std.proofs.lemmas.Map.Text.{is_eq-slice_cmp}
 use Rattle.std.proofs.lemmas.Slice.Eq.{bytes_eq-Decides}
 use Rattle.desk_base.specs.Names.{Text}
+use Rattle.desk_base.proofs.Bools.{same_answer}
 use Rattle.desk_class.specs.Marks.{mark, marked_cmp}
-
-pub same_test : (a b : Bool) → (a ≡ true → b ≡ true) → (b ≡ true → a ≡ true) → a ≡ b
-same_test true b f g = sym (f refl)
-same_test false true f g = g refl
-same_test false false f g = refl
 
 pub marked_total : IsTotalOrder marked_cmp
 marked_total = then_total (on_total mark nat_cmp_total) nat_list_cmp_total
@@ -34,10 +30,10 @@ pub tie_of_same : (x y : Text) → x ≡ y → eq_by_cmp marked_cmp x y ≡ true
 tie_of_same x y same = subst (λ (z : Text). eq_by_cmp marked_cmp x z ≡ true) same (ap is_eq (tied_itself marked_total x))
 
 pub marked_tie : (x y : Text) → eq_by_cmp marked_cmp x y ≡ bytes_eq x y
-marked_tie x y = same_test (eq_by_cmp marked_cmp x y) (bytes_eq x y) (λ e. (bytes_eq-Decides x y).1 (same_of_tie x y e)) (λ e. tie_of_same x y ((bytes_eq-Decides x y).0 e))
+marked_tie x y = same_answer (eq_by_cmp marked_cmp x y) (bytes_eq x y) (λ e. (bytes_eq-Decides x y).1 (same_of_tie x y e)) (λ e. tie_of_same x y ((bytes_eq-Decides x y).0 e))
 
 pub marked_ties : (x y : Text) → pointwise ◌==◌ x y ≡ eq_by_cmp marked_cmp x y
-marked_ties x y = same_test (pointwise ◌==◌ x y) (eq_by_cmp marked_cmp x y) (λ e. tie_of_same x y ((bytes_decides x y).0 e)) (λ e. (bytes_decides x y).1 (same_of_tie x y e))
+marked_ties x y = same_answer (pointwise ◌==◌ x y) (eq_by_cmp marked_cmp x y) (λ e. tie_of_same x y ((bytes_decides x y).0 e)) (λ e. (bytes_decides x y).1 (same_of_tie x y e))
 
 pub marked_partial : IsPartialOrder (pointwise ◌==◌) (as_partial_cmp marked_cmp)
 marked_partial = po marked_total marked_ties

@@ -8,8 +8,8 @@ use Rattle.desk_base.specs.declared.kinds.Used.{Used}
 use Rattle.desk_base.specs.declared.kinds.UseKind.{UseKind}
 use Rattle.desk_base.specs.declared.kinds.UseKind.TheVariants as kinds
 use Rattle.desk_format.specs.declared.members.Member.{Member}
-use Rattle.desk_format.specs.declared.attributes.Place.{Place}
-use Rattle.desk_format.specs.declared.attributes.Place.TheVariants.{OfField, OfMethod}
+use Rattle.desk_format.specs.declared.attributes.Location.{Location}
+use Rattle.desk_format.specs.declared.attributes.Location.TheVariants.{OfField, OfMethod}
 use Rattle.desk_format.specs.declared.attributes.Slot.TheVariants.{Number, Index}
 use Rattle.desk_format.specs.Layouts.{Layout}
 use Rattle.desk_format.specs.Rows.{row_layout, table_layout}
@@ -57,7 +57,7 @@ abbrev pub descriptor_kind : Bool → UseKind
 descriptor_kind true = kinds.MethodDescriptor
 descriptor_kind false = kinds.FieldDescriptor
 
-abbrev pub member_place : Bool → Place
+abbrev pub member_place : Bool → Location
 member_place true = OfMethod
 member_place false = OfField
 

@@ -13,7 +13,7 @@ use crate::items::{read_class, read_number};
 use crate::members::walk_members;
 use desk_attrs::walk_attributes;
 use desk_base::{Cursor, ReadFault, Used};
-use desk_format::{Member, Place};
+use desk_format::{Location, Member};
 use desk_pool::Pool;
 
 /// The access flags, this class and the super class. The answer is the index of this class.
@@ -28,7 +28,7 @@ fn read_head(cursor: &mut Cursor<'_>, pool: &Pool<'_>) -> Result<u16, ReadFault>
     Ok(this)
 }
 
-/// So many interfaces.
+/// So many entries of the table `interfaces`, each the index of a Class (JVMS 4.1).
 #[tactic(auto, using(desk_format::proofs::Walks::times_begin, desk_format::proofs::Walks::times_on, desk_format::proofs::Walks::times_stopped, desk_format::proofs::Walks::times_done))]
 fn read_each_interface(
     count: u16,
@@ -43,7 +43,7 @@ fn read_each_interface(
     Ok(())
 }
 
-/// The interfaces.
+/// The table of the direct superinterfaces, behind its two-byte count (JVMS 4.1).
 #[tactic(auto, using(crate::proofs::Uses::interfaces_walked, crate::proofs::Uses::interfaces_stopped))]
 fn read_interfaces(cursor: &mut Cursor<'_>, pool: &Pool<'_>) -> Result<(), ReadFault>
     ensures { (us : List UsedOf) → Walks result (walk (read pool.now.entries interfaces) (walk_at us cursor.old)) cursor.new us }
@@ -67,6 +67,6 @@ pub fn walk_body(
     read_interfaces(cursor, pool)?;
     walk_members(false, cursor, pool, uses, members)?;
     walk_members(true, cursor, pool, uses, members)?;
-    walk_attributes(Place::OfClass, cursor, pool, uses)?;
+    walk_attributes(Location::OfClass, cursor, pool, uses)?;
     Ok(this)
 }

@@ -91,7 +91,7 @@ impl<'a> ClassView<'a> {
         })
     }
 
-    /// The bytes of the class.
+    /// The whole class file.
     pub fn bytes(&self) -> &'a [u8]
         ensures bytes { result.now ≡ self.now }
         ensures sound { class_fault self.now ≡ None }
@@ -100,7 +100,7 @@ impl<'a> ClassView<'a> {
         self.bytes
     }
 
-    /// The constant pool.
+    /// The constant pool of the class (JVMS 4.4).
     pub fn pool(&self) -> &Pool<'a>
         ensures entries { result.now.entries ≡ pool_in self.now }
         ensures uses { result.now.uses ≡ pool_uses entries_at (pool_in self.now) }

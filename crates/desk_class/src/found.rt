@@ -48,7 +48,7 @@ fn is_told(marks: &[u64], names: &[&[u8]], mark: u64, name: &[u8]) -> bool
 }
 
 impl<'a> FoundNames<'a> {
-    /// No name. The only error is want of memory.
+    /// A collection to begin with, of no name. The only error is want of memory.
     pub fn new(alloc: Global) -> Result<FoundNames<'a>, Memory>
         ensures { IfOk result (λ names. names ≡ []) }
     {

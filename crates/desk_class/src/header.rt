@@ -8,10 +8,12 @@ ghost use Rattle.desk_class.specs.Parts.{version_of};
 
 use desk_base::{Cursor, FaultKind, Malformed};
 
-/// The version of a class file.
+/// The version of the class file format that a class file states (JVMS 4.1).
 #[derive(Clone, Copy)]
 pub struct Version {
+    /// `minor_version` (JVMS 4.1).
     pub minor: u16,
+    /// `major_version` (JVMS 4.1): 45 of JDK 1.1, 52 of Java 8.
     pub major: u16,
 }
 

@@ -66,7 +66,7 @@ impl HeldNames {
         self.ends.is_empty()
     }
 
-    /// The name at a place, counted from 0.
+    /// The name at a place, counted from 0, with `/` between packages.
     pub fn get(&self, place: usize) -> &[u8]
         requires { place < length self.now }
         ensures { result.now ≡ slice_index_or self.now place [] }

@@ -52,14 +52,14 @@ impl<'a> Marked<'a> {
         }
     }
 
-    /// The mark.
+    /// The hash of the bytes. Other texts may have the same one.
     pub fn mark(&self) -> u64
         ensures { result ≡ mark self.now }
     {
         self.mark
     }
 
-    /// The bytes.
+    /// The bytes of the text, which aren't copied.
     pub fn as_bytes(&self) -> &'a [u8]
         ensures { result.now ≡ self.now }
     {

@@ -10,7 +10,7 @@ ghost use Rattle.desk_class.specs.Scan.{scan, scan_at, Scans, head_layout, membe
 use crate::items::{read_number, walk_descriptor, walk_name};
 use desk_attrs::walk_attributes;
 use desk_base::{Cursor, ReadFault, Used};
-use desk_format::{Member, Place};
+use desk_format::{Location, Member};
 use desk_pool::Pool;
 
 /// The access flags, name and descriptor of a method or a field.
@@ -37,17 +37,17 @@ fn walk_head(
 }
 
 /// The place of the attributes of a method or a field.
-fn place_of(method: bool) -> Place
+fn place_of(method: bool) -> Location
     ensures { result ≡ member_place method }
 {
     if method {
-        Place::OfMethod
+        Location::OfMethod
     } else {
-        Place::OfField
+        Location::OfField
     }
 }
 
-/// A method or a field.
+/// A method or a field: its flags, its name, its descriptor and its attributes (JVMS 4.5, 4.6).
 #[tactic(auto, using(desk_format::proofs::Walks::row_stopped))]
 fn walk_member(
     method: bool,
@@ -63,7 +63,7 @@ fn walk_member(
     Ok(member)
 }
 
-/// So many methods or fields.
+/// So many methods or fields, one behind the other.
 #[tactic(auto, using(crate::proofs::Scans::times_scan_begin, crate::proofs::Scans::times_scan_stopped, crate::proofs::Heads::member_stops))]
 fn walk_each_member(
     method: bool,
@@ -82,7 +82,7 @@ fn walk_each_member(
     Ok(())
 }
 
-/// The methods or the fields.
+/// The table of the methods or of the fields, behind its two-byte count (JVMS 4.1).
 #[tactic(auto, using(crate::proofs::Scans::table_scanned, crate::proofs::Scans::table_scan_stopped))]
 pub fn walk_members(
     method: bool,

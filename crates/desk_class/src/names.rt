@@ -175,7 +175,7 @@ fn list_of(alloc: Global, names: BTreeSet<Text>) -> Result<TextList, Memory>
     Ok(list)
 }
 
-/// Names in byte order, each once.
+/// The names that a class holds, in byte order, each once. The only error is want of memory.
 pub fn in_order(alloc: Global, names: &HeldNames) -> Result<TextList, Memory>
     ensures { IfOk result (λ list. list ≡ ascending names.now) }
 {

@@ -1,17 +1,17 @@
 -- The class names of a text's image are the images of its class names.
 use Rattle.std.proofs.Common.{◌≡◌, Bool, true, false, cond, ◌||◌, List, [], ◌∷◌, map, refl, sym, ap, ◌∙◌, inl, inr}
-use Rattle.std.proofs.lemmas.Bool.{cases_Bool, or_cases, or_left, or_right, false_from_ne_true}
+use Rattle.std.proofs.lemmas.Bool.{cases_Bool, or_cases, or_left, or_right, false_from_ne_true, both_ways}
 use Rattle.desk_base.specs.Names.{Text, is_class_name}
-use Rattle.desk_base.specs.Descriptors.{Returned, Descriptor, DescriptorKind, IsDescriptor, is_descriptor, renamed, kind_of, is_formed, is_returned, text_with, returned_text}
+use Rattle.desk_base.specs.Descriptors.{Descriptor, DescriptorKind, IsDescriptor, is_descriptor, renamed}
 use Rattle.desk_base.specs.Signatures.{SignatureKind, IsSignature, signature_names, map_signature}
 use Rattle.desk_base.specs.Referents.{begins_array}
 use Rattle.desk_base.specs.declared.kinds.Role.{Role}
 use Rattle.desk_base.specs.declared.kinds.Role.TheVariants as roles
+use Rattle.desk_base.proofs.Separated.{no_array}
 use Rattle.desk_names.specs.Pieces.{pieces, joined, names_in}
 use Rattle.desk_names.specs.SignatureScan.{is_sound_signature}
 use Rattle.desk_names.specs.SignaturePieces.{sig_pieces}
 use Rattle.desk_names.proofs.Scanned.{tree_of}
-use Rattle.desk_names.proofs.Takes.{taken}
 use Rattle.desk_names.proofs.Pieces.{kept_exchanged}
 use Rattle.desk_names.proofs.PieceNames.{names_are}
 use Rattle.desk_names.proofs.SigPieces.{sig_names, sig_taken}
@@ -21,7 +21,7 @@ use Rattle.desk_rename.specs.Images.{cls, desc, sig, repackaged, is_any_descript
 use Rattle.desk_rename.specs.Laws.{IsSettledRenames}
 use Rattle.desk_rename.proofs.DescTrees.{names_mapped}
 use Rattle.desk_rename.proofs.SigTrees.{signature_mapped}
-use Rattle.desk_rename.proofs.ImageLaws.{class_laws, no_array, class_named, sig_stays}
+use Rattle.desk_rename.proofs.ImageLaws.{class_laws, class_named, sig_stays}
 use Rattle.desk_rename.proofs.Differs.{some_kind}
 use Rattle.desk_rename.proofs.Finished.{desc_other, sig_other}
 use Rattle.desk_class.specs.Held.{descriptor_names, signature_names as names_of_signature, names_of as names_as}
@@ -33,23 +33,11 @@ use Rattle.desk_rules.proofs.Laws.{packages_stay}
 use Rattle.desk_format.specs.Resolved.{image}
 use Rattle.desk_follow.specs.RuleImages.{images_of}
 use Rattle.desk_names.proofs.SignatureNames.{Named, names_formed}
+use Rattle.desk_names.proofs.FieldDescriptors.{field_returned}
 
 -- the image of a class name
 pub cls_named : (rs : List Renaming) (n : Text) → is_class_name n ≡ true → cls rs n ≡ repackaged rs n
 cls_named rs n named = cls_name rs n (no_array n named) ∙ class_named rs n named
-
-both_ways : (b : Bool) → b ≡ true → b ≡ false → ⊥
-both_ways b h k = cc
-
-as_returned : (text : Text) (d : Descriptor) → IsDescriptor DescriptorKind.field text d → is_descriptor DescriptorKind.return text ≡ true
-unfolding kind_of is_formed is_returned text_with returned_text
-as_returned text (Descriptor.field t) r = taken DescriptorKind.return text (Descriptor.returned (Returned.value t)) (record { kind = refl; formed = r.formed; prints = r.prints })
-as_returned text (Descriptor.method ts u) r = let e = r.kind in absurd cc
-as_returned text (Descriptor.returned u) r = let e = r.kind in absurd cc
-
--- a field descriptor is a return descriptor
-field_return : (text : Text) → is_descriptor DescriptorKind.field text ≡ true → is_descriptor DescriptorKind.return text ≡ true
-field_return text h = let t = tree_of DescriptorKind.field text h in as_returned text t.0 t.1
 
 module _ (rs : List Renaming) (settled : IsSettledRenames rs) where
   -- ---- descriptors
@@ -78,10 +66,10 @@ module _ (rs : List Renaming) (settled : IsSettledRenames rs) where
   no_kind : (text : Text) → named_descriptor text ≡ false → is_any_descriptor text ≡ false
   no_kind text none = false_from_ne_true (is_any_descriptor text) (λ any.
       let k = some_kind text any in
-      both_ways (named_descriptor text) (by k.0 k.1) none)
+      both_ways (named_descriptor text) none (by k.0 k.1))
     where
       by : (kind : DescriptorKind) → is_descriptor kind text ≡ true → named_descriptor text ≡ true
-      by DescriptorKind.field h = or_left _ _ (field_return text h)
+      by DescriptorKind.field h = or_left _ _ (field_returned text h)
       by DescriptorKind.method h = or_right _ _ h
       by DescriptorKind.return h = or_left _ _ h
 
@@ -107,7 +95,7 @@ module _ (rs : List Renaming) (settled : IsSettledRenames rs) where
     | inr other ↦ elim (cases_Bool (begins_array text)) [
       | inl array ↦
           let array' : begins_array (cls rs text) ≡ true = (class_laws rs settled).array text array in
-          let other' : is_class_name (cls rs text) ≡ false = false_from_ne_true (is_class_name (cls rs text)) (λ e. both_ways (begins_array (cls rs text)) array' (no_array (cls rs text) e)) in
+          let other' : is_class_name (cls rs text) ≡ false = false_from_ne_true (is_class_name (cls rs text)) (λ e. both_ways (begins_array (cls rs text)) (no_array (cls rs text) e) array') in
           ap (λ (b : Bool). cond b (cls rs text ∷ []) (cond (begins_array (cls rs text)) (descriptor_names (cls rs text)) [])) other'
           ∙ ap (λ (b : Bool). cond b (descriptor_names (cls rs text)) []) array'
           ∙ ap descriptor_names (cls_array rs text array)

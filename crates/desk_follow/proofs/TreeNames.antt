@@ -32,6 +32,7 @@ pub tree_names : Tree Value → List Text
 tree_names Tree.nothing = []
 tree_names (Tree.number bytes) = []
 tree_names (Tree.raw bytes) = []
+tree_names (Tree.code bytes) = []
 tree_names (Tree.used v) = body_names v
 tree_names (Tree.both a b) = tree_names a ++ tree_names b
 tree_names (Tree.member a) = tree_names a
@@ -75,6 +76,7 @@ unfolding tree_names
 body_held pool Tree.nothing = refl
 body_held pool (Tree.number bytes) = refl
 body_held pool (Tree.raw bytes) = refl
+body_held pool (Tree.code bytes) = refl
 body_held pool (Tree.used u) = by_use pool u (may_be_none u.kind && nat_eq u.index 0)
 body_held pool (Tree.both a b) = held-append pool (uses a) (uses b) ∙ ap₂ (λ (xs ys : List Text). xs ++ ys) (body_held pool a) (body_held pool b)
 body_held pool (Tree.member a) = body_held pool a
@@ -150,6 +152,7 @@ module _ (im : Images) (f : Text → Text) (follow : (role : Role) (t : Text) �
   tree_renamed Tree.nothing = refl
   tree_renamed (Tree.number bytes) = refl
   tree_renamed (Tree.raw bytes) = refl
+  tree_renamed (Tree.code bytes) = refl
   tree_renamed (Tree.used v) = body_renamed v
   tree_renamed (Tree.both a b) = ap₂ (λ (xs ys : List Text). xs ++ ys) (tree_renamed a) (tree_renamed b) ∙ sym (map-append f (tree_names a) (tree_names b))
   tree_renamed (Tree.member a) = tree_renamed a

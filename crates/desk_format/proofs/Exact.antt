@@ -11,7 +11,7 @@ use Rattle.desk_base.specs.Entries.{Pool}
 use Rattle.desk_base.specs.Misfits.{misfit}
 use Rattle.desk_format.specs.Trees.{Tree, Use, Each, print, IsPlaced}
 use Rattle.desk_format.specs.Layouts.{Layout, Check, any}
-use Rattle.desk_format.specs.Reading.{member_at, Got, Reader, item, number_at, raw_at, index_at, nothing_at, and_then, times, value_of, name_of, fenced, attribute_at, read}
+use Rattle.desk_format.specs.Reading.{member_at, Got, Reader, item, number_at, raw_at, code_at, index_at, nothing_at, and_then, times, value_of, name_of, fenced, attribute_at, read}
 use Rattle.desk_format.specs.Exchange.{Fits}
 use Rattle.desk_format.specs.Laws.{IsBytes}
 use Rattle.desk_format.proofs.Steps.{member_ok, ok_is, then_ok, item_ok, fenced_ok}
@@ -106,6 +106,9 @@ module _ (pool : Pool) where
   unfolding raw_at
   exact_raw n = exact_item n (λ _. None) (λ at bytes. Tree.raw bytes) (record { prints = λ at bytes len fit. refl; placed = λ at bytes. tt; fits = λ at bytes fit ok. tt })
 
+  exact_code : (n : ℕ) → Exact pool (code_at n)
+  exact_code n = exact_item n (λ _. None) (λ at bytes. Tree.code bytes) (record { prints = λ at bytes len fit. refl; placed = λ at bytes. tt; fits = λ at bytes fit ok. tt })
+
   exact_use : (kind : UseKind) → Exact pool (index_at pool kind)
   unfolding index_at
   exact_use kind = exact_item 2 (λ bytes. misfit pool kind (from_be_bytes w16 bytes)) (λ at bytes. Tree.used (record { at = at; kind = kind; index = from_be_bytes w16 bytes })) (record {
@@ -135,7 +138,7 @@ module _ (pool : Pool) where
   pub exact : (l : Layout) → Exact pool (read pool l)
   unfolding read
   exact (Layout.number w check) = exact_number w check
-  exact (Layout.sized w check) = exact_then _ _ (exact_number w check) (λ k. exact_raw (value_of w k))
+  exact (Layout.sized w check) = exact_then _ _ (exact_number w check) (λ k. exact_code (value_of w k))
   exact (Layout.raw n) = exact_raw n
   exact (Layout.index kind) = exact_use kind
   exact Layout.nothing = exact_nothing

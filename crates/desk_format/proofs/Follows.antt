@@ -9,7 +9,7 @@ use Rattle.desk_base.specs.Entries.{Pool}
 use Rattle.desk_base.specs.Misfits.{misfit}
 use Rattle.desk_format.specs.Trees.{Tree, Use, Each, print}
 use Rattle.desk_format.specs.Layouts.{Layout, Check, any}
-use Rattle.desk_format.specs.Reading.{member_at, Got, Reader, item, number_at, raw_at, index_at, nothing_at, and_then, times, value_of, name_of, fenced, attribute_at, read}
+use Rattle.desk_format.specs.Reading.{member_at, Got, Reader, item, number_at, raw_at, code_at, index_at, nothing_at, and_then, times, value_of, name_of, fenced, attribute_at, read}
 use Rattle.desk_format.specs.Exchange.{Change, new_index, moved, exchange, Suits}
 use Rattle.desk_format.proofs.Steps.{member_ok, got_of, ok_is, then_ok, item_ok, item_is, fenced_ok, fenced_is}
 
@@ -18,6 +18,7 @@ pub length-print : (g : Change) (t : Tree Use) → length (print (exchange g t))
 length-print g Tree.nothing = refl
 length-print g (Tree.number bytes) = refl
 length-print g (Tree.raw bytes) = refl
+length-print g (Tree.code bytes) = refl
 length-print g (Tree.used u) = refl
 length-print g (Tree.member a) = length-print g a
 length-print g (Tree.both a b) = omega (arith, length-append (print (exchange g a)) (print (exchange g b)), length-append (print a) (print b), length-print g a, length-print g b)
@@ -98,6 +99,7 @@ module _ (old new : Pool) (g : Change) where
   value_of-exchange w Tree.nothing = refl
   value_of-exchange w (Tree.number bytes) = refl
   value_of-exchange w (Tree.raw bytes) = refl
+  value_of-exchange w (Tree.code bytes) = refl
   value_of-exchange w (Tree.used u) = refl
   value_of-exchange w (Tree.both a b) = refl
   value_of-exchange w (Tree.member a) = refl
@@ -106,6 +108,7 @@ module _ (old new : Pool) (g : Change) where
   name_of-exchange Tree.nothing each = refl
   name_of-exchange (Tree.number bytes) each = refl
   name_of-exchange (Tree.raw bytes) each = refl
+  name_of-exchange (Tree.code bytes) each = refl
   name_of-exchange (Tree.used u) each = each.name
   name_of-exchange (Tree.both a b) each = refl
   name_of-exchange (Tree.member a) each = refl
@@ -126,6 +129,11 @@ module _ (old new : Pool) (g : Change) where
   unfolding raw_at
   follows_raw n =
       let leaf : ℕ → List ℕ → Tree Use = λ at bytes. Tree.raw bytes in
+      follows_item n (λ _. None) (λ _. None) leaf leaf (record { size = λ at bytes len. len; fits = λ at bytes ok each. refl; same = λ at bytes each. refl })
+
+  pub follows_code : (n : ℕ) → Follows old new g (code_at n) (code_at n)
+  follows_code n =
+      let leaf : ℕ → List ℕ → Tree Use = λ at bytes. Tree.code bytes in
       follows_item n (λ _. None) (λ _. None) leaf leaf (record { size = λ at bytes len. len; fits = λ at bytes ok each. refl; same = λ at bytes each. refl })
 
   pub follows_use : (kind : UseKind) → Follows old new g (index_at old kind) (index_at new kind)
@@ -171,7 +179,7 @@ module _ (old new : Pool) (g : Change) where
   pub follows : (l : Layout) → Follows old new g (read old l) (read new l)
   unfolding read
   follows (Layout.number w check) = follows_number w check
-  follows (Layout.sized w check) = follows_count w (number_at w check) (number_at w check) raw_at raw_at (follows_number w check) follows_raw
+  follows (Layout.sized w check) = follows_count w (number_at w check) (number_at w check) code_at code_at (follows_number w check) follows_code
   follows (Layout.raw n) = follows_raw n
   follows (Layout.index kind) = follows_use kind
   follows Layout.nothing = follows_nothing

@@ -6,3 +6,5 @@ pub mod TagLemmas
 pub mod Walks
 pub mod Nested
 pub mod Named
+pub mod PoolSteps
+pub mod MemberKinds

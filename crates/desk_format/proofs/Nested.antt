@@ -2,7 +2,7 @@
 use Rattle.std.proofs.Common.{◌≡◌, ℕ, Option, Some, None, refl, ap}
 use Rattle.desk_format.specs.declared.attributes.Attribute.{Attribute}
 use Rattle.desk_format.specs.declared.attributes.Attribute.TheVariants as attributes
-use Rattle.desk_format.specs.declared.attributes.Place.TheVariants.{OfCode, OfComponent}
+use Rattle.desk_format.specs.declared.attributes.Location.TheVariants.{OfCode, OfComponent}
 use Rattle.desk_format.specs.Layouts.{Layout}
 use Rattle.desk_format.specs.Attributes.{row_of, no_attributes, attribute_named, body_by, inner_attributes, body_at, attributes_of}
 

@@ -53,6 +53,7 @@ pub patch_tree : (g : Change) (base : ℕ) (t : Tree Use) (pre post : List ℕ) 
 patch_tree g base Tree.nothing pre post p = refl
 patch_tree g base (Tree.number bytes) pre post p = refl
 patch_tree g base (Tree.raw bytes) pre post p = refl
+patch_tree g base (Tree.code bytes) pre post p = refl
 patch_tree g base (Tree.used u) pre post p = patch_use g.index base u.index u.at (text_use u) pre post (text_use-at u) p
 patch_tree g base (Tree.member a) pre post p = patch_tree g base a pre post p
 patch_tree g base (Tree.both a b) pre post p =
@@ -86,6 +87,7 @@ map_same : {U V W X : Type 0} (f : U → V) (h : V → X) (k : U → W) (m : W �
 map_same f h k m Tree.nothing each = refl
 map_same f h k m (Tree.number bytes) each = refl
 map_same f h k m (Tree.raw bytes) each = refl
+map_same f h k m (Tree.code bytes) each = refl
 map_same f h k m (Tree.used u) each = ap Tree.used each
 map_same f h k m (Tree.member a) each = ap Tree.member (map_same f h k m a each)
 map_same f h k m (Tree.both a b) each = rw (map_same f h k m a each.0, map_same f h k m b each.1) refl
@@ -94,6 +96,7 @@ pub Each-map : {U : Type 0} (P Q : U → Type 0) (t : Tree U) → ((u : U) → P
 Each-map P Q Tree.nothing h each = tt
 Each-map P Q (Tree.number bytes) h each = tt
 Each-map P Q (Tree.raw bytes) h each = tt
+Each-map P Q (Tree.code bytes) h each = tt
 Each-map P Q (Tree.used u) h each = h u each
 Each-map P Q (Tree.member a) h each = Each-map P Q a h each
 Each-map P Q (Tree.both a b) h each = (Each-map P Q a h each.0, Each-map P Q b h each.1)

@@ -1,6 +1,6 @@
 -- Which bytes begin a structure, by trying each of the 256.
 use Rattle.std.proofs.Common.{◌≡◌, ℕ, zero, suc, ◌<◌, Bool, true, false, ◌&&◌, ◌||◌, nat_eq, nat_le, refl, sym, subst, arith, inl, inr}
-use Rattle.std.proofs.lemmas.Bool.{cases_lt}
+use Rattle.std.proofs.lemmas.Bool.{cases_lt, and_parts}
 use Rattle.desk_base.specs.Descriptors.{is_base}
 use Rattle.desk_format.specs.Reading.{read, number_at, raw_at, index_at, nothing_at, and_then, times}
 use Rattle.desk_format.specs.Rows.{row_layout}
@@ -23,14 +23,10 @@ abbrev pub all_below : (ℕ → Bool) → ℕ → Bool
 all_below p zero = true
 all_below p (suc n) = p n && all_below p n
 
-both_true : (a b : Bool) → (a && b) ≡ true → (a ≡ true) × (b ≡ true)
-both_true true b h = (refl, h)
-both_true false b h = absurd cc
-
 pub at_each : (p : ℕ → Bool) (n : ℕ) → all_below p n ≡ true → (t : ℕ) → t < n → p t ≡ true
 at_each p zero h t lt = absurd (omega arith)
 at_each p (suc n) h t lt =
-    let parts = both_true (p n) (all_below p n) h in
+    let parts = and_parts (p n) (all_below p n) h in
     elim (cases_lt t n) [
       | inl less ↦ at_each p n parts.1 t less
       | inr more ↦ let is : n ≡ t = omega arith in let P : ℕ → Type 0 = λ m. p m ≡ true in subst P is parts.0

@@ -1,5 +1,5 @@
 -- Walking by one reader and then by another.
-use Rattle.std.proofs.Common.{◌≡◌, ℕ, zero, suc, ◌+◌, ◌-◌, ◌<◌, ◌≤◌, List, ◌∷◌, ◌++◌, length, take, drop, Some, None, Result, Ok, Err, refl, sym, ap, ◌∙◌, append_assoc, append-nil, arith, nat_eq, get_or, drop-cons, add-one, ap₂, ne_eqb, false}
+use Rattle.std.proofs.Common.{◌≡◌, ℕ, zero, suc, ◌+◌, ◌-◌, ◌<◌, ◌≤◌, List, ◌∷◌, ◌++◌, length, take, drop, Some, None, Result, Ok, Err, refl, sym, ap, ◌∙◌, append_assoc, append-nil, arith, nat_eq, get_or, drop-cons, add-one, ap₂, ne_eqb, Bool, true, false, nat_lt}
 use Rattle.std.specs.Int.{Width, w8, w16, w32, byte_len, from_be_bytes}
 use Rattle.std.proofs.lemmas.Bool.{le-ltb, lt-ltb}
 use Rattle.desk_base.specs.declared.faults.FaultKind.{FaultKind}
@@ -7,7 +7,7 @@ use Rattle.desk_base.specs.declared.faults.FaultKind.TheVariants as faults
 use Rattle.desk_base.specs.declared.kinds.Used.{Used}
 use Rattle.desk_format.specs.Trees.{Tree, Use, uses}
 use Rattle.desk_format.specs.Layouts.{Layout, Check, any}
-use Rattle.desk_format.specs.Reading.{Got, Failed, Reader, index_at, raw_at, attribute_at, name_of, behind, number_at, nothing_at, and_then, times, fenced, fence_fault, read, value_of}
+use Rattle.desk_format.specs.Reading.{Got, Failed, Reader, index_at, raw_at, code_at, attribute_at, name_of, behind, number_at, nothing_at, and_then, times, fenced, fence_fault, read, value_of}
 use Rattle.desk_base.specs.Spot.{Spot}
 use Rattle.desk_format.specs.Walk.{Walks, Walk, walked, walk, Stops}
 use Rattle.desk_format.specs.Rows.{slot_layout, row_layout}
@@ -237,14 +237,24 @@ row_ends pool a w (Err e) h = row_fails pool a Layout.nothing w e h
 pub row_last : (pool : Pool) (a : Layout) (w : Walk) → walk (read pool (Layout.row a Layout.nothing)) w ≡ walk (read pool a) w
 row_last pool a w = row_ends pool a w (walk (read pool a) w) refl
 
+-- a code array hands over as much as raw bytes: nothing
+code_item : (us : List Used) (at n : ℕ) (s : List ℕ) (short : Bool) → nat_lt (length s) n ≡ short → walked us (code_at n at s) ≡ walked us (raw_at n at s)
+unfolding raw_at
+code_item us at n s true h = rw h refl
+code_item us at n s false h = rw h refl
+
+pub code_walks : (n : ℕ) (w : Walk) → walk (code_at n) w ≡ walk (raw_at n) w
+unfolding walk
+code_walks n w = code_item w.uses w.at n w.left (nat_lt (length w.left) n) refl
+
 -- raw bytes behind their length
 pub sized_walks : (pool : Pool) (width : Width) (check : Check) (w w' : Walk) (n : ℕ) → walk (number_at width check) w ≡ Ok w' → n ≡ from_be_bytes width (take (byte_len width) w.left) → walk (read pool (Layout.sized width check)) w ≡ walk (read pool (Layout.raw n)) w'
 unfolding read
-sized_walks pool width check w w' n h is = number_walks width check (λ t. raw_at (value_of width t)) w w' h ∙ ap (λ (m : ℕ). walk (raw_at m) w') (sym is)
+sized_walks pool width check w w' n h is = number_walks width check (λ t. code_at (value_of width t)) w w' h ∙ code_walks _ w' ∙ ap (λ (m : ℕ). walk (raw_at m) w') (sym is)
 
 pub sized_stops : (pool : Pool) (width : Width) (check : Check) (w : Walk) (e : Failed) → walk (number_at width check) w ≡ Err e → walk (read pool (Layout.sized width check)) w ≡ Err e
 unfolding read
-sized_stops pool width check w e h = then_fails (number_at width check) (λ t. raw_at (value_of width t)) w e h
+sized_stops pool width check w e h = then_fails (number_at width check) (λ t. code_at (value_of width t)) w e h
 
 -- the attributes of a place, behind their count
 pub attributes_walk : (pool : Pool) (body : ℕ → List ℕ → Layout) (w w' : Walk) (n : ℕ) → walk (number_at w16 any) w ≡ Ok w' → n ≡ from_be_bytes w16 (take 2 w.left)

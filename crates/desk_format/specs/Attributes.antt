@@ -8,8 +8,8 @@ use Rattle.desk_base.specs.declared.kinds.UseKind.TheVariants.{Plain, PlainOrNon
 use Rattle.desk_base.specs.declared.faults.FaultKind.TheVariants as faults
 use Rattle.desk_format.specs.declared.attributes.Attribute.{Attribute}
 use Rattle.desk_format.specs.declared.attributes.Attribute.TheVariants as attributes
-use Rattle.desk_format.specs.declared.attributes.Place.{Place}
-use Rattle.desk_format.specs.declared.attributes.Place.TheVariants.{OfClass, OfField, OfMethod, OfCode, OfComponent}
+use Rattle.desk_format.specs.declared.attributes.Location.{Location}
+use Rattle.desk_format.specs.declared.attributes.Location.TheVariants.{OfClass, OfField, OfMethod, OfCode, OfComponent}
 use Rattle.desk_format.specs.declared.attributes.Slot.TheVariants.{Number, Index}
 use Rattle.desk_format.specs.Layouts.{Layout, Check}
 use Rattle.desk_format.specs.Rows.{rows, many, row_layout, table_layout}
@@ -42,7 +42,7 @@ module_body = rows (
     ∷ [])
 
 -- which signature a Signature attribute holds, by its place (JVMS 4.7.9)
-abbrev pub signature_kind : Place → UseKind
+abbrev pub signature_kind : Location → UseKind
 signature_kind OfClass = ClassSig
 signature_kind OfMethod = MethodSig
 signature_kind _ = FieldSig
@@ -53,17 +53,17 @@ signature_kind _ = FieldSig
 -- length of the body in bytes.
 pub record Row : Type 0 where
   pub name : Text
-  pub places : List Place
-  pub body : Place → ℕ → Layout
+  pub places : List Location
+  pub body : Location → ℕ → Layout
 
-abbrev pub entry : Text → List Place → Layout → Row
+abbrev pub entry : Text → List Location → Layout → Row
 entry name places body = record { name = name; places = places; body = λ place size. body }
 
-abbrev pub declarations : List Place
+abbrev pub declarations : List Location
 declarations = OfClass ∷ OfField ∷ OfMethod ∷ OfComponent ∷ []
 
 -- The thirty attributes, in the order of JVMS 4.7, where the attributes in a Code and in a component have a layout.
-abbrev pub row_of : (Place → Layout) → Attribute → Row
+abbrev pub row_of : (Location → Layout) → Attribute → Row
 -- 4.7.2
 row_of inner attributes.ConstantValue =
     entry (codes "ConstantValue") (OfField ∷ []) (row_layout (Index Constant ∷ []))
@@ -159,7 +159,7 @@ all_attributes =
 
 -- ---- reading the table
 
-abbrev pub no_attributes : Place → Layout
+abbrev pub no_attributes : Location → Layout
 no_attributes place = Layout.nothing
 
 abbrev pub attribute_name : Attribute → Text
@@ -173,7 +173,7 @@ first_named name (a ∷ more) = if bytes_eq name (attribute_name a) then Some a 
 unfoldable pub attribute_named : Text → Option Attribute
 attribute_named name = first_named name all_attributes
 
-abbrev pub is_place : Place → Place → Bool
+abbrev pub is_place : Location → Location → Bool
 is_place OfClass OfClass = true
 is_place OfField OfField = true
 is_place OfMethod OfMethod = true
@@ -181,23 +181,23 @@ is_place OfCode OfCode = true
 is_place OfComponent OfComponent = true
 is_place _ _ = false
 
-abbrev pub is_among : List Place → Place → Bool
+abbrev pub is_among : List Location → Location → Bool
 is_among [] place = false
 is_among (p ∷ ps) place = is_place p place || is_among ps place
 
 -- An attribute of no known name, and a known one outside its places, is raw to its length.
-abbrev pub body_by : (Attribute → Row) → Place → ℕ → Option Attribute → Layout
+abbrev pub body_by : (Attribute → Row) → Location → ℕ → Option Attribute → Layout
 body_by table place size None = Layout.raw size
 body_by table place size (Some a) = if is_among (table a).places place then (table a).body place size else Layout.raw size
 
 -- The attributes in a Code or in a component. None of these holds attributes.
-abbrev pub inner_attributes : Place → Layout
+abbrev pub inner_attributes : Location → Layout
 inner_attributes place = Layout.attributes (λ size name. body_by (row_of no_attributes) place size (attribute_named name))
 
 -- the layout of the body of an attribute at a place, by its length
-abbrev pub body_at : Place → ℕ → Option Attribute → Layout
+abbrev pub body_at : Location → ℕ → Option Attribute → Layout
 body_at = body_by (row_of inner_attributes)
 
 -- the attributes of a place
-abbrev pub attributes_of : Place → Layout
+abbrev pub attributes_of : Location → Layout
 attributes_of place = Layout.attributes (λ size name. body_at place size (attribute_named name))

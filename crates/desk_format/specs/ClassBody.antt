@@ -1,7 +1,7 @@
 -- What stands behind the constant pool of a class (JVMS 4.1, 4.5, 4.6).
 use Rattle.std.specs.Prelude.{[], ◌∷◌}
 use Rattle.desk_base.specs.declared.kinds.UseKind.TheVariants as kinds
-use Rattle.desk_format.specs.declared.attributes.Place.TheVariants.{OfClass, OfField, OfMethod}
+use Rattle.desk_format.specs.declared.attributes.Location.TheVariants.{OfClass, OfField, OfMethod}
 use Rattle.desk_format.specs.declared.attributes.Slot.TheVariants.{Number, Index}
 use Rattle.desk_format.specs.Layouts.{Layout}
 use Rattle.desk_format.specs.Rows.{rows, many, row_layout, table_layout}

@@ -1,7 +1,7 @@
 -- The laws of a body that is read, and of one that is renamed.
 use Rattle.std.specs.Prelude.{◌≡◌, ℕ, ◌+◌, ◌<◌, ◌≤◌, List, ◌++◌, length, get_or, Ok}
 use Rattle.desk_base.specs.Entries.{Pool}
-use Rattle.desk_format.specs.declared.attributes.Place.TheVariants.{OfCode, OfComponent}
+use Rattle.desk_format.specs.declared.attributes.Location.TheVariants.{OfCode, OfComponent}
 use Rattle.desk_format.specs.Attributes.{inner_attributes, attributes_of}
 use Rattle.desk_format.specs.Trees.{Use, Each, IsPlaced, print, uses}
 use Rattle.desk_format.specs.Layouts.{Layout}

@@ -29,6 +29,7 @@ abbrev pub members : Tree Use → List Member
 members Tree.nothing = []
 members (Tree.number bytes) = []
 members (Tree.raw bytes) = []
+members (Tree.code bytes) = []
 members (used u) = []
 members (both a b) = members a ++ members b
 members (Tree.member a) = member_in a

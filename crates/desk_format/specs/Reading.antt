@@ -50,6 +50,9 @@ number_at w check = item (byte_len w) (λ bytes. check (from_be_bytes w bytes)) 
 unfoldable pub raw_at : ℕ → Reader
 raw_at n = item n (λ bytes. None) (λ at bytes. Tree.raw bytes)
 
+abbrev pub code_at : ℕ → Reader
+code_at n = item n (λ bytes. None) (λ at bytes. Tree.code bytes)
+
 unfoldable pub index_at : Pool → UseKind → Reader
 index_at pool kind = item 2 (λ bytes. misfit pool kind (from_be_bytes w16 bytes)) (λ at bytes. Tree.used (record { at = at; kind = kind; index = from_be_bytes w16 bytes }))
 
@@ -124,7 +127,7 @@ attribute_at pool body =
 
 unfoldable pub read : Pool → Layout → Reader
 read pool (Layout.number w check) = number_at w check
-read pool (Layout.sized w check) = and_then (number_at w check) (λ n. raw_at (value_of w n))
+read pool (Layout.sized w check) = and_then (number_at w check) (λ n. code_at (value_of w n))
 read pool (Layout.raw size) = raw_at size
 read pool (Layout.index kind) = index_at pool kind
 read pool Layout.nothing = nothing_at

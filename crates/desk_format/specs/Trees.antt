@@ -13,12 +13,13 @@ pub record Use : Type 0 where
   pub kind : UseKind
   pub index : ℕ
 
--- A tree whose leaves are numbers, by their bytes, raw bytes, and indices of the constant pool. A field or a method
+-- A tree whose leaves are numbers, by their bytes, raw bytes, code arrays, and indices of the constant pool. A field or a method
 -- is marked as a member.
 pub data Tree (U : Type 0) : Type 0 where
   nothing : Tree U
   number : List ℕ → Tree U
   raw : List ℕ → Tree U
+  code : List ℕ → Tree U
   used : U → Tree U
   both : Tree U → Tree U → Tree U
   member : Tree U → Tree U
@@ -28,6 +29,7 @@ abbrev pub map_tree : {U V : Type 0} → (U → V) → Tree U → Tree V
 map_tree f nothing = nothing
 map_tree f (number bytes) = number bytes
 map_tree f (raw bytes) = raw bytes
+map_tree f (code bytes) = code bytes
 map_tree f (used u) = used (f u)
 map_tree f (both a b) = both (map_tree f a) (map_tree f b)
 map_tree f (member a) = member (map_tree f a)
@@ -37,6 +39,7 @@ abbrev pub Each : {U : Type 0} → (U → Type 0) → Tree U → Type 0
 Each P nothing = Unit {0}
 Each P (number bytes) = Unit {0}
 Each P (raw bytes) = Unit {0}
+Each P (code bytes) = Unit {0}
 Each P (used u) = P u
 Each P (both a b) = Each P a × Each P b
 Each P (member a) = Each P a
@@ -46,6 +49,7 @@ abbrev pub print : Tree Use → List ℕ
 print nothing = []
 print (number bytes) = bytes
 print (raw bytes) = bytes
+print (code bytes) = bytes
 print (used u) = to_be_bytes w16 u.index
 print (both a b) = print a ++ print b
 print (member a) = print a
@@ -55,6 +59,7 @@ abbrev pub IsPlaced : ℕ → Tree Use → Type 0
 IsPlaced at nothing = Unit {0}
 IsPlaced at (number bytes) = Unit {0}
 IsPlaced at (raw bytes) = Unit {0}
+IsPlaced at (code bytes) = Unit {0}
 IsPlaced at (used u) = u.at ≡ at
 IsPlaced at (both a b) = IsPlaced at a × IsPlaced (at + length (print a)) b
 IsPlaced at (member a) = IsPlaced at a
@@ -79,6 +84,7 @@ abbrev pub uses : Tree Use → List Used
 uses nothing = []
 uses (number bytes) = []
 uses (raw bytes) = []
+uses (code bytes) = []
 uses (used u) = uses_of (text_use u)
 uses (both a b) = uses a ++ uses b
 uses (member a) = uses a

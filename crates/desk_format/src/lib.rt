@@ -14,6 +14,6 @@ mod laws;
 mod members;
 pub mod tags;
 
-pub use attributes::{Attribute, Place, Slot};
+pub use attributes::{Attribute, Location, Slot};
 pub use laws::{nested_attributes, printed_bodies, renamed_bodies};
 pub use members::Member;

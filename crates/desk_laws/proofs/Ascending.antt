@@ -1,4 +1,5 @@
 -- The missing texts ascend, and are those that are wanted and not kept.
+use mathlib.Core.Bool.{and-false, or_self_left}
 use Rattle.std.proofs.Common.{◌≡◌, Bool, true, false, not, cond, ◌&&◌, ◌||◌, List, [], ◌∷◌, bytes_eq, refl, sym, ap, ◌∙◌}
 use Rattle.std.specs.Ordering.{nat_cmp, is_lt, is_eq, ordering_reverse}
 use Rattle.std.specs.declared.cmp.Ordering.{Ordering}
@@ -10,6 +11,7 @@ use Rattle.std.proofs.lemmas.Map.Text.{is_eq-slice_cmp}
 use Rattle.std.proofs.lemmas.Slice.Eq.{bytes_eq-Decides}
 use Rattle.desk_base.specs.Names.{Text}
 use Rattle.desk_base.specs.Entries.{Pool}
+use Rattle.desk_base.proofs.Orderings.{less_is}
 use Rattle.desk_format.specs.Split.{Want, holds, has_text, kept, add, missing}
 use Rattle.desk_format.specs.NewPool.{wants}
 use Rattle.desk_laws.specs.Missing.{Before, IsAscending, is_wanted, MissingTexts}
@@ -29,11 +31,6 @@ other_way s t ne lt =
     let total : IsTotalOrder order = nat_list_cmp_total in
     turned (order t s) s t refl lt ne (total.antisymm s t)
 
-is_less : (r : Ordering) → is_lt r ≡ true → r ≡ Less
-is_less Less h = refl
-is_less Equal h = absurd cc
-is_less Greater h = absurd cc
-
 before_by : (same less : Bool) (s t u : Text) (us : List Text) → order s t ≡ Less → order s u ≡ Less → Before s (cond same (u ∷ us) (cond less (t ∷ (u ∷ us)) (u ∷ add t us)))
 before_by true less s t u us a b = b
 before_by false true s t u us a b = a
@@ -45,7 +42,7 @@ before_add s t (u ∷ us) a b = before_by (bytes_eq u t) (is_lt (order t u)) s t
 
 ascending_by : (same less : Bool) (t s : Text) (ss : List Text) → bytes_eq s t ≡ same → is_lt (order t s) ≡ less → Before s ss → IsAscending ss → IsAscending (add t ss) → IsAscending (cond same (s ∷ ss) (cond less (t ∷ (s ∷ ss)) (s ∷ add t ss)))
 ascending_by true less t s ss p q b h k = (b, h)
-ascending_by false true t s ss p q b h k = (is_less (order t s) q, (b, h))
+ascending_by false true t s ss p q b h k = (less_is (order t s) q, (b, h))
 ascending_by false false t s ss p q b h k = (before_add s t ss (other_way s t p q) b, k)
 
 ascending_add : (t : Text) (ss : List Text) → IsAscending ss → IsAscending (add t ss)
@@ -62,10 +59,6 @@ ascending pool (w ∷ ws) = either (has_text w.text pool) (missing pool ws) (add
 
 -- ---- which texts
 
-again : (a b : Bool) → (a || b) ≡ (a || (a || b))
-again true b = refl
-again false b = refl
-
 swapped : (a b c : Bool) → (a || (b || c)) ≡ (b || (a || c))
 swapped true true c = refl
 swapped true false c = refl
@@ -75,7 +68,7 @@ holds_by : (same less : Bool) (t s u : Text) (ss : List Text) → bytes_eq s t �
     → holds (cond same (s ∷ ss) (cond less (t ∷ (s ∷ ss)) (s ∷ add t ss))) u ≡ (bytes_eq t u || (bytes_eq s u || holds ss u))
 holds_by true less t s u ss p h =
     let is : s ≡ t = (bytes_eq-Decides s t).0 p in
-    again (bytes_eq s u) (holds ss u) ∙ ap (λ (x : Text). bytes_eq x u || (bytes_eq s u || holds ss u)) is
+    sym (or_self_left (bytes_eq s u) (holds ss u)) ∙ ap (λ (x : Text). bytes_eq x u || (bytes_eq s u || holds ss u)) is
 holds_by false true t s u ss p h = refl
 holds_by false false t s u ss p h = ap (λ (x : Bool). bytes_eq s u || x) h ∙ swapped (bytes_eq s u) (bytes_eq t u) (holds ss u)
 
@@ -83,15 +76,11 @@ holds-add : (t u : Text) (ss : List Text) → holds (add t ss) u ≡ (bytes_eq t
 holds-add t u [] = refl
 holds-add t u (s ∷ ss) = holds_by (bytes_eq s t) (is_lt (order t s)) t s u ss refl (holds-add t u ss)
 
-nothing_left : (b : Bool) → (b && false) ≡ false
-nothing_left true = refl
-nothing_left false = refl
-
 kept_case : (pool : Pool) (t u : Text) (b w : Bool) → has_text t pool ≡ true → bytes_eq t u ≡ b → (w && not (has_text u pool)) ≡ ((b || w) && not (has_text u pool))
 kept_case pool t u true w h e =
     let is : t ≡ u = (bytes_eq-Decides t u).0 e in
     let there : has_text u pool ≡ true = ap (λ (x : Text). has_text x pool) (sym is) ∙ h in
-    rw there (nothing_left w)
+    rw there (and-false w)
 kept_case pool t u false w h e = refl
 
 added_case : (pool : Pool) (t u : Text) (b w : Bool) → has_text t pool ≡ false → bytes_eq t u ≡ b → (b || (w && not (has_text u pool))) ≡ ((b || w) && not (has_text u pool))

@@ -2,6 +2,7 @@
 use Rattle.std.proofs.Common.{◌≡◌, ℕ, zero, suc, ◌+◌, Bool, true, false, cond, ◌&&◌, List, [], ◌∷◌, ◌++◌, length, Option, Some, None, nat_eq, refl, ap, sym, subst, ◌∙◌, arith, inl}
 use Rattle.std.specs.List.{AllByRecursion}
 use Rattle.std.proofs.lemmas.Bool.Decides.{nat_tests}
+use Rattle.std.proofs.lemmas.Bool.{and_right}
 use Rattle.desk_base.specs.declared.kinds.Role.{Role}
 use Rattle.desk_base.specs.declared.kinds.Role.TheVariants as roles
 use Rattle.desk_base.specs.declared.kinds.Used.{Used}
@@ -189,10 +190,6 @@ not_zero : (t : Referent) (pool : Pool) (i : ℕ) → fits t (tag_at pool i) ≡
 not_zero t pool zero h = absurd cc
 not_zero t pool (suc i) h = grind (arith, nat_tests)
 
-and_false : (a b : Bool) → b ≡ false → (a && b) ≡ false
-and_false true b h = h
-and_false false b h = refl
-
 -- where index 0 stands for nothing, it stays
 none_suits : (old new : Pool) (kind : UseKind) (i i' : ℕ) → (may_be_none kind && nat_eq i 0) ≡ true → i' ≡ i → name_under new kind i' ≡ name_under old kind i
 none_suits old new kinds.AttrName i i' p h = absurd cc
@@ -226,7 +223,7 @@ module _ (im : Images) (old : Pool) (us : List Used) (k : KeepsForms im) (w : Is
       let names : fits (referent_of kind) (tag_at old i) ≡ true = names_fitting old (referent_of kind) i fit.names in
       let new : Fitting New (referent_of kind) (reindexed (choice im old us) (referent_of kind) i) = moved im old us w.linked used k (referent_of kind) i fit (u refl) (kinds_kept kind).goes in
       let named' : fits (referent_of kind) (tag_at New (reindexed (choice im old us) (referent_of kind) i)) ≡ true = names_fitting New (referent_of kind) (reindexed (choice im old us) (referent_of kind) i) new.names in
-      let p' : (may_be_none kind && nat_eq (reindexed (choice im old us) (referent_of kind) i) 0) ≡ false = and_false (may_be_none kind) _ (not_zero (referent_of kind) New (reindexed (choice im old us) (referent_of kind) i) named') in
+      let p' : (may_be_none kind && nat_eq (reindexed (choice im old us) (referent_of kind) i) 0) ≡ false = and_right (may_be_none kind) _ (not_zero (referent_of kind) New (reindexed (choice im old us) (referent_of kind) i) named') in
       record {
         small = stays_small im old us k w used named accepted (referent_of kind) i small (referent_small im old us k w used named accepted (referent_of kind) i names (u refl));
         fits = rw p' (or_else-none (wrong_entry New (referent_of kind) i') (wrong_text New (referent_of kind) i') new.names new.leads);

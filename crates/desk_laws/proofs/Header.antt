@@ -14,8 +14,9 @@ use Rattle.desk_format.specs.Classes.{Class, Version, magic, first_major, last_m
 use Rattle.desk_format.specs.Laws.{IsBytes}
 use Rattle.std.proofs.lemmas.List.{take_at, drop_at}
 use Rattle.std.proofs.lemmas.Nat.{from_be_bytes-to_be_bytes_2}
+use Rattle.desk_format.proofs.PoolSteps.{ok_is}
 use Rattle.desk_laws.specs.Sound.{IsTwoBytes}
-use Rattle.desk_laws.proofs.Inverse.{ok_is, Ensures, Gives, Bytes, ensures_ok, ensures_err, then_ensures, item_ensures, index_ensures}
+use Rattle.desk_laws.proofs.Inverse.{Ensures, Gives, Bytes, ensures_ok, ensures_err, then_ensures, item_ensures, index_ensures}
 use Rattle.desk_laws.proofs.Spelled.{Spelled, Spells, spells_err, spells_done, spells_item, spells_number}
 use Rattle.desk_laws.proofs.Again.{item_is}
 

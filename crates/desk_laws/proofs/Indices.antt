@@ -22,6 +22,7 @@ abbrev pub indices : {U : Type 0} → Tree U → List U
 indices Tree.nothing = []
 indices (Tree.number bytes) = []
 indices (Tree.raw bytes) = []
+indices (Tree.code bytes) = []
 indices (Tree.used u) = u ∷ []
 indices (Tree.both a b) = indices a ++ indices b
 indices (Tree.member a) = indices a
@@ -38,6 +39,7 @@ pub uses-indices : (t : Tree Use) → uses t ≡ text_uses (indices t)
 uses-indices Tree.nothing = refl
 uses-indices (Tree.number bytes) = refl
 uses-indices (Tree.raw bytes) = refl
+uses-indices (Tree.code bytes) = refl
 uses-indices (Tree.used u) = sym (append-nil (uses_of (text_use u)))
 uses-indices (Tree.both a b) = ap₂ (λ (us vs : List Used). us ++ vs) (uses-indices a) (uses-indices b) ∙ sym (text_uses-append (indices a) (indices b))
 uses-indices (Tree.member a) = uses-indices a
@@ -51,6 +53,7 @@ pub each_index : {U : Type 0} (P : U → Type 0) (t : Tree U) → AllByRecursion
 each_index P Tree.nothing h = tt
 each_index P (Tree.number bytes) h = tt
 each_index P (Tree.raw bytes) h = tt
+each_index P (Tree.code bytes) h = tt
 each_index P (Tree.used u) h = h.0
 each_index P (Tree.both a b) h = let t = both_halves P (indices a) (indices b) h in (each_index P a t.0, each_index P b t.1)
 each_index P (Tree.member a) h = each_index P a h
@@ -63,6 +66,7 @@ pub all_indices : {U : Type 0} (P : U → Type 0) (t : Tree U) → Each P t → 
 all_indices P Tree.nothing h = tt
 all_indices P (Tree.number bytes) h = tt
 all_indices P (Tree.raw bytes) h = tt
+all_indices P (Tree.code bytes) h = tt
 all_indices P (Tree.used u) h = (h, tt)
 all_indices P (Tree.both a b) h = both_parts P (indices a) (indices b) (all_indices P a h.0) (all_indices P b h.1)
 all_indices P (Tree.member a) h = all_indices P a h

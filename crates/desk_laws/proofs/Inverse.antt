@@ -14,6 +14,7 @@ use Rattle.desk_format.specs.PoolReading.{Got, got, Reader, item, then_read, don
 use Rattle.desk_laws.specs.Sound.{IsTwoBytes, IsSound, IsShaped, Links, IsWellFormed}
 use Rattle.desk_format.specs.Laws.{IsBytes}
 use Rattle.desk_format.proofs.Exact.{IsBytes-drop, IsBytes-take}
+use Rattle.desk_format.proofs.PoolSteps.{ok_is}
 use Rattle.desk_laws.proofs.Passes.{neither, all_pass, each_both, Passes}
 
 -- What a reader gives has a fact, and bytes are left.
@@ -23,12 +24,6 @@ pub record Gives {A : Type 0} (P : A → Type 0) (g : Got A) : Type 0 where
 
 pub record Ensures {A : Type 0} (P : A → Type 0) (r : Result (Got A) Malformed) : Type 0 where
   pub runs : (g : Got A) → r ≡ Ok g → Gives P g
-
-abbrev okay : {A : Type 0} → Got A → Result (Got A) Malformed
-okay a = Ok a
-
-pub ok_is : {A : Type 0} (a b : Got A) → okay a ≡ Ok b → a ≡ b
-ok_is a b h = cc
 
 pub ensures_ok : {A : Type 0} (P : A → Type 0) (g : Got A) → Gives P g → Ensures P (Ok g)
 ensures_ok {A = A} P g h = record { runs = λ g' e. subst (λ (x : Got A). Gives P x) (ok_is g g' e) h }

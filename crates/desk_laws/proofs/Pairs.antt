@@ -119,6 +119,7 @@ module _ (im : Images) (old new : Pool) (g : Change) (named named' : Member → 
   members_alike Tree.nothing h = tt
   members_alike (Tree.number bytes) h = tt
   members_alike (Tree.raw bytes) h = tt
+  members_alike (Tree.code bytes) h = tt
   members_alike (Tree.used u) h = tt
   members_alike (Tree.both a b) h = alike-append named named' (members a) (members (exchange g a)) (members b) (members (exchange g b)) (members_alike a h.0) (members_alike b h.1)
   members_alike (Tree.member t) h = member_alike t h

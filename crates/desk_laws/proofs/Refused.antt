@@ -1,7 +1,7 @@
 -- Where no refusal stands, no wanted text is too long and the pool has room; and back.
-use Rattle.std.proofs.Common.{◌≡◌, ℕ, zero, suc, ◌+◌, ◌<◌, ◌≤◌, Bool, true, false, cond, ◌||◌, List, [], ◌∷◌, length, Option, Some, None, nat_eq, nat_lt, refl, sym, ap, ◌∙◌, arith, inl, inr}
+use Rattle.std.proofs.Common.{◌≡◌, ℕ, zero, suc, ◌+◌, ◌<◌, ◌≤◌, Bool, true, false, cond, List, [], ◌∷◌, length, Option, Some, None, nat_eq, nat_lt, refl, sym, ap, ◌∙◌, arith, inl, inr}
 use Rattle.std.specs.List.{AllByRecursion}
-use Rattle.std.proofs.lemmas.Bool.{ltb-false, le-ltb}
+use Rattle.std.proofs.lemmas.Bool.{ltb-false, le-ltb, or_parts}
 use Rattle.std.proofs.lemmas.Bool.Decides.{nat_tests}
 use Rattle.desk_base.specs.Names.{Text}
 use Rattle.desk_base.specs.declared.kinds.Used.{Used}
@@ -15,10 +15,6 @@ use Rattle.desk_laws.proofs.Split.{IsWant}
 use Rattle.desk_laws.proofs.Slots.{in_range}
 use Rattle.desk_laws.proofs.Moved.{is_utf8}
 use Rattle.desk_laws.proofs.Bodies.{NamesText}
-
-or_false : (a b : Bool) → (a || b) ≡ false → (a ≡ false) × (b ≡ false)
-or_false true b h = absurd cc
-or_false false b h = (refl, h)
 
 short_is : (t : Text) → is_long t ≡ false → IsTwoBytes (length t)
 short_is t h = let le : length t ≤ 65535 = ltb-false 65535 (length t) h in omega arith
@@ -43,11 +39,11 @@ each_short ws k (slot ∷ slots) h (suc j) lt =
     ap (λ (i : ℕ). any_long (wanted i ws)) same ∙ each_short ws (suc k) slots s.1 j (omega arith)
 
 head_short : (x : Bool) (t : Text) (ts : List Text) → x ≡ true → any_long (cond x (t ∷ ts) ts) ≡ false → is_long t ≡ false
-head_short true t ts p h = let o = or_false (is_long t) (any_long ts) h in o.0
+head_short true t ts p h = let o = or_parts (is_long t) (any_long ts) h in o.0
 head_short false t ts p h = absurd cc
 
 tail_short : (x : Bool) (t : Text) (ts : List Text) → any_long (cond x (t ∷ ts) ts) ≡ false → any_long ts ≡ false
-tail_short true t ts h = let o = or_false (is_long t) (any_long ts) h in o.1
+tail_short true t ts h = let o = or_parts (is_long t) (any_long ts) h in o.1
 tail_short false t ts h = h
 
 want_short : (ws : List Want) (w : Want) → IsWant ws w → any_long (wanted w.index ws) ≡ false → is_long w.text ≡ false

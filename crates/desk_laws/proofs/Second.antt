@@ -61,6 +61,7 @@ pub IsPlaced-exchange : (g : Change) (at : ℕ) (t : Tree Use) → g.from ≤ at
 IsPlaced-exchange g at Tree.nothing low p = tt
 IsPlaced-exchange g at (Tree.number bytes) low p = tt
 IsPlaced-exchange g at (Tree.raw bytes) low p = tt
+IsPlaced-exchange g at (Tree.code bytes) low p = tt
 IsPlaced-exchange g at (Tree.used u) low p = ap (moved g) p
 IsPlaced-exchange g at (Tree.member a) low p = IsPlaced-exchange g at a low p
 IsPlaced-exchange g at (Tree.both a b) low p =
@@ -75,6 +76,7 @@ exchange-same : (g : Change) (at : ℕ) (t : Tree Use) → g.from ≡ g.to → g
 exchange-same g at Tree.nothing same low p h = refl
 exchange-same g at (Tree.number bytes) same low p h = refl
 exchange-same g at (Tree.raw bytes) same low p h = refl
+exchange-same g at (Tree.code bytes) same low p h = refl
 exchange-same g at (Tree.used u) same low p h = ap Tree.used (use_same g u at same low p h)
 exchange-same g at (Tree.member a) same low p h = ap Tree.member (exchange-same g at a same low p h)
 exchange-same g at (Tree.both a b) same low p h = ap₂ Tree.both (exchange-same g at a same low p.0 h.0) (exchange-same g (at + length (print a)) b same (omega arith) p.1 h.1)
@@ -177,6 +179,7 @@ each_two : {U V : Type 0} (P : V → Type 0) (Q R : U → Type 0) (f : U → V) 
 each_two P Q R f Tree.nothing h q r = tt
 each_two P Q R f (Tree.number bytes) h q r = tt
 each_two P Q R f (Tree.raw bytes) h q r = tt
+each_two P Q R f (Tree.code bytes) h q r = tt
 each_two P Q R f (Tree.used u) h q r = h u q r
 each_two P Q R f (Tree.both a b) h q r = (each_two P Q R f a h q.0 r.0, each_two P Q R f b h q.1 r.1)
 each_two P Q R f (Tree.member a) h q r = each_two P Q R f a h q r

@@ -1,7 +1,7 @@
 -- What is read of a pool prints to the bytes that were read.
-use Rattle.std.proofs.Common.{◌≡◌, ℕ, zero, suc, ◌+◌, ◌<◌, Bool, true, false, cond, ◌&&◌, ◌||◌, List, [], ◌∷◌, ◌++◌, length, take, drop, Option, Some, None, Result, Ok, Err, refl, sym, ap, subst, ◌∙◌, append_assoc, append-nil, arith, length-append, length-take-le, nat_lt, nat_eq, inl, inr}
+use Rattle.std.proofs.Common.{◌≡◌, ℕ, zero, suc, ◌+◌, ◌<◌, Bool, true, false, cond, ◌||◌, List, [], ◌∷◌, ◌++◌, length, take, drop, Option, Some, None, Result, Ok, Err, refl, sym, ap, subst, ◌∙◌, append_assoc, append-nil, arith, length-append, length-take-le, nat_lt, nat_eq}
 use Rattle.std.specs.Int.{w8, w16, from_be_bytes}
-use Rattle.std.proofs.lemmas.Bool.{ltb-false, cases_lt, eqb-true}
+use Rattle.std.proofs.lemmas.Bool.{ltb-false, eqb-true}
 use Rattle.std.proofs.lemmas.List.{take-append-drop}
 use Rattle.std.proofs.lemmas.Nat.{be_bytes_2}
 use Rattle.desk_base.specs.declared.kinds.Tag.{Tag}
@@ -14,7 +14,9 @@ use Rattle.desk_format.specs.PoolBytes.{two, print_entry, print_slots, print_poo
 use Rattle.desk_format.specs.PoolReading.{Got, got, Reader, item, then_read, done, body, with_bytes, with_index, with_two, number_read, well_formed_text, text_read, kind_read, tag_numbered, has_room, more, goes_on, entry_tagged, entry_read, read_slots, unless, checked, counted, read_pool, first_fault, names_wrong, leads_wrong}
 use Rattle.desk_format.specs.Laws.{IsBytes}
 use Rattle.desk_format.proofs.Exact.{IsBytes-drop, IsBytes-take}
-use Rattle.desk_laws.proofs.Inverse.{ok_is, Awaits, slots_ensure}
+use Rattle.desk_format.proofs.PoolSteps.{ok_is}
+use Rattle.desk_format.proofs.TagLemmas.{at_each, all_below}
+use Rattle.desk_laws.proofs.Inverse.{Awaits, slots_ensure}
 
 -- What was read since some bytes in front is printed, and bytes are left.
 pub record Spelled {A : Type 0} (front : List ℕ) (print : A → List ℕ) (at : ℕ) (s : List ℕ) (g : Got A) : Type 0 where
@@ -159,23 +161,6 @@ body_spelled tags.Package f at s b = one_spelled f 20 package_named at s b (λ i
 abbrev agrees : Option Tag → ℕ → Bool
 agrees None n = true
 agrees (Some tag) n = nat_eq (number_of tag) n
-
-abbrev all_below : (ℕ → Bool) → ℕ → Bool
-all_below p zero = true
-all_below p (suc n) = p n && all_below p n
-
-both_true : (a b : Bool) → (a && b) ≡ true → (a ≡ true) × (b ≡ true)
-both_true true b h = (refl, h)
-both_true false b h = absurd cc
-
-at_each : (p : ℕ → Bool) (n : ℕ) → all_below p n ≡ true → (t : ℕ) → t < n → p t ≡ true
-at_each p zero h t lt = absurd (omega arith)
-at_each p (suc n) h t lt =
-    let parts = both_true (p n) (all_below p n) h in
-    elim (cases_lt t n) [
-      | inl less ↦ at_each p n parts.1 t less
-      | inr not_less ↦ let is : n ≡ t = omega arith in let P : ℕ → Type 0 = λ m. p m ≡ true in subst P is parts.0
-    ]
 
 all_agree : all_below (λ n. agrees (tag_numbered n) n) 256 ≡ true
 unfolding tag_numbered

@@ -3,21 +3,15 @@ use Rattle.std.proofs.Common.{◌≡◌, ℕ, suc, ◌<◌, ◌≤◌, Bool, tru
 use Rattle.std.specs.Ordering.{nat_cmp, is_lt}
 use Rattle.std.specs.Cmp.Lexicographic.{slice_cmp}
 use Rattle.std.proofs.lemmas.Slice.Eq.{bytes_eq-Decides}
+use Rattle.std.proofs.lemmas.Bool.{or_right}
 use Rattle.desk_base.specs.Entries.{Entry, utf8}
 use Rattle.desk_base.specs.Entries.{Pool, entry_at, text_at, text_in}
+use Rattle.desk_base.proofs.Bools.{or_weaker}
 use Rattle.desk_format.specs.Split.{Want, is_text, has_text, add, missing, entry_of, split, kept, place_of, chosen}
-
-or_mono : (a b c : Bool) → (b ≡ true → c ≡ true) → (a || b) ≡ true → (a || c) ≡ true
-or_mono true b c f h = refl
-or_mono false b c f h = f h
-
-or_right : (a b : Bool) → b ≡ true → (a || b) ≡ true
-or_right true b h = refl
-or_right false b h = h
 
 has_text-append : (t : List ℕ) (a b : Pool) → has_text t a ≡ true → has_text t (a ++ b) ≡ true
 has_text-append t [] b h = absurd cc
-has_text-append t (e ∷ es) b h = or_mono (is_text t e) (has_text t es) (has_text t (es ++ b)) (λ k. has_text-append t es b k) h
+has_text-append t (e ∷ es) b h = or_weaker (is_text t e) (has_text t es) (has_text t (es ++ b)) (λ k. has_text-append t es b k) h
 
 has_text-behind : (t : List ℕ) (a b : Pool) → has_text t b ≡ true → has_text t (a ++ b) ≡ true
 has_text-behind t [] b h = h
@@ -66,7 +60,7 @@ add_has t (s ∷ ss) = add_own t s ss (bytes_eq s t) (is_lt (slice_cmp nat_cmp t
 add_other : (t u s : List ℕ) (ss : List (List ℕ)) (same less : Bool) → (bytes_eq s u || has_text u (texts ss)) ≡ true → (has_text u (texts ss) ≡ true → has_text u (texts (add t ss)) ≡ true) → has_text u (texts (cond same (s ∷ ss) (cond less (t ∷ (s ∷ ss)) (s ∷ add t ss)))) ≡ true
 add_other t u s ss true less h k = h
 add_other t u s ss false true h k = or_right (bytes_eq t u) _ h
-add_other t u s ss false false h k = or_mono (bytes_eq s u) _ _ k h
+add_other t u s ss false false h k = or_weaker (bytes_eq s u) _ _ k h
 
 add_keeps : (t u : List ℕ) (ss : List (List ℕ)) → has_text u (texts ss) ≡ true → has_text u (texts (add t ss)) ≡ true
 add_keeps t u [] h = absurd cc

@@ -1,8 +1,9 @@
 -- A pool whose used texts are their own images stays as it is.
-use Rattle.std.proofs.Common.{◌≡◌, ℕ, zero, suc, Bool, true, false, cond, ◌||◌, List, [], ◌∷◌, ◌++◌, map, get_or, Option, Some, None, option_map, nat_eq, refl, ap, ap₂, sym, subst, ◌∙◌, append-nil, arith, eqb-true, inl, inr}
+use Rattle.std.proofs.Common.{◌≡◌, ℕ, zero, suc, Bool, true, false, cond, List, [], ◌∷◌, ◌++◌, map, get_or, Option, Some, None, option_map, nat_eq, refl, ap, ap₂, sym, subst, ◌∙◌, append-nil, arith, eqb-true, inl, inr}
 use Rattle.std.specs.List.{AllByRecursion}
 use Rattle.std.proofs.lemmas.List.{ext_get_or}
 use Rattle.std.proofs.lemmas.Slice.Eq.{bytes_eq-Decides}
+use Rattle.std.proofs.lemmas.Bool.{or_right}
 use Rattle.desk_base.specs.declared.kinds.Role.{Role}
 use Rattle.desk_base.specs.declared.kinds.Used.{Used}
 use Rattle.desk_base.specs.Entries.{Entry, utf8, class, string, name_and_type, method_type, module_named, package_named}
@@ -59,13 +60,10 @@ kept_all ws pool h =
 has_at : (t : List ℕ) (pool : Pool) (j : ℕ) → get_or pool j None ≡ Some (utf8 t) → has_text t pool ≡ true
 has_at t [] j h = absurd cc
 has_at t (slot ∷ slots) zero h = rw (h, (bytes_eq-Decides t t).1 refl) refl
-has_at t (slot ∷ slots) (suc j) h = or_so (is_text t slot) (has_text t slots) (has_at t slots j h)
-  where
-    or_so : (a b : Bool) → b ≡ true → (a || b) ≡ true
-    or_so true b k = refl
-    or_so false b k = k
+has_at t (slot ∷ slots) (suc j) h = or_right (is_text t slot) (has_text t slots) (has_at t slots j h)
 
-has_named : (t : List ℕ) (pool : Pool) (i : ℕ) → entry_at pool i ≡ Some (utf8 t) → has_text t pool ≡ true
+-- a text that an entry has is in the pool
+pub has_named : (t : List ℕ) (pool : Pool) (i : ℕ) → entry_at pool i ≡ Some (utf8 t) → has_text t pool ≡ true
 has_named t pool zero h = absurd cc
 has_named t pool (suc j) h = has_at t pool j h
 
@@ -73,7 +71,7 @@ missing_none : (pool : Pool) (ws : List Want) → AllByRecursion (Own pool) ws �
 missing_none pool [] h = refl
 missing_none pool (w ∷ ws) h = rw (has_named w.text pool w.index h.0.names) (missing_none pool ws h.1)
 
-own_at : (pool : Pool) (ws : List Want) (w : Want) → AllByRecursion (Own pool) ws → IsWant ws w → Own pool w
+pub own_at : (pool : Pool) (ws : List Want) (w : Want) → AllByRecursion (Own pool) ws → IsWant ws w → Own pool w
 own_at pool [] w h is = absurd is
 own_at pool (v ∷ vs) w h is = elim is [ inl e ↦ subst (Own pool) e h.0 | inr k ↦ own_at pool vs w h.1 k ]
 

@@ -118,6 +118,7 @@ pub stand_tree : (t : Tree Use) (at : ℕ) (more : List ℕ) (vs : List Used) �
 stand_tree Tree.nothing at more vs p h = subst (λ (m : ℕ). Stands m more vs) (omega arith) h
 stand_tree (Tree.number bytes) at more vs p h = skip at bytes more vs h
 stand_tree (Tree.raw bytes) at more vs p h = skip at bytes more vs h
+stand_tree (Tree.code bytes) at more vs p h = skip at bytes more vs h
 stand_tree (Tree.used u) at more vs p h = stand_used u (text_use u) at more vs (λ v e. let f = use_is u v e in (f.0 ∙ p, f.1)) h
 stand_tree (Tree.both a b) at more vs p h =
     let size : length (print a ++ print b) ≡ length (print a) + length (print b) = length-append (print a) (print b) in

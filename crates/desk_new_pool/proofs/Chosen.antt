@@ -1,16 +1,17 @@
 -- What the code finds is what the definitions choose.
-use Rattle.std.proofs.Common.{◌≡◌, ℕ, zero, suc, ◌+◌, ◌<◌, ◌≤◌, Bool, true, false, cond, ◌||◌, inl, inr, List, [], ◌∷◌, ◌++◌, map, length, get_or, Option, Some, None, option_map, unwrap_or, refl, ap, sym, ◌∙◌, bytes_eq, nat_eq, subst, All, arith}
+use Rattle.std.proofs.Common.{◌≡◌, ℕ, zero, suc, ◌+◌, ◌<◌, ◌≤◌, Bool, true, false, cond, ◌||◌, inl, inr, List, [], ◌∷◌, ◌++◌, map, length, get_or, Option, Some, None, option_map, unwrap_or, refl, ap, sym, ◌∙◌, bytes_eq, nat_eq, subst, All, arith, one-add}
 use denote.Ref.{Bor}
 use Rattle.std.specs.Option.{is_some, option_copied}
 use Rattle.std.proofs.lemmas.List.{length-map, map-append, ext_get_or, get_or_append_left}
 use Rattle.std.proofs.lemmas.List.Elements.{All-head, All-tail}
-use Rattle.std.proofs.lemmas.Bool.{eq-eqb}
+use Rattle.std.proofs.lemmas.Bool.{eq-eqb, or_right}
 use Rattle.std.proofs.lemmas.Slice.Eq.{bytes_eq-Decides}
 use Rattle.desk_base.specs.Names.{Text}
 use Rattle.desk_base.specs.Entries.{Entry, utf8, Pool, entry_at, utf8_at, utf8_in, text_at, text_in}
 use Rattle.desk_format.specs.Split.{Want, wanted, holds, keep, kept, is_text, has_text, add, missing, missing_texts, entry_of, split, place_of, chosen}
 use Rattle.desk_laws.proofs.Split.{IsWant, split_has}
 use Rattle.desk_laws.proofs.Slots.{length-kept}
+use Rattle.desk_laws.proofs.Stable.{has_named}
 use Rattle.desk_new_pool.specs.Keeps.{TextsAre}
 use Rattle.desk_new_pool.specs.Wants.{image_or, want_of, wants_of, IsWanted}
 use Rattle.desk_new_pool.specs.Places.{is_slice, least, unless_kept, not_kept, with_missing, missing_among, index_by}
@@ -22,10 +23,6 @@ use Rattle.desk_new_pool.proofs.Texts.{keep_own, text_at-utf8, entry_of_text, te
 use Rattle.desk_new_pool.proofs.Made.{map_same}
 
 -- ---- a use's own want is among those of its index
-
-or_right : (a b : Bool) → b ≡ true → (a || b) ≡ true
-or_right true b h = refl
-or_right false b h = h
 
 holds_by : (b : Bool) (s t : Text) (ts : List Text) → holds ts t ≡ true → holds (cond b (s ∷ ts) ts) t ≡ true
 holds_by true s t ts h = or_right (bytes_eq s t) (holds ts t) h
@@ -120,17 +117,8 @@ is_some_found : (b : Bool) (n : ℕ) → is_some (cond b (Some n) None) ≡ b
 is_some_found true n = refl
 is_some_found false n = refl
 
-has_by : (t : Text) (slots : Pool) (i : ℕ) → get_or slots i None ≡ Some (utf8 t) → has_text t slots ≡ true
-has_by t [] i h = absurd cc
-has_by t (slot ∷ slots) zero h = ap (λ (o : Option Entry). is_text t o || has_text t slots) h ∙ ap (λ (b : Bool). b || has_text t slots) ((bytes_eq-Decides t t).1 refl)
-has_by t (slot ∷ slots) (suc i) h = or_right (is_text t slot) (has_text t slots) (has_by t slots i h)
-
-has_at : (pool : Pool) (i : ℕ) (t : Text) → entry_at pool i ≡ Some (utf8 t) → has_text t pool ≡ true
-has_at pool zero t h = absurd cc
-has_at pool (suc i) t h = has_by t pool i h
-
 missing_step : (kept_pool : Pool) (texts : List (Option (Bor Text))) (w : Want) (o : Option Text) (ms : List Text) → TextsAre kept_pool texts → Tells kept_pool w o → with_missing texts o ms ≡ cond (has_text w.text kept_pool) ms (add w.text ms)
-missing_step kept_pool texts w None ms are h = sym (ap (λ (b : Bool). cond b ms (add w.text ms)) (has_at kept_pool w.index w.text (entry_of_text kept_pool w.index w.text h)))
+missing_step kept_pool texts w None ms are h = sym (ap (λ (b : Bool). cond b ms (add w.text ms)) (has_named w.text kept_pool w.index (entry_of_text kept_pool w.index w.text h)))
 missing_step kept_pool texts w (Some t) ms are h =
     ap (λ (o : Option ℕ). cond (is_some o) ms (add t ms)) (least_is kept_pool texts t are)
     ∙ ap (λ (b : Bool). cond b ms (add t ms)) (is_some_found (has_text t kept_pool) (1 + place_of t kept_pool))
@@ -195,9 +183,7 @@ chosen_is kept_pool ms all w (Some t) are h le has =
     let new : Pool = kept_pool ++ map entry_of ms in
     let other : bytes_eq (text_at new w.index) w.text ≡ false = ap (λ (o : Option Entry). bytes_eq (text_in o) w.text) (entry_left kept_pool (map entry_of ms) w.index le) ∙ h.1 in
     ap (λ (u : Text). unwrap_or (least 0 all u) w.index) h.0 ∙ ap (λ (o : Option ℕ). unwrap_or o w.index) (least_is new all w.text are ∙ ap (λ (b : Bool). cond b (Some (1 + place_of w.text new)) None) has)
-    ∙ one_more (place_of w.text new) ∙ sym (ap (λ (b : Bool). cond b w.index (suc (place_of w.text new))) other) where
-      one_more : (n : ℕ) → 1 + n ≡ suc n
-      one_more n = omega arith
+    ∙ one-add (place_of w.text new) ∙ sym (ap (λ (b : Bool). cond b w.index (suc (place_of w.text new))) other)
 
 -- ---- the whole
 

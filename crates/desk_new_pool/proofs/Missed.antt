@@ -1,5 +1,5 @@
 -- The missing texts, from the last use to the first.
-use Rattle.std.proofs.Common.{◌≡◌, ℕ, ◌+◌, ◌-◌, ◌<◌, ◌≤◌, Bool, true, false, cond, List, [], ◌∷◌, map, length, get_or, drop, Option, Some, refl, ap, sym, ◌∙◌, bytes_eq, arith}
+use Rattle.std.proofs.Common.{◌≡◌, ℕ, ◌+◌, ◌-◌, ◌<◌, ◌≤◌, false, cond, List, [], ◌∷◌, map, length, get_or, drop, Option, Some, refl, ap, sym, ◌∙◌, bytes_eq, arith}
 use denote.Ref.{Bor}
 use Rattle.std.specs.Option.{is_some}
 use Rattle.std.specs.Ordering.{nat_cmp, is_lt, is_eq, match_ordering}
@@ -9,21 +9,13 @@ use Rattle.std.specs.Cmp.Lexicographic.{slice_cmp}
 use Rattle.std.specs.BTreeSet.{BTreeSet, insert_key}
 use Rattle.std.proofs.lemmas.List.{drop_more}
 use Rattle.std.proofs.lemmas.Map.Text.{is_eq-slice_cmp}
-use Rattle.std.proofs.lemmas.Slice.Eq.{bytes_eq-Decides}
+use Rattle.std.proofs.lemmas.Cmp.{nat_list_eq_equiv}
 use Rattle.desk_base.specs.Names.{Text}
 use Rattle.desk_format.specs.Split.{add}
 use Rattle.desk_new_pool.specs.Places.{least, not_kept, with_missing, missing_among, in_set}
 use Rattle.desk_new_pool.specs.declared.wants.WantedText.{WantedText}
 
 -- ---- a text put into a set
-
-bool_of : (a b : Bool) → (a ≡ true → b ≡ true) → (b ≡ true → a ≡ true) → a ≡ b
-bool_of true b f g = sym (f refl)
-bool_of false true f g = g refl
-bool_of false false f g = refl
-
-pub turned : (s t : Text) → bytes_eq s t ≡ bytes_eq t s
-turned s t = bool_of (bytes_eq s t) (bytes_eq t s) (λ h. (bytes_eq-Decides t s).1 (sym ((bytes_eq-Decides s t).0 h))) (λ h. (bytes_eq-Decides s t).1 (sym ((bytes_eq-Decides t s).0 h)))
 
 put_by : (r : Ordering) (k s : Bor Text) (ks rest : List (Bor Text)) (more : List Text) → is_eq r ≡ bytes_eq s.now k.now → map (λ x. x.now) rest ≡ more
     → map (λ x. x.now) (match_ordering r (k ∷ (s ∷ ks)) (s ∷ ks) (s ∷ rest)) ≡ cond (bytes_eq s.now k.now) (s.now ∷ map (λ x. x.now) ks) (cond (is_lt r) (k.now ∷ (s.now ∷ map (λ x. x.now) ks)) (s.now ∷ more))
@@ -34,7 +26,7 @@ put_by Greater k s ks rest more e h = rw (← e) (ap (λ (l : List Text). s.now 
 put : (ks : List (Bor Text)) (k : Bor Text) → map (λ x. x.now) (insert_key (λ x y. slice_cmp nat_cmp x.now y.now) ks k) ≡ add k.now (map (λ x. x.now) ks)
 put [] k = refl
 put (s ∷ ks) k =
-    put_by (slice_cmp nat_cmp k.now s.now) k s ks (insert_key (λ x y. slice_cmp nat_cmp x.now y.now) ks k) (add k.now (map (λ x. x.now) ks)) (is_eq-slice_cmp k.now s.now ∙ turned k.now s.now) (put ks k)
+    put_by (slice_cmp nat_cmp k.now s.now) k s ks (insert_key (λ x y. slice_cmp nat_cmp x.now y.now) ks k) (add k.now (map (λ x. x.now) ks)) (is_eq-slice_cmp k.now s.now ∙ nat_list_eq_equiv.symm k.now s.now) (put ks k)
 
 pub set_put : (s n : BTreeSet (Bor Text)) (k : Bor Text) → n.keys ≡ insert_key (λ x y. slice_cmp nat_cmp x.now y.now) s.keys k → in_set n ≡ add k.now (in_set s)
 set_put s n k e = ap (λ (ks : List (Bor Text)). map (λ x. x.now) ks) e ∙ put s.keys k

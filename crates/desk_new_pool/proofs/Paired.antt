@@ -1,11 +1,8 @@
 -- Twins by a map from names and descriptors to the first member that has them.
 use Rattle.std.proofs.Common.{◌≡◌, ℕ, ◌+◌, ◌<◌, Bool, true, false, cond, ◌&&◌, List, [], ◌∷◌, ◌++◌, map, length, get_or, take, drop, Option, Some, None, option_map, refl, ap, ap₂, sym, ◌∙◌, bytes_eq, nat_eq, arith, All}
-use denote.Ref.{Bor}
+use mathlib.Core.Bool.{and_assoc}
 use Rattle.std.specs.List.{find}
-use Rattle.std.specs.Option.{option_copied}
 use Rattle.std.specs.Ordering.{nat_cmp, is_eq, ordering_then, bool_cmp}
-use Rattle.std.specs.declared.cmp.Ordering.{Ordering}
-use Rattle.std.specs.declared.cmp.Ordering.TheVariants.{Less, Equal, Greater}
 use Rattle.std.specs.BTreeMap as tree
 use Rattle.std.specs.BTreeMap.{BTreeMap}
 use Rattle.std.proofs.lemmas.List.{take_more, drop_more, map_push}
@@ -18,23 +15,12 @@ use Rattle.desk_format.specs.Members.{Named, Twins, same_kind, are_twins, twins_
 use Rattle.desk_new_pool.specs.declared.twins.NumberedMember.{NumberedMember}
 use Rattle.desk_new_pool.specs.Twins.{TellApart, IsNumbered, AreNumbered, member_in, places_of, Key, key_of, key_cmp, first_place, at_key}
 use Rattle.std.proofs.lemmas.Bool.Decides.{nat_tests}
+use Rattle.std.proofs.lemmas.Bool.{eqb-true}
+use Rattle.std.proofs.lemmas.Cmp.{nat_eq_equiv}
+use Rattle.desk_base.proofs.Orderings.{is_eq-then, is_eq-nat_cmp}
+use Rattle.desk_format.proofs.MemberKinds.{is_eq-bool_cmp}
 
 -- ---- equal keys
-
-and_assoc : (a b c : Bool) → ((a && b) && c) ≡ (a && (b && c))
-and_assoc true b c = refl
-and_assoc false b c = refl
-
-is_eq-then : (r s : Ordering) → is_eq (ordering_then r s) ≡ (is_eq r && is_eq s)
-is_eq-then Less s = refl
-is_eq-then Equal s = refl
-is_eq-then Greater s = refl
-
-is_eq-bool : (a b : Bool) → is_eq (bool_cmp a b) ≡ same_kind a b
-is_eq-bool true true = refl
-is_eq-bool true false = refl
-is_eq-bool false true = refl
-is_eq-bool false false = refl
 
 kind_turned : (a b : Bool) → same_kind a b ≡ same_kind b a
 kind_turned true true = refl
@@ -48,15 +34,6 @@ kind_is true false h = absurd cc
 kind_is false true h = absurd cc
 kind_is false false h = refl
 
-number_eq : (a b : ℕ) → is_eq (nat_cmp a b) ≡ nat_eq a b
-number_eq a b = grind (arith, nat_tests)
-
-number_turned : (a b : ℕ) → nat_eq a b ≡ nat_eq b a
-number_turned a b = grind (arith, nat_tests)
-
-number_is : (a b : ℕ) → nat_eq a b ≡ true → a ≡ b
-number_is a b h = grind (arith, nat_tests)
-
 abbrev same_key : Key → Key → Bool
 same_key x y = (same_kind x.0 y.0 && nat_eq x.1 y.1) && nat_eq x.2 y.2
 
@@ -64,15 +41,15 @@ is_eq-key : (x y : Key) → is_eq (key_cmp x y) ≡ same_key x y
 is_eq-key x y =
     is_eq-then (ordering_then (bool_cmp x.0 y.0) (nat_cmp x.1 y.1)) (nat_cmp x.2 y.2)
     ∙ ap (λ (b : Bool). b && is_eq (nat_cmp x.2 y.2)) (is_eq-then (bool_cmp x.0 y.0) (nat_cmp x.1 y.1))
-    ∙ ap (λ (b : Bool). (b && is_eq (nat_cmp x.1 y.1)) && is_eq (nat_cmp x.2 y.2)) (is_eq-bool x.0 y.0)
-    ∙ ap (λ (b : Bool). (same_kind x.0 y.0 && b) && is_eq (nat_cmp x.2 y.2)) (number_eq x.1 y.1)
-    ∙ ap (λ (b : Bool). (same_kind x.0 y.0 && nat_eq x.1 y.1) && b) (number_eq x.2 y.2)
+    ∙ ap (λ (b : Bool). (b && is_eq (nat_cmp x.1 y.1)) && is_eq (nat_cmp x.2 y.2)) (is_eq-bool_cmp x.0 y.0)
+    ∙ ap (λ (b : Bool). (same_kind x.0 y.0 && b) && is_eq (nat_cmp x.2 y.2)) (is_eq-nat_cmp x.1 y.1)
+    ∙ ap (λ (b : Bool). (same_kind x.0 y.0 && nat_eq x.1 y.1) && b) (is_eq-nat_cmp x.2 y.2)
 
 key_turned : (x y : Key) → same_key x y ≡ same_key y x
 key_turned x y =
     ap (λ (b : Bool). (b && nat_eq x.1 y.1) && nat_eq x.2 y.2) (kind_turned x.0 y.0)
-    ∙ ap (λ (b : Bool). (same_kind y.0 x.0 && b) && nat_eq x.2 y.2) (number_turned x.1 y.1)
-    ∙ ap (λ (b : Bool). (same_kind y.0 x.0 && nat_eq y.1 x.1) && b) (number_turned x.2 y.2)
+    ∙ ap (λ (b : Bool). (same_kind y.0 x.0 && b) && nat_eq x.2 y.2) (nat_eq_equiv.symm x.1 y.1)
+    ∙ ap (λ (b : Bool). (same_kind y.0 x.0 && nat_eq y.1 x.1) && b) (nat_eq_equiv.symm x.2 y.2)
 
 record SameParts (x y : Key) : Type 0 where
   kind : x.0 ≡ y.0
@@ -92,8 +69,8 @@ parts x y h =
     let front : (same_kind x.0 y.0 && nat_eq x.1 y.1) ≡ true = and_left (same_kind x.0 y.0 && nat_eq x.1 y.1) (nat_eq x.2 y.2) h in
     record {
       kind = kind_is x.0 y.0 (and_left (same_kind x.0 y.0) (nat_eq x.1 y.1) front);
-      name = number_is x.1 y.1 (and_right (same_kind x.0 y.0) (nat_eq x.1 y.1) front);
-      descriptor = number_is x.2 y.2 (and_right (same_kind x.0 y.0 && nat_eq x.1 y.1) (nat_eq x.2 y.2) h);
+      name = eqb-true x.1 y.1 (and_right (same_kind x.0 y.0) (nat_eq x.1 y.1) front);
+      descriptor = eqb-true x.2 y.2 (and_right (same_kind x.0 y.0 && nat_eq x.1 y.1) (nat_eq x.2 y.2) h);
     }
 
 key_moved : (x y z : Key) → SameParts x y → same_key x z ≡ same_key y z
@@ -161,7 +138,7 @@ numbers_by : (numbers : Text → Option ℕ) (t u : Text) (k n : ℕ) (a b : Boo
 numbers_by numbers t u k n true true h p q r s = refl
 numbers_by numbers t u k n false false h p q r s = refl
 numbers_by numbers t u k n true false h p q r s =
-    let same : n ≡ k = sym (number_is k n r) in
+    let same : n ≡ k = sym (eqb-true k n r) in
     let is : t ≡ u = h t u k p (q ∙ ap (λ (m : ℕ). Some m) same) in
     let yes : bytes_eq t u ≡ true = (bytes_eq-Decides t u).1 is in
     absurd cc
@@ -175,8 +152,8 @@ numbers_by numbers t u k n false true h p q r s =
 twin_by : (a b : Bool) (n m d e : ℕ) → ((same_kind a b && nat_eq n m) && nat_eq d e) ≡ (same_kind b a && (nat_eq m n && nat_eq e d))
 twin_by a b n m d e = and_assoc (same_kind a b) (nat_eq n m) (nat_eq d e)
     ∙ ap (λ (x : Bool). x && (nat_eq n m && nat_eq d e)) (kind_turned a b)
-    ∙ ap (λ (x : Bool). same_kind b a && (x && nat_eq d e)) (number_turned n m)
-    ∙ ap (λ (x : Bool). same_kind b a && (nat_eq m n && x)) (number_turned d e)
+    ∙ ap (λ (x : Bool). same_kind b a && (x && nat_eq d e)) (nat_eq_equiv.symm n m)
+    ∙ ap (λ (x : Bool). same_kind b a && (nat_eq m n && x)) (nat_eq_equiv.symm d e)
 
 at_by : (b : Bool) (x : NumberedMember) (o : Option Member) (r : Option NumberedMember) → option_map (λ (y : Member). y.at) o ≡ option_map (λ (y : NumberedMember). y.member.at) r
     → option_map (λ (y : Member). y.at) (cond b (Some x.member) o) ≡ option_map (λ (y : NumberedMember). y.member.at) (cond b (Some x) r)
@@ -231,7 +208,3 @@ twins_later named ms i d lt all h =
     behind_at named ms i d lt
     ∙ no_twin (find (λ b. are_twins named b m.member) (map member_in (take i ms))) m.member (twins_behind named (map member_in (take i ms) ++ m.member ∷ []) (map member_in (drop (i + 1) ms))) (find_twin named ms i d lt all ∙ h)
     ∙ ap (λ (l : List Member). twins_behind named l (map member_in (drop (i + 1) ms))) (sym one)
-
-pub never_copied : (o : Option (Bor ℕ)) → ((x : Bor ℕ) → o ≡ Some x → ⊥) → option_copied o ≡ None
-never_copied None h = refl
-never_copied (Some x) h = absurd (h x refl)

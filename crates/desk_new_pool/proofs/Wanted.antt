@@ -1,6 +1,7 @@
 -- What is known of an entry's text, use by use.
-use Rattle.std.proofs.Common.{◌≡◌, ℕ, suc, ◌+◌, ◌<◌, ◌≢◌, Bool, true, false, cond, ◌||◌, List, [], ◌∷◌, ◌++◌, length, get_or, take, Option, Some, None, option_map, refl, ap, sym, ◌∙◌, subst, bytes_eq, nat_eq, set, zero, All, get_or-set_same, get_or-set_other, arith}
+use Rattle.std.proofs.Common.{◌≡◌, ℕ, suc, ◌+◌, ◌<◌, ◌≢◌, Bool, true, false, cond, ◌||◌, List, [], ◌∷◌, ◌++◌, length, get_or, take, Option, Some, None, option_map, refl, ap, sym, ◌∙◌, subst, bytes_eq, nat_eq, set, zero, All, get_or-set_same, get_or-set_other, one-add}
 use denote.Ref.{Bor}
+use mathlib.Core.Bool.{or-false, or-true, or_assoc}
 use Rattle.std.proofs.lemmas.Slice.Eq.{bytes_eq-Decides}
 use Rattle.desk_base.specs.Names.{Text}
 use Rattle.desk_base.specs.Entries.{Entry, utf8, Pool, utf8_at, utf8_in, text_at}
@@ -10,34 +11,16 @@ use Rattle.desk_new_pool.specs.Keeps.{Keeps}
 use Rattle.desk_new_pool.specs.Wants.{image_or, Differs, IsWanted, want_of, wants_of}
 use Rattle.desk_new_pool.specs.declared.wants.WantedText.{WantedText}
 use Rattle.std.proofs.lemmas.List.{map_more}
-use Rattle.std.proofs.lemmas.Bool.{eqb-true, eqb-false}
+use Rattle.std.proofs.lemmas.Bool.{eqb-true, eqb-false, or_from}
+use Rattle.std.proofs.lemmas.Cmp.{nat_list_eq_equiv}
 use Rattle.desk_new_pool.specs.declared.keeps.Keep.{Keep}
 use Rattle.desk_new_pool.specs.declared.keeps.Keep.TheVariants as keeps
 
 -- ---- one more use
 
-or_assoc : (a b c : Bool) → ((a || b) || c) ≡ (a || (b || c))
-or_assoc true b c = refl
-or_assoc false b c = refl
-
-or_true : (a : Bool) → (a || true) ≡ true
-or_true true = refl
-or_true false = refl
-
-or_end : (b : Bool) → (b || false) ≡ b
-or_end true = refl
-or_end false = refl
-
-or_false : (a b : Bool) → a ≡ false → b ≡ false → (a || b) ≡ false
-or_false true b p q = absurd cc
-or_false false b p q = q
-
 holds-push : (ts : List Text) (t own : Text) → holds (ts ++ t ∷ []) own ≡ (holds ts own || bytes_eq t own)
-holds-push [] t own = or_end (bytes_eq t own)
+holds-push [] t own = or-false (bytes_eq t own)
 holds-push (s ∷ ss) t own = ap (λ (b : Bool). bytes_eq s own || b) (holds-push ss t own) ∙ sym (or_assoc (bytes_eq s own) (holds ss own) (bytes_eq t own))
-
-itself : (t : Text) → bytes_eq t t ≡ true
-itself t = (bytes_eq-Decides t t).1 refl
 
 other_by : (b : Bool) (t own : Text) → bytes_eq t own ≡ b → t ≢ own → b ≡ false
 other_by true t own e ne = absurd (ne ((bytes_eq-Decides t own).0 e))
@@ -48,7 +31,7 @@ other t own ne = other_by (bytes_eq t own) t own refl ne
 
 -- a use that wants the entry's own text
 pub own_wanted : (ts : List Text) (own : Text) → holds (ts ++ own ∷ []) own ≡ true
-own_wanted ts own = holds-push ts own own ∙ ap (λ (b : Bool). holds ts own || b) (itself own) ∙ or_true (holds ts own)
+own_wanted ts own = holds-push ts own own ∙ ap (λ (b : Bool). holds ts own || b) (nat_list_eq_equiv.refl own) ∙ or-true (holds ts own)
 
 -- an own text that was wanted before
 pub own_stays : (ts : List Text) (t own : Text) → holds ts own ≡ true → holds (ts ++ t ∷ []) own ≡ true
@@ -57,7 +40,7 @@ own_stays ts t own h = holds-push ts t own ∙ ap (λ (b : Bool). b || bytes_eq 
 -- a later use, which wants another text too
 pub image_stays : (ts : List Text) (own t : Text) (s : Bor Text) → Keeps own ts (keeps.Image s) → t ≢ own → Keeps own (ts ++ t ∷ []) (keeps.Image s)
 image_stays ts own t s h ne =
-    (holds-push ts t own ∙ or_false (holds ts own) (bytes_eq t own) h.0 (other t own ne), (h.1.0 ++ t ∷ [], ap (λ (us : List Text). us ++ t ∷ []) h.1.1))
+    (holds-push ts t own ∙ or_from (holds ts own) (bytes_eq t own) h.0 (other t own ne), (h.1.0 ++ t ∷ [], ap (λ (us : List Text). us ++ t ∷ []) h.1.1))
 
 -- ---- all uses
 
@@ -78,9 +61,7 @@ kept_text ws i (Some (utf8 t)) = refl
 kept_text ws i (Some _) = refl
 
 text_at_slot : (ws : List Want) (pool : Pool) (i : ℕ) → utf8_at (kept ws 1 pool) (suc i) ≡ option_map (λ own. keep own (wanted (suc i) ws)) (utf8_at pool (suc i))
-text_at_slot ws pool i = ap utf8_in (kept-at ws 1 pool i) ∙ ap (λ (n : ℕ). utf8_in (option_map (kept_entry ws n) (get_or pool i None))) (one_more i) ∙ kept_text ws (suc i) (get_or pool i None) where
-  one_more : (n : ℕ) → 1 + n ≡ suc n
-  one_more n = omega arith
+text_at_slot ws pool i = ap utf8_in (kept-at ws 1 pool i) ∙ ap (λ (n : ℕ). utf8_in (option_map (kept_entry ws n) (get_or pool i None))) (one-add i) ∙ kept_text ws (suc i) (get_or pool i None)
 
 pub kept_text_at : (ws : List Want) (pool : Pool) (i : ℕ) → utf8_at (kept ws 1 pool) i ≡ option_map (λ own. keep own (wanted i ws)) (utf8_at pool i)
 kept_text_at ws pool zero = refl

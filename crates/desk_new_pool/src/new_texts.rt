@@ -33,7 +33,7 @@ pub struct NewTexts<'a> {
     pub indices: Vec<u16>,
 }
 
-/// Why texts have no new pool.
+/// Why there is no new pool with these texts.
 #[derive(Clone, Copy, Debug, PartialEq, Eq)]
 pub enum NewPoolFault {
     /// A wanted text has more than 65,535 bytes.
@@ -45,7 +45,7 @@ pub enum NewPoolFault {
     },
     /// The new pool would have more than 65,535 as its count.
     PoolFull {
-        /// The count of the old pool.
+        /// `constant_pool_count` of the old class (JVMS 4.1).
         count: u16,
         /// How many texts are missing.
         needed: u32,

@@ -13,15 +13,15 @@ use std::collections::BTreeMap;
 /// A field or a method, with numbers of the texts that tell it apart.
 #[derive(Clone, Copy, Debug)]
 pub struct NumberedMember {
-    /// The member.
+    /// The field or the method as the class file has it.
     pub member: Member,
-    /// The number of its name.
+    /// The number of its name; equal names have equal numbers.
     pub name: u16,
-    /// The number of its descriptor.
+    /// The number of its descriptor; equal descriptors have equal numbers.
     pub descriptor: u16,
 }
 
-/// Two fields or two methods of one name and descriptor.
+/// Where two fields or two methods stand that have one name and descriptor, which no class may have (JVMS 4.5, 4.6).
 #[derive(Clone, Copy, Debug, PartialEq, Eq)]
 pub struct TwinPlaces {
     /// The offset of the first, in bytes.

@@ -1,4 +1,5 @@
 -- Choices of a selection, and patterns with text rules, one after the other.
+use mathlib.Core.Bool.{and-false, and-true}
 use Rattle.std.proofs.Common.{◌≡◌, ℕ, ◌+◌, ◌<◌, ◌≤◌, suc, Bool, true, false, cond, not, ◌&&◌, ◌||◌, List, [], ◌∷◌, length, drop, get_or, Option, Some, None, refl, sym, ap, ◌∙◌, add-one, arith}
 use Rattle.std.specs.List.{list_any}
 use Rattle.std.proofs.lemmas.List.{drop_all}
@@ -26,19 +27,11 @@ parts items path some fitting excluded a b c =
     ∙ ap (λ (x : Bool). selected some x (list_any (excludes path) (choices_seen items))) (any_seen (includes path) items ∙ sym b)
     ∙ ap (λ (x : Bool). selected some fitting x) (any_seen (excludes path) items ∙ sym c)
 
-and_false : (x : Bool) → (x && false) ≡ false
-and_false true = refl
-and_false false = refl
-
-and_true : (x : Bool) → (x && true) ≡ x
-and_true true = refl
-and_true false = refl
-
 pub select_excluded : (items : List KeptChoice) (path : Text) (excluded : Bool) → excluded ≡ list_any (λ choice. choice.excludes && fits choice.pattern path) items → excluded ≡ true → false ≡ selects (choices_seen items) path
-select_excluded items path excluded c e = sym (parts items path _ _ excluded refl refl c ∙ ap (selected (list_any (λ choice. not choice.excludes) items) (list_any (λ choice. not choice.excludes && fits choice.pattern path) items)) e ∙ and_false _)
+select_excluded items path excluded c e = sym (parts items path _ _ excluded refl refl c ∙ ap (selected (list_any (λ choice. not choice.excludes) items) (list_any (λ choice. not choice.excludes && fits choice.pattern path) items)) e ∙ and-false _)
 
 pub select_included : (items : List KeptChoice) (path : Text) (some fitting excluded : Bool) → some ≡ list_any (λ choice. not choice.excludes) items → fitting ≡ list_any (λ choice. not choice.excludes && fits choice.pattern path) items → excluded ≡ list_any (λ choice. choice.excludes && fits choice.pattern path) items → excluded ≡ false → some ≡ true → fitting ≡ selects (choices_seen items) path
-select_included items path some fitting excluded a b c e s = sym (parts items path some fitting excluded a b c ∙ ap (selected some fitting) e ∙ ap (λ (x : Bool). selected x fitting false) s ∙ and_true fitting)
+select_included items path some fitting excluded a b c e s = sym (parts items path some fitting excluded a b c ∙ ap (selected some fitting) e ∙ ap (λ (x : Bool). selected x fitting false) s ∙ and-true fitting)
 
 pub select_all : (items : List KeptChoice) (path : Text) (some excluded : Bool) → some ≡ list_any (λ choice. not choice.excludes) items → excluded ≡ list_any (λ choice. choice.excludes && fits choice.pattern path) items → excluded ≡ false → some ≡ false → true ≡ selects (choices_seen items) path
 select_all items path some excluded a c e s = sym (parts items path some _ excluded a refl c ∙ ap (selected some (list_any (λ choice. not choice.excludes && fits choice.pattern path) items)) e ∙ ap (λ (x : Bool). selected x (list_any (λ choice. not choice.excludes && fits choice.pattern path) items) false) s)

@@ -4,14 +4,14 @@ use Rattle.std.specs.declared.cmp.Ordering.{Ordering}
 use Rattle.std.specs.Ordering.{nat_cmp, is_gt}
 use Rattle.std.specs.Cmp.Lexicographic.{slice_cmp}
 use Rattle.std.proofs.lemmas.Bool.{both_ways, cases_Bool, cases_lt}
-use Rattle.std.proofs.lemmas.List.{get_or-drop, length-set}
+use Rattle.std.proofs.lemmas.List.{get_or-drop, length-set, map_push}
 use Rattle.desk_base.specs.Names.{Text}
 use Rattle.desk_patterns.specs.TextRules.{TextRule, longest, source_at, StandsBehind}
 use Rattle.desk_patterns.specs.Tables.{starts, is_behind, last_start, first_byte, IsTable, IsTextTable}
 use Rattle.desk_patterns.specs.Seen.{rules_seen, shorter_seen, NoHits}
 use Rattle.desk_patterns.specs.FirstBytes.{is_first, NoneFirst}
 use Rattle.desk_patterns.specs.declared.text_rules.TextRule.{TextRule as KeptRule}
-use Rattle.desk_patterns.proofs.Lists.{seen_more, seen_there, map_length, length_more}
+use Rattle.desk_patterns.proofs.Lists.{seen_there, map_length, length_more}
 use Rattle.desk_patterns.proofs.Starts.{start_byte}
 use Rattle.desk_patterns.proofs.Tables.{last_skips, longest_none, target_at, table_more, source_kept, source_added}
 use Rattle.desk_patterns.proofs.FirstBytes.{first_kept}
@@ -64,8 +64,8 @@ kept_more items new firsts next source target shorter first count so some behind
     let more : List TextRule = rules ++ (source, target) ∷ [] in
     let size : count ≡ length rules = omega (arith, counted, seen_length items) in
     let table : IsTable more (shorter_seen items ++ shorter ∷ []) = table_more rules (shorter_seen items) source target shorter so.table some behind (last ∙ ap (last_start source rules) size) in
-    let seen : rules_seen new ≡ more = ap rules_seen added ∙ seen_more (λ (r : KeptRule). (r.source, r.target)) items rule in
-    let places : shorter_seen new ≡ shorter_seen items ++ shorter ∷ [] = ap shorter_seen added ∙ seen_more (λ (r : KeptRule). r.shorter) items rule in
+    let seen : rules_seen new ≡ more = ap rules_seen added ∙ map_push (λ (r : KeptRule). (r.source, r.target)) items rule in
+    let places : shorter_seen new ≡ shorter_seen items ++ shorter ∷ [] = ap shorter_seen added ∙ map_push (λ (r : KeptRule). r.shorter) items rule in
     let byte : first ≡ first_byte source = begins ∙ front_byte source some in
     let there_set : is_first (set firsts first true) first ≡ true = sym (ap (λ (t : List Bool). is_first t first) marked) ∙ there in
     subst (λ (kept : List TextRule). IsTextTable kept (shorter_seen new) next) (sym seen)

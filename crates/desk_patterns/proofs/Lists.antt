@@ -1,10 +1,6 @@
 -- Lists, and what is seen of their items.
 use Rattle.std.proofs.Common.{◌≡◌, ◌<◌, ℕ, zero, suc, List, [], ◌∷◌, ◌++◌, map, length, drop, get_or, refl, sym, ap, ◌∙◌, arith}
 
-pub seen_more : {A B : Type 0} (f : A → B) (items : List A) (x : A) → map f (items ++ x ∷ []) ≡ map f items ++ f x ∷ []
-seen_more f [] x = refl
-seen_more f (y ∷ items) x = ap (λ ys. f y ∷ ys) (seen_more f items x)
-
 pub length_more : {A : Type 0} (xs : List A) (y : A) → length (xs ++ y ∷ []) ≡ suc (length xs)
 length_more [] y = refl
 length_more (x ∷ xs) y = ap (λ (n : ℕ). suc n) (length_more xs y)

@@ -5,24 +5,19 @@ use Rattle.std.specs.declared.cmp.Ordering.TheVariants.{Less, Equal, Greater}
 use Rattle.std.specs.Ordering.{nat_cmp, is_gt, ordering_then}
 use Rattle.std.specs.Cmp.{nat_cmp_is}
 use Rattle.std.specs.Cmp.Lexicographic.{slice_cmp}
-use Rattle.std.proofs.lemmas.Bool.{both_ways, cases_order, cases_Bool, eqb-true, eq-eqb, and_parts, and_from}
+use Rattle.std.proofs.lemmas.Bool.{both_ways, cases_order, cases_Bool, eqb-true, and_parts, and_from, eq-eqb}
 use Rattle.std.proofs.lemmas.Cmp.{nat_cmp_total, tied_itself}
 use Rattle.std.proofs.lemmas.List.{drop_all}
 use Rattle.desk_base.specs.Names.{Text, is_empty}
+use Rattle.desk_base.proofs.Orderings.{then_is}
 use Rattle.desk_patterns.specs.Tables.{starts, is_behind, shared, first_byte}
 
 tied : (x c : ℕ) → x ≡ c → nat_cmp x c ≡ Equal
 tied x c same = rw same (tied_itself nat_cmp_total c)
 
-then_is : (o p : Ordering) → o ≡ Equal → ordering_then o p ≡ p
-then_is o p e = rw e refl
-
-same_from : (a b : ℕ) → a ≡ b → (a == b) ≡ true
-same_from a b h = eq-eqb a b h
-
 pub starts_self : (t : Text) → starts t t ≡ true
 starts_self [] = refl
-starts_self (b ∷ t) = and_from _ _ (same_from b b refl) (starts_self t)
+starts_self (b ∷ t) = and_from _ _ (eq-eqb b b refl) (starts_self t)
 
 -- what starts the start of a text starts the text
 pub starts_through : (s t u : Text) → starts t s ≡ true → starts u t ≡ true → starts u s ≡ true
@@ -30,7 +25,7 @@ starts_through [] t u h k = refl
 starts_through (b ∷ s) [] u h k = absurd cc
 starts_through (b ∷ s) (c ∷ t) [] h k = absurd cc
 starts_through (b ∷ s) (c ∷ t) (d ∷ u) h k =
-    and_from _ _ (same_from b d (eqb-true b c (and_parts _ _ h).0 ∙ eqb-true c d (and_parts _ _ k).0)) (starts_through s t u (and_parts _ _ h).1 (and_parts _ _ k).1)
+    and_from _ _ (eq-eqb b d (eqb-true b c (and_parts _ _ h).0 ∙ eqb-true c d (and_parts _ _ k).0)) (starts_through s t u (and_parts _ _ h).1 (and_parts _ _ k).1)
 
 -- of two starts of a text, the one that stands before the other is shorter
 pub start_shorter : (a b text : Text) → starts text a ≡ true → starts text b ≡ true → slice_cmp nat_cmp a b ≡ Less → length a < length b
@@ -62,7 +57,7 @@ start_between (x ∷ s) (y ∷ u) (c ∷ text) h k less =
       | inl same ↦
           let later : slice_cmp nat_cmp s u ≡ Less = sym (then_is (nat_cmp x y) (slice_cmp nat_cmp s u) (tied x y same)) ∙ less in
           let rest : is_behind text u ≡ false = sym (ap is_gt (then_is (nat_cmp y c) (slice_cmp nat_cmp u text) (tied y c (sym same ∙ here)))) ∙ k in
-          and_from _ _ (same_from x y same) (start_between s u text (and_parts _ _ h).1 rest later)
+          and_from _ _ (eq-eqb x y same) (start_between s u text (and_parts _ _ h).1 rest later)
       | inr two ↦ elim two [
         | inl lt ↦
             let above : nat_cmp y c ≡ Greater = ap (nat_cmp y) (sym here) ∙ sym (nat_cmp_is y x Greater lt) in
@@ -80,7 +75,7 @@ shared_starts (x ∷ s) [] text h k = absurd cc
 shared_starts (x ∷ s) (y ∷ q) [] h k = absurd (omega arith)
 shared_starts (x ∷ s) (y ∷ q) (c ∷ text) h k =
     elim (y == c) as (λ (b : Bool). (y == c) ≡ b → suc (length s) ≤ cond b (suc (shared q text)) 0 → starts (c ∷ text) (x ∷ s) ≡ true) [
-      | true ↦ λ e l. and_from _ _ (same_from x c (eqb-true x y (and_parts _ _ h).0 ∙ eqb-true y c e)) (shared_starts s q text (and_parts _ _ h).1 (omega arith))
+      | true ↦ λ e l. and_from _ _ (eq-eqb x c (eqb-true x y (and_parts _ _ h).0 ∙ eqb-true y c e)) (shared_starts s q text (and_parts _ _ h).1 (omega arith))
       | false ↦ λ e l. absurd (omega arith)
     ] refl k
 

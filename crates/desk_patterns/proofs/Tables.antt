@@ -1,9 +1,9 @@
 -- Which source of a table of text rules starts a text.
-use Rattle.std.proofs.Common.{◌≡◌, ◌≢◌, ◌<◌, ◌≤◌, ◌+◌, ◌-◌, ℕ, zero, suc, Bool, true, false, cond, nat_lt, ◌==◌, List, [], ◌∷◌, ◌++◌, length, drop, get_or, slice_index, Option, Some, None, refl, sym, ap, subst, ◌∙◌, inl, inr, arith}
+use Rattle.std.proofs.Common.{◌≡◌, ◌≢◌, ◌<◌, ◌≤◌, ◌+◌, ◌-◌, ℕ, zero, suc, Bool, true, false, cond, ◌==◌, List, [], ◌∷◌, ◌++◌, length, drop, get_or, slice_index, Option, Some, None, refl, sym, ap, subst, ◌∙◌, inl, inr, arith}
 use Rattle.std.specs.declared.cmp.Ordering.TheVariants.{Less}
 use Rattle.std.specs.Ordering.{nat_cmp, is_gt}
 use Rattle.std.specs.Cmp.Lexicographic.{slice_cmp}
-use Rattle.std.proofs.lemmas.Bool.{both_ways, cases_Bool, cases_lt, eqb-true, eq-eqb, and_parts}
+use Rattle.std.proofs.lemmas.Bool.{both_ways, cases_Bool, cases_lt, eqb-true, eq-eqb, and_parts, lt-ltb}
 use Rattle.std.proofs.lemmas.List.{drop_all}
 use Rattle.std.proofs.lemmas.Cmp.{nat_list_cmp_total, upto}
 use Rattle.desk_base.specs.Names.{Text, is_empty}
@@ -168,12 +168,9 @@ longer_stays text rules source target (suc n) h less e =
     ∙ elim (cases_Bool (starts text (source_at rules n))) [
       | inl is ↦
           ap (λ (o : Option Hit). longer o (Some (record { taken = length source; target = target }))) (is_hit text (source_at rules n) (target_at rules n) is)
-          ∙ ap (λ (x : Bool). cond x (Some (record { taken = length source; target = target })) (Some (record { taken = length (source_at rules n); target = target_at rules n }))) (below_is (length (source_at rules n)) (length source) (less n (omega arith) is))
+          ∙ ap (λ (x : Bool). cond x (Some (record { taken = length source; target = target })) (Some (record { taken = length (source_at rules n); target = target_at rules n }))) (lt-ltb (length (source_at rules n)) (length source) (less n (omega arith) is))
       | inr isnt ↦ ap (λ (o : Option Hit). longer o (Some (record { taken = length source; target = target }))) (not_hit text (source_at rules n) (target_at rules n) isnt)
     ])
-  where
-    below_is : (a b : ℕ) → a < b → nat_lt a b ≡ true
-    below_is a b l = grind arith
 
 pub longest_none : (text : Text) (rules : List TextRule) → last_start text rules (length rules) ≡ 0 → longest rules text ≡ None
 longest_none text rules e = passed_over text rules 0 (omega arith) (λ k l r. none_behind_last text rules (length rules) k (omega (arith, e)) r) (length rules) (omega arith)

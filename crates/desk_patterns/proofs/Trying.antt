@@ -1,6 +1,7 @@
 -- A pattern is tried from place to place.
-use Rattle.std.proofs.Common.{◌≡◌, ◌≢◌, ℕ, ◌+◌, ◌*◌, ◌-◌, ◌<◌, ◌≤◌, Bool, true, false, cond, ◌==◌, ◌&&◌, ◌||◌, List, [], ◌∷◌, length, drop, slice_index, Option, Some, None, refl, sym, ap, subst, ◌∙◌, inl, inr, ◌⊎◌, arith, add-one, tests}
-use Rattle.std.proofs.lemmas.Bool.{eqb-true, or_cases, and_parts}
+use mathlib.Core.Bool.{or-false, or_self}
+use Rattle.std.proofs.Common.{◌≡◌, ◌≢◌, ℕ, ◌+◌, ◌*◌, ◌-◌, ◌<◌, ◌≤◌, Bool, true, false, cond, ◌==◌, ◌&&◌, ◌||◌, List, [], ◌∷◌, length, drop, slice_index, Option, Some, None, refl, sym, ap, subst, ◌∙◌, inl, inr, ◌⊎◌, arith, add-one}
+use Rattle.std.proofs.lemmas.Bool.{or_cases, and_parts, or_right, or_left, eq-eqb, ne_eqb}
 use Rattle.std.proofs.lemmas.List.{drop_all, length-drop}
 use Rattle.std.proofs.Math.Seq.{drop-cons}
 use Rattle.std.specs.List.{list_all}
@@ -12,16 +13,6 @@ use Rattle.desk_patterns.specs.declared.patterns.Try.{Try}
 
 front : (t : Text) (at : ℕ) → at < length t → drop at t ≡ slice_index t at ∷ drop (at + 1) t
 front t at h = drop-cons t at 0 h ∙ ap (λ (n : ℕ). slice_index t at ∷ drop n t) (sym (add-one at))
-
-or_true : (x : Bool) → (x || true) ≡ true
-or_true true = refl
-or_true false = refl
-
-or_left : (x y : Bool) → x ≡ true → (x || y) ≡ true
-or_left x y h = ap (λ (z : Bool). z || y) h
-
-or_right : (x y : Bool) → y ≡ true → (x || y) ≡ true
-or_right x y h = ap (λ (z : Bool). x || z) h ∙ or_true x
 
 -- a text is one of its own ends
 end_self : (p : Text → Bool) (t : Text) → p t ≡ true → any_end p t ≡ true
@@ -76,14 +67,10 @@ try_none pattern path = record {
   pattern_inside = omega arith;
   path_inside = omega arith;
   retry_inside = tt;
-  same = sym (or_false (fits pattern path));
+  same = sym (or-false (fits pattern path));
   covered = λ h. absurd (none h);
 }
   where
-    or_false : (x : Bool) → (x || false) ≡ x
-    or_false true = refl
-    or_false false = refl
-
     none : false ≡ true → ⊥
     none k = cc
 
@@ -119,7 +106,7 @@ try_byte pattern path at tried h k star e =
     let here : drop at.pattern pattern ≡ b ∷ left = front pattern at.pattern k in
     let there : drop at.path path ≡ slice_index path at.path ∷ later = front path at.path h in
     let whole : fits (drop at.pattern pattern) (drop at.path path) ≡ fits left later =
-    ap (λ (p : Text). fits p (drop at.path path)) here ∙ fits_byte b left (drop at.path path) star ∙ ap (leads b (fits left)) there ∙ ap (λ (x : Bool). x && fits left later) (equal (slice_index path at.path) b (sym e)) in
+    ap (λ (p : Text). fits p (drop at.path path)) here ∙ fits_byte b left (drop at.path path) star ∙ ap (leads b (fits left)) there ∙ ap (λ (x : Bool). x && fits left later) (eq-eqb (slice_index path at.path) b (sym e)) in
     record {
       pattern_inside = omega arith;
       path_inside = omega arith;
@@ -128,9 +115,6 @@ try_byte pattern path at tried h k star e =
       covered = λ y. subst (λ (t : Text). any_end (fits left) t ≡ true) (rest_drop path (at.path + 1)) (end_leads b (fits left) later (sym (end_byte b left later star) ∙ sym (ap (λ (p : Text). any_end (fits p) later) here) ∙ tried.covered y));
     }
   where
-    equal : (x y : ℕ) → x ≡ y → (x == y) ≡ true
-    equal x y h = grind (arith, tests)
-
     kept : (retry : Option Retry) → IsRetry pattern at retry → IsRetry pattern (record { pattern = at.pattern + 1; path = at.path + 1; retry = at.retry }) retry
     kept None h = tt
     kept (Some last) h = (h.0, omega (arith, h.1))
@@ -153,10 +137,7 @@ miss_byte pattern path at h k star e =
     let b : ℕ = slice_index pattern at.pattern in
     let left : Text = drop (at.pattern + 1) pattern in
     let later : Text = drop (at.path + 1) path in
-    record { miss = ap (λ (p : Text). fits p (drop at.path path)) (front pattern at.pattern k) ∙ fits_byte b left (drop at.path path) star ∙ ap (leads b (fits left)) (front path at.path h) ∙ ap (λ (x : Bool). x && fits left later) (unequal (slice_index path at.path) b (λ g. e (sym g))) }
-  where
-    unequal : (x y : ℕ) → x ≢ y → (x == y) ≡ false
-    unequal x y h = elim (x == y) as (λ (z : Bool). (x == y) ≡ z → z ≡ false) [ true ↦ λ g. absurd (h (eqb-true x y g)) | false ↦ λ _. refl ] refl
+    record { miss = ap (λ (p : Text). fits p (drop at.path path)) (front pattern at.pattern k) ∙ fits_byte b left (drop at.path path) star ∙ ap (leads b (fits left)) (front path at.path h) ∙ ap (λ (x : Bool). x && fits left later) (ne_eqb (slice_index path at.path) b (λ g. e (sym g))) }
 
 -- without a star before, the pattern doesn't fit
 pub no_retry : (pattern path : Text) (at : Try) → IsTry pattern path at → IsMissed pattern path at → at.retry ≡ None → fits pattern path ≡ false
@@ -164,13 +145,9 @@ no_retry pattern path at tried missed e = tried.same ∙ ap (λ (x : Bool). x ||
 
 end_or : (p : Text → Bool) (t : Text) (n : ℕ) → any_end p (drop n t) ≡ (p (drop n t) || any_end p (drop (n + 1) t))
 end_or p t n = elim (drop n t) as (λ (u : Text). drop n t ≡ u → any_end p u ≡ (p u || any_end p (drop (n + 1) t))) [
-  | [] ↦ λ g. sym (ap (λ (u : Text). p [] || any_end p u) (drop_all (n + 1) t (omega (arith, length-drop n t, ap length g))) ∙ same (p []))
+  | [] ↦ λ g. sym (ap (λ (u : Text). p [] || any_end p u) (drop_all (n + 1) t (omega (arith, length-drop n t, ap length g))) ∙ or_self (p []))
   | c ∷ u ↦ λ g. let s : slice_index t n ∷ drop (n + 1) t ≡ c ∷ u = sym (front t n (omega (arith, length-drop n t, ap length g))) ∙ g in let k : u ≡ drop (n + 1) t = cc in ap (λ (v : Text). p (c ∷ u) || any_end p v) k
 ] refl
-  where
-    same : (x : Bool) → (x || x) ≡ x
-    same true = refl
-    same false = refl
 
 pub try_again : (pattern path : Text) (at : Try) (last : Retry) → IsTry pattern path at → at.path < length path → IsMissed pattern path at → at.retry ≡ Some last → IsTry pattern path (record { pattern = last.pattern; path = last.path + 1; retry = Some (record { pattern = last.pattern; path = last.path + 1 }) })
 try_again pattern path at last tried h missed e =
@@ -189,9 +166,3 @@ try_end pattern path at tried h =
     let none : drop at.path path ≡ [] = drop_all at.path path h in
     let later : drop (at.path + 1) path ≡ [] = drop_all (at.path + 1) path (omega arith) in
     tried.same ∙ absorbed (fits left (drop at.path path)) (fits_later pattern path at.retry) (λ e. ap (fits left) none ∙ sym (ap (any_end (fits left)) later) ∙ tried.covered e) ∙ ap (fits left) none ∙ fits_nothing left
-
-pub same_byte : (a b : ℕ) → a ≡ b → (a == b) ≡ true
-same_byte a b h = grind (arith, tests)
-
-pub other_byte : (a b : ℕ) → a ≢ b → (a == b) ≡ false
-other_byte a b h = elim (a == b) as (λ (x : Bool). (a == b) ≡ x → x ≡ false) [ true ↦ λ e. absurd (h (eqb-true a b e)) | false ↦ λ _. refl ] refl

@@ -58,7 +58,7 @@ impl Few {
 }
 
 impl FirstBytes {
-    /// No bytes.
+    /// The first bytes of no texts.
     pub(crate) fn none() -> FirstBytes
         ensures { result ≡ replicate 256 false }
     {
@@ -68,7 +68,7 @@ impl FirstBytes {
         }
     }
 
-    /// Adds a byte.
+    /// Adds the byte that a further text begins with.
     pub(crate) fn add(&mut self, byte: u8)
         ensures added { self.new ≡ set self.old byte true }
         ensures there { is_first self.new byte ≡ true }

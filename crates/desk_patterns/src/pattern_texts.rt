@@ -1,6 +1,6 @@
 //! The text rules of a path, and of a path and its target.
 
-ghost use Rattle.std.specs.Prelude.{◌≡◌, ◌∷◌, ◌++◌, [], OnOk, OnErr};
+ghost use Rattle.std.specs.Prelude.{◌≡◌, ◌∷◌, ◌++◌, ◌==◌, [], length, OnOk, OnErr};
 ghost use Rattle.std.specs.Option.{option_copied};
 ghost use Rattle.desk_patterns.specs.PatternTexts.{texts_of, texts_for};
 ghost use Rattle.desk_patterns.specs.SeenTexts.{texts_seen, both_seen, ArePlaces};
@@ -14,9 +14,9 @@ use std::marker::Model;
 /// A pattern, and which of some files has the text rules of the paths that it fits.
 #[derive(Debug, Drop)]
 pub struct PatternPlace {
-    /// The pattern.
+    /// The pattern of paths, with its wildcards.
     pub pattern: Text,
-    /// The place of its file, counted from 0.
+    /// The place of the file with its text rules among those that were read, counted from 0.
     pub file: usize,
 }
 
@@ -81,6 +81,13 @@ impl PatternTexts {
             patterns,
             none: TextRules::none(alloc),
         }
+    }
+
+    /// Whether there is no pattern. It takes no memory.
+    pub fn is_empty(&self) -> bool
+        ensures { result ≡ (length self.now == 0) }
+    {
+        self.patterns.is_empty()
     }
 
     /// The rules of the first pattern that fits a path; none exactly where none fits. It takes no memory.

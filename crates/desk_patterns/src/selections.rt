@@ -1,6 +1,6 @@
 //! Selections of paths.
 
-ghost use Rattle.std.specs.Prelude.{◌≡◌, ◌∷◌, ◌++◌, ◌&&◌, [], not, OnOk, OnErr};
+ghost use Rattle.std.specs.Prelude.{◌≡◌, ◌∷◌, ◌++◌, ◌&&◌, ◌==◌, [], not, length, OnOk, OnErr};
 ghost use Rattle.std.specs.List.{list_any};
 ghost use Rattle.desk_patterns.specs.Selections.{selects, is_exclude};
 ghost use Rattle.desk_patterns.specs.Patterns.{fits};
@@ -13,9 +13,9 @@ use std::marker::Model;
 /// What a pattern says of the paths that it fits.
 #[derive(Clone, Copy, Debug, PartialEq, Eq)]
 pub enum Mark {
-    /// They are selected.
+    /// The paths that fit are selected, unless another pattern excludes them.
     Include,
-    /// They aren't.
+    /// The paths that fit aren't selected, whatever other patterns say.
     Exclude,
 }
 
@@ -85,6 +85,13 @@ impl Selection {
         let excludes = mark == Mark::Exclude;
         self.choices.push(Choice { pattern, excludes })?;
         Ok(())
+    }
+
+    /// Whether it has no pattern. It takes no memory.
+    pub fn is_empty(&self) -> bool
+        ensures { result ≡ (length self.now == 0) }
+    {
+        self.choices.is_empty()
     }
 
     /// Whether a path is selected: where no pattern includes or one that includes fits it, and none that excludes fits it.

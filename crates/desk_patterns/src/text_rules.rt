@@ -11,9 +11,10 @@ use desk_base::{Memory, Text};
 use std::alloc::Global;
 use std::marker::Model;
 
-/// A rule.
+/// A rule that exchanges one text for another, with the next shorter source to be tried in its place.
 #[derive(Debug, Drop)]
 pub(crate) struct TextRule {
+    /// The text that is exchanged.
     pub(crate) source: Text,
     target: Text,
     /// One more than the place of the longest other source that starts this one; 0 where there is none.
@@ -103,7 +104,7 @@ fn longest_of<'r>(rules: &'r [TextRule], text: &[u8]) -> Option<TextHit<'r>>
 }
 
 impl TextRules {
-    /// No rules. It takes no memory.
+    /// Text rules that exchange nothing. It takes no memory.
     pub fn none(alloc: Global) -> TextRules
         ensures { result ≡ [] }
     {

@@ -9,16 +9,11 @@ use Rattle.desk_base.specs.Utf8.{bad_form}
 use Rattle.desk_base.specs.Entries.{Pool, Entry, integer, float, long, double, class, string, fieldref, methodref, interface_methodref, name_and_type, method_handle, method_type, dynamic, invoke_dynamic, module_named, package_named, is_wide, tag_of}
 use Rattle.desk_format.specs.PoolBytes.{two, print_body, print_entry, print_slots}
 use Rattle.desk_format.specs.PoolReading.{Got, got, Reader, item, then_read, done, body, with_bytes, with_index, with_two, number_read, well_formed_text, text_read, kind_read, tag_numbered, has_room, more, goes_on, entry_tagged, entry_read, read_slots}
+use Rattle.desk_format.proofs.PoolSteps.{ok_is}
 
 -- a fact of what was read and the place behind it
 pub record Gets {A : Type 0} (P : A → ℕ → Type 0) (r : Result (Got A) Malformed) : Type 0 where
   pub runs : (g : Got A) → r ≡ Ok g → P g.value g.at
-
-abbrev okay : {A : Type 0} → Got A → Result (Got A) Malformed
-okay a = Ok a
-
-ok_is : {A : Type 0} (a b : Got A) → okay a ≡ Ok b → a ≡ b
-ok_is a b h = cc
 
 gets_ok : {A : Type 0} (P : A → ℕ → Type 0) (g : Got A) → P g.value g.at → Gets P (Ok g)
 gets_ok {A = A} P g h = record { runs = λ g' e. subst (λ (x : Got A). P x.value x.at) (ok_is g g' e) h }

@@ -1,4 +1,5 @@
 -- How descriptors begin, and that a return descriptor is a field descriptor or `V`.
+use mathlib.Core.Bool.{or-false}
 use Rattle.std.proofs.Common.{◌≡◌, ℕ, ◌+◌, Bool, true, false, cond, ◌&&◌, ◌||◌, nat_eq, nat_lt, [], ◌∷◌, length, bytes_eq, refl, sym, ◌∙◌, ap, suc, ne_eqb, arith}
 use Rattle.std.proofs.lemmas.Bool.Decides.{nat_tests}
 use Rattle.desk_base.specs.Names.{Text, is_reserved}
@@ -99,10 +100,6 @@ unfolding run step
 array_alike [] d h = refl
 array_alike (b ∷ t) d h = rw h (array_by t d (nat_eq b 91) (nat_eq b 76) (is_base b) (nat_lt d 255) (array_alike t (d + 1) (some_more d)))
 
-or_false : (b : Bool) → (b || false) ≡ b
-or_false true = refl
-or_false false = refl
-
 -- `V` begins no type
 is_v : (b : ℕ) → nat_eq b 86 ≡ true → b ≡ 86
 is_v b h = grind (arith, nat_tests)
@@ -117,10 +114,10 @@ first_by b t true class base true p q r s = let v = v_alone b s in let no : nat_
 first_by b t false true base true p q r s = let v = v_alone b s in let no : nat_eq b 76 ≡ false = v.1 in absurd cc
 first_by b t false false true true p q r s = let v = v_alone b s in let no : is_base b ≡ false = v.2 in absurd cc
 first_by b t false false false true p q r s = rw (wrong_is t) (over_is t)
-first_by b t true class base false p q r s = array_alike t 1 refl ∙ sym (or_false _)
-first_by b t false true base false p q r s = name_alike t false ∙ sym (or_false _)
-first_by b t false false true false p q r s = sym (or_false _)
-first_by b t false false false false p q r s = sym (or_false _)
+first_by b t true class base false p q r s = array_alike t 1 refl ∙ sym (or-false _)
+first_by b t false true base false p q r s = name_alike t false ∙ sym (or-false _)
+first_by b t false false true false p q r s = sym (or-false _)
+first_by b t false false false false p q r s = sym (or-false _)
 
 pub returned_is : (t : Text) → is_descriptor DescriptorKind.return t ≡ (is_descriptor DescriptorKind.field t || bytes_eq t (86 ∷ []))
 unfolding is_descriptor run step

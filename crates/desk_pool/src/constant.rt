@@ -12,22 +12,39 @@ use desk_base::{Cursor, FaultKind, Malformed, Tag, check_utf8};
 /// of a method handle, the number of a bootstrap method.
 #[derive(Clone, Copy)]
 pub enum Constant<'a> {
+    /// Its text (JVMS 4.4.7).
     Utf8(PoolText<'a>),
+    /// Its four bytes (JVMS 4.4.4).
     Integer(&'a [u8]),
+    /// Its four bytes (JVMS 4.4.4).
     Float(&'a [u8]),
+    /// Its eight bytes, the high ones first (JVMS 4.4.5).
     Long(&'a [u8]),
+    /// Its eight bytes, the high ones first (JVMS 4.4.5).
     Double(&'a [u8]),
+    /// `name_index` (JVMS 4.4.1).
     Class(u16),
+    /// `string_index` (JVMS 4.4.3).
     String(u16),
+    /// `class_index` and `name_and_type_index` (JVMS 4.4.2).
     Fieldref(u16, u16),
+    /// `class_index` and `name_and_type_index` (JVMS 4.4.2).
     Methodref(u16, u16),
+    /// `class_index` and `name_and_type_index` (JVMS 4.4.2).
     InterfaceMethodref(u16, u16),
+    /// `name_index` and `descriptor_index` (JVMS 4.4.6).
     NameAndType(u16, u16),
+    /// `reference_kind`, 1 to 9, and `reference_index` (JVMS 4.4.8).
     MethodHandle(u8, u16),
+    /// `descriptor_index` (JVMS 4.4.9).
     MethodType(u16),
+    /// `bootstrap_method_attr_index` and `name_and_type_index` (JVMS 4.4.10).
     Dynamic(u16, u16),
+    /// `bootstrap_method_attr_index` and `name_and_type_index` (JVMS 4.4.10).
     InvokeDynamic(u16, u16),
+    /// `name_index` (JVMS 4.4.11).
     Module(u16),
+    /// `name_index` (JVMS 4.4.12).
     Package(u16),
 }
 
@@ -46,7 +63,7 @@ fn read_bytes<'a>(n: u32, cursor: &mut Cursor<'a>) -> Result<&'a [u8], Malformed
     Ok(cursor.take(n)?)
 }
 
-/// A two-byte number.
+/// The number in the next two bytes, which is big-endian (JVMS 4).
 pub fn read_number(cursor: &mut Cursor<'_>) -> Result<u16, Malformed>
     ensures number { Reads result (λ i. i) (number_read cursor.old.at cursor.old.left) cursor.new }
     ensures ahead { cursor.old.at ≤ cursor.new.at }
@@ -154,7 +171,7 @@ pub fn is_wide(tag: Tag) -> bool
 }
 
 impl<'a> Constant<'a> {
-    /// Its tag.
+    /// The tag that the entry begins with (JVMS 4.4, table 4.4-A).
     pub fn tag(&self) -> Tag
         ensures { result ≡ tag_of (entry_of self.now) }
     {

@@ -10,20 +10,25 @@ use desk_base::{Choice, Form, Referent, Role, Tag};
 /// An index of an entry: how many bytes behind the tag it stands, what it must name, and its value.
 #[derive(Clone, Copy)]
 pub struct Link {
+    /// The offset of the index from the entry's tag, in bytes.
     pub behind: u8,
+    /// What the entry that it names must be.
     pub referent: Referent,
+    /// The index into the constant pool.
     pub index: u16,
 }
 
 /// The indices of an entry, of which there are at most two, by place.
 #[derive(Clone, Copy)]
 pub struct Links {
+    /// The index that stands first; none where the entry has none, as a Utf8 or an Integer.
     pub first: Option<Link>,
+    /// The index behind it; none where the entry has one or none.
     pub second: Option<Link>,
 }
 
 impl Links {
-    /// No index.
+    /// The indices of an entry that names no other, as a Utf8.
     fn none() -> Links
         ensures { links_in result ≡ [] }
     {
@@ -81,7 +86,7 @@ fn handled(kind: u8) -> Referent
     }
 }
 
-/// The indices of an entry.
+/// The indices that stand in an entry, with what each must name.
 pub fn links_of(constant: &Constant<'_>) -> Links
     ensures { links_in result ≡ links (entry_of constant.now) }
 {

@@ -5,12 +5,13 @@ ghost use Rattle.desk_base.specs.Entries.{number_of, entry_at, tag_at, utf8_at, 
 ghost use Rattle.desk_base.specs.Referents.{begins_array, has_form, is_tag, is_chosen, allows, form_of, text_led_to, referent_of, may_be_none};
 ghost use Rattle.desk_base.specs.Misfits.{form_fault, wrong_entry, wrong_text, misfit_of, misfit};
 ghost use Rattle.desk_pool.specs.Seen.{entry_of, seen};
+ghost use Rattle.desk_pool.specs.Bodies.{operands_at, number_at};
 
 use crate::constant::Constant;
 use crate::texts::PoolText;
 use desk_base::{Choice, FaultKind, Form, Referent, Role, Tag, UseKind};
 
-/// The entry that an index names.
+/// The entry that an index names; none of index 0, of the second index of a Long or Double, and behind the last entry.
 pub fn constant_at<'a>(slots: &[Option<Constant<'a>>], index: u16) -> Option<Constant<'a>>
     ensures { option_map entry_of result ≡ entry_at (seen slots.now) index }
 {
@@ -43,7 +44,52 @@ pub fn utf8_at<'a>(slots: &[Option<Constant<'a>>], index: u16) -> Option<&'a [u8
     }
 }
 
-/// The same, or the empty text.
+/// The numbers of the body of the entry that an index names, in order, the second 0 where there is one alone; none at a text
+/// or a number.
+pub fn operands_at(slots: &[Option<Constant<'_>>], index: u16) -> Option<(u16, u16)>
+    ensures { result ≡ operands_at (seen slots.now) index }
+{
+    let constant = match constant_at(slots, index) {
+        Some(constant) => constant,
+        None => return None,
+    };
+    match constant {
+        Constant::Utf8(_)
+        | Constant::Integer(_)
+        | Constant::Float(_)
+        | Constant::Long(_)
+        | Constant::Double(_) => None,
+        Constant::Class(only)
+        | Constant::String(only)
+        | Constant::MethodType(only)
+        | Constant::Module(only)
+        | Constant::Package(only) => Some((only, 0)),
+        Constant::Fieldref(first, second)
+        | Constant::Methodref(first, second)
+        | Constant::InterfaceMethodref(first, second)
+        | Constant::NameAndType(first, second)
+        | Constant::Dynamic(first, second)
+        | Constant::InvokeDynamic(first, second) => Some((first, second)),
+        Constant::MethodHandle(kind, member) => Some((u16::from(kind), member)),
+    }
+}
+
+/// The bytes of the number that an index names; none where it names no number.
+pub fn number_at<'a>(slots: &[Option<Constant<'a>>], index: u16) -> Option<&'a [u8]>
+    ensures { option_copied result ≡ number_at (seen slots.now) index }
+{
+    match constant_at(slots, index) {
+        Some(
+            Constant::Integer(bytes)
+            | Constant::Float(bytes)
+            | Constant::Long(bytes)
+            | Constant::Double(bytes),
+        ) => Some(bytes),
+        _ => None,
+    }
+}
+
+/// The text of the Utf8 that an index names, or the empty text.
 fn text_at<'a>(slots: &[Option<Constant<'a>>], index: u16) -> PoolText<'a>
     ensures { result.bytes.now ≡ text_at (seen slots.now) index }
 {

@@ -15,7 +15,9 @@ use desk_base::{FaultKind, Malformed};
 /// What a pass looks at: the tags of what indices name, or the texts that they lead to.
 #[derive(Clone, Copy)]
 pub enum Pass {
+    /// The tags of the entries that indices name.
     Names,
+    /// The forms of the texts that indices lead to.
     Texts,
 }
 
@@ -29,7 +31,7 @@ fn fault_of(slots: &[Option<Constant<'_>>], pass: Pass, link: Link) -> Option<Fa
     }
 }
 
-/// The same with its place, where the tag of the entry stands at a place.
+/// What a pass says of an index, with the offset of the index, where the tag of its entry stands at the offset `at`.
 fn fault_at(
     slots: &[Option<Constant<'_>>],
     pass: Pass,
@@ -64,7 +66,7 @@ fn first_among(
     }
 }
 
-/// How many bytes an entry takes.
+/// How many bytes an entry takes in the file, its tag included.
 pub fn size_of(constant: &Constant<'_>) -> u32
     requires { size (entry_of constant.now) ≤ file_size }
     ensures { result ≡ size (entry_of constant.now) }

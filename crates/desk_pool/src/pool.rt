@@ -6,9 +6,10 @@ ghost use Rattle.desk_base.specs.declared.kinds.Tag.TheVariants as tags;
 ghost use Rattle.desk_format.specs.PoolBytes.{pool_uses};
 ghost use Rattle.desk_format.specs.PoolReading.{read_pool};
 ghost use Rattle.desk_pool.specs.Seen.{ReadPool, ReadsAll, seen};
+ghost use Rattle.desk_pool.specs.Bodies.{operands_at, number_at};
 
 use crate::constant::{Constant, read_number};
-use crate::lookup::{class_name_at, constant_at, misfit, tag_at, utf8_at};
+use crate::lookup::{class_name_at, constant_at, misfit, number_at, operands_at, tag_at, utf8_at};
 use crate::named::find_class_names;
 use crate::passes::{Pass, first_fault};
 use crate::slots::read_slots;
@@ -85,6 +86,21 @@ impl<'a> Pool<'a> {
         ensures { option_copied result ≡ utf8_at self.now.entries index }
     {
         utf8_at(&self.slots, index)
+    }
+
+    /// The numbers of the body of an entry of a tag from 7 to 12 or from 15 to 20, in order (JVMS 4.4); the second is 0
+    /// where there is one alone. None exactly at another index.
+    pub fn operands(&self, index: u16) -> Option<(u16, u16)>
+        ensures { result ≡ operands_at self.now.entries index }
+    {
+        operands_at(&self.slots, index)
+    }
+
+    /// The bytes of the body of an entry of a tag from 3 to 6; none exactly at another index.
+    pub fn number(&self, index: u16) -> Option<&'a [u8]>
+        ensures { option_copied result ≡ number_at self.now.entries index }
+    {
+        number_at(&self.slots, index)
     }
 
     /// The text that the Class at an index leads to; none exactly where the index names no Class.

@@ -13,7 +13,7 @@ use desk_names::{Want, read_descriptor, split_class};
 /// class name is looked for only where a Class or a Package leads to it.
 #[derive(Clone, Copy)]
 pub struct PoolText<'a> {
-    /// Its bytes.
+    /// The bytes of the text, in modified UTF-8 (JVMS 4.4.7).
     pub bytes: &'a [u8],
     class_name: Option<bool>,
     field: bool,
@@ -91,7 +91,7 @@ impl<'a> PoolText<'a> {
         }
     }
 
-    /// Whether it has a form.
+    /// Whether the text has a form that an index may want. It takes constant time.
     #[tactic(auto, unfolding(desk_base::specs::Referents::has_form), using(crate::proofs::Begins::returned_is))]
     pub fn has_form(&self, form: Form) -> bool
         ensures { result ≡ has_form form self.now.bytes.now }

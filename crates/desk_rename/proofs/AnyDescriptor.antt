@@ -1,13 +1,13 @@
 -- Descriptors of any kind, told by their first byte.
+use mathlib.Core.Bool.{or-false}
 use Rattle.std.proofs.Common.{◌≡◌, ℕ, Bool, true, false, cond, ◌||◌, ◌==◌, List, [], ◌∷◌, refl, sym, ap, ◌∙◌, inl, inr, Option, Some, None, MatchOption}
 use Rattle.std.specs.Prelude.{is_some, IfSome}
 use Rattle.desk_names.specs.Pieces.{Piece, pieces, joined, AreCut}
 use Rattle.desk_rename.specs.Drafts.{IsReadDescriptor}
 use Rattle.std.proofs.lemmas.Bool.{cases_Bool, eqb-true}
 use Rattle.desk_base.specs.Names.{Text}
-use Rattle.desk_base.specs.Descriptors.{Awaited, Position, Descriptor, Returned, DescriptorKind, IsDescriptor, is_descriptor, kind_of, is_formed, is_returned, text_with, returned_text, as_is, run, step, is_over}
-use Rattle.desk_names.proofs.Scanned.{tree_of}
-use Rattle.desk_names.proofs.Takes.{taken}
+use Rattle.desk_base.specs.Descriptors.{Awaited, Position, DescriptorKind, is_descriptor, as_is, run, step, is_over}
+use Rattle.desk_names.proofs.FieldDescriptors.{field_returned}
 use Rattle.desk_rename.specs.Images.{is_any_descriptor}
 
 wrong_stays : (t : Text) → run Awaited.wrong t ≡ Awaited.wrong
@@ -27,11 +27,7 @@ no_return t = ap is_over (wrong_stays t)
 pub any_method : (t : Text) → is_any_descriptor (40 ∷ t) ≡ is_descriptor DescriptorKind.method (40 ∷ t)
 any_method t = ap (λ (b : Bool). b || is_descriptor DescriptorKind.method (40 ∷ t) || is_descriptor DescriptorKind.return (40 ∷ t)) (no_field t)
     ∙ ap (λ (b : Bool). is_descriptor DescriptorKind.method (40 ∷ t) || b) (no_return t)
-    ∙ last_alone (is_descriptor DescriptorKind.method (40 ∷ t))
-  where
-    last_alone : (b : Bool) → (b || false) ≡ b
-    last_alone true = refl
-    last_alone false = refl
+    ∙ or-false (is_descriptor DescriptorKind.method (40 ∷ t))
 
 -- any other text is no method descriptor
 no_method_step : (b : ℕ) (t : Text) → (b == 40) ≡ false → is_descriptor DescriptorKind.method (b ∷ t) ≡ false
@@ -41,19 +37,6 @@ no_method_step b t h = ap (λ (x : Bool). is_over (run (cond x (Awaited.type_beh
 no_method_none : is_descriptor DescriptorKind.method [] ≡ false
 unfolding is_descriptor run
 no_method_none = refl
-
-as_returned : (text : Text) (d : Descriptor) → IsDescriptor DescriptorKind.field text d → (e : Descriptor) × IsDescriptor DescriptorKind.return text e
-unfolding kind_of is_formed is_returned text_with returned_text
-as_returned text (Descriptor.field t) r = (Descriptor.returned (Returned.value t), record { kind = refl; formed = r.formed; prints = r.prints })
-as_returned text (Descriptor.method ts q) r = absurd cc
-as_returned text (Descriptor.returned q) r = absurd cc
-
--- a field descriptor is a return descriptor
-field_returned : (text : Text) → is_descriptor DescriptorKind.field text ≡ true → is_descriptor DescriptorKind.return text ≡ true
-field_returned text h =
-    let t = tree_of DescriptorKind.field text h in
-    let u = as_returned text t.0 t.1 in
-    taken DescriptorKind.return text u.0 u.1
 
 or_last : (a b c : Bool) → (a ≡ true → c ≡ true) → b ≡ false → (a || b || c) ≡ c
 or_last true b c f e = sym (f refl)

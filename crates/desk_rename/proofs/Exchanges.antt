@@ -15,11 +15,7 @@ use Rattle.desk_packages.proofs.Picks.{all_In}
 use Rattle.desk_packages.proofs.KeyLaws.{identifier_cuts}
 use Rattle.desk_packages.proofs.Joined.{written_push}
 use Rattle.desk_packages.proofs.Segments.{segments_whole}
-
--- packages joined behind one another
-written_more : (s : ℕ) (x : Text) (xs : Package) (y : Text) (ys : Package) → written s ((x ∷ xs) ++ y ∷ ys) ≡ written s (x ∷ xs) ++ s ∷ written s (y ∷ ys)
-written_more s x [] y ys = refl
-written_more s x (z ∷ xs) y ys = rw (written_more s z xs y ys) (sym (append_assoc x (s ∷ written s (z ∷ xs)) (s ∷ written s (y ∷ ys))))
+use Rattle.desk_packages.proofs.Lookup.{written_more}
 
 -- another start before the same rest
 moved : (s : ℕ) (a b rest : Package) → not (is_empty a) ≡ true → not (is_empty b) ≡ true → written s (b ++ rest) ≡ written s b ++ drop (length (written s a)) (written s (a ++ rest))

@@ -1,7 +1,5 @@
 -- What a draft that looked at all parts answers.
-use Rattle.std.proofs.Common.{◌≡◌, ◌≢◌, ◌<◌, Bool, true, false, cond, List, [], ◌∷◌, Option, Some, None, MatchOption, Result, Ok, Err, IfOk, refl, sym, ap, subst, ◌∙◌, ◌&&◌, ◌==◌, ◌⊎◌, inl, inr}
-use Rattle.std.proofs.lemmas.Bool.{cases_Bool, eq-eqb, ne_eqb, eqb-true, eqb-false}
-use Rattle.std.specs.List.{starts_with}
+use Rattle.std.proofs.Common.{◌≡◌, ◌≢◌, ◌<◌, Bool, true, false, cond, List, [], Option, Some, None, MatchOption, Result, Ok, Err, IfOk, sym, ap, subst, ◌∙◌}
 use Rattle.desk_base.specs.Referents.{begins_array}
 use Rattle.desk_base.specs.Names.{Text}
 use Rattle.desk_base.specs.Signatures.{SignatureKind}
@@ -49,18 +47,6 @@ pub finished_signature : (rs : List Renaming) (kind : SignatureKind) (text : Tex
 finished_signature rs kind text d read looked = finished rs text (sig rs kind text) (sig_pieces kind text) d looked (sig_is rs kind text read) (signature_differs rs kind text read)
 
 -- ---- names of classes and arrays
-
-pub starts_array : (text : Text) → starts_with ◌==◌ text (91 ∷ []) ≡ begins_array text
-starts_array [] = refl
-starts_array (b ∷ t) = last_alone (91 == b) ∙ turned (cases_Bool (b == 91))
-  where
-    turned : ((b == 91) ≡ true) ⊎ ((b == 91) ≡ false) → (91 == b) ≡ (b == 91)
-    turned (inl e) = eq-eqb 91 b (sym (eqb-true b 91 e)) ∙ sym e
-    turned (inr e) = ne_eqb 91 b (λ h. eqb-false b 91 e (sym h)) ∙ sym e
-
-    last_alone : (x : Bool) → (x && true) ≡ x
-    last_alone true = refl
-    last_alone false = refl
 
 pub cls_array : (rs : List Renaming) (text : Text) → begins_array text ≡ true → cls rs text ≡ desc rs text
 unfolding cls

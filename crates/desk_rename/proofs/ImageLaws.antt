@@ -1,12 +1,13 @@
 -- Images are their own images, and keep their form.
-use Rattle.std.proofs.Common.{◌≡◌, ℕ, Bool, true, false, cond, not, ◌&&◌, ◌==◌, List, [], ◌∷◌, ◌++◌, Option, Some, None, refl, sym, ap, subst, ◌∙◌, inl, inr}
+use Rattle.std.proofs.Common.{◌≡◌, ℕ, Bool, true, false, cond, not, ◌&&◌, ◌==◌, List, [], ◌∷◌, ◌++◌, refl, sym, ap, subst, ◌∙◌, inl, inr}
 use Rattle.std.specs.Prelude.{if◌then◌else◌}
-use Rattle.std.specs.List.{list_all, slice_split, onto_first}
+use Rattle.std.specs.List.{list_all}
 use Rattle.std.proofs.lemmas.Bool.{and_parts, and_from, cases_Bool, or_left, or_right, false_from_ne_true, eqb-true}
 use Rattle.desk_base.specs.Names.{Text, Package, segments, written, front, simple, is_part, is_name, is_class_name, is_empty, slash}
 use Rattle.desk_base.specs.Descriptors.{Descriptor, DescriptorKind, IsDescriptor, is_descriptor, print, renamed}
 use Rattle.desk_base.specs.Signatures.{Signature, SignatureKind, IsSignature, is_signature_identifier, print_signature, map_signature, most_nesting}
 use Rattle.desk_base.specs.Referents.{begins_array}
+use Rattle.desk_base.proofs.Separated.{front-push, simple-push, no_array}
 use Rattle.desk_names.specs.Pieces.{Piece, pieces, joined, cut}
 use Rattle.desk_names.specs.Laws.{HasNoDescriptor}
 use Rattle.desk_names.specs.SignatureScan.{is_sound_signature}
@@ -16,33 +17,22 @@ use Rattle.desk_names.proofs.Pieces.{prints_exchanged, kept_exchanged}
 use Rattle.desk_names.proofs.SigPieces.{sig_taken}
 use Rattle.desk_names.proofs.SigMapped.{sig_prints, sig_kept}
 use Rattle.desk_names.proofs.SigSound.{signature_of}
-use Rattle.desk_packages.specs.Renames.{Renaming, pkg, is_rename}
-use Rattle.desk_rules.specs.RuleSets.{changing_pick}
+use Rattle.desk_packages.specs.Renames.{Renaming, pkg}
 use Rattle.desk_rules.specs.Images.{refronted}
 use Rattle.desk_packages.proofs.Bytes.{identifier_part}
-use Rattle.desk_packages.proofs.Cuts.{front-push, simple-push}
+use Rattle.desk_packages.proofs.FilledImages.{pkg_filled}
 use Rattle.desk_rules.proofs.Forms.{Parts, pkg_all, segments_image}
+use Rattle.desk_rules.proofs.Laws.{class_parts}
 use Rattle.desk_rename.specs.Images.{repackaged, class_image, is_any_descriptor, desc, cls, sig}
 use Rattle.desk_rename.specs.Laws.{IsSettledRenames, PackageImages, IsClassImage, ClassImages, DescriptorImages, SignatureImages}
-use Rattle.desk_rename.proofs.Exchanges.{unchanged, picked_by, package_cut}
-use Rattle.desk_rename.proofs.Kept.{class_parts, signature_parts, keeps_class_names, keeps_signature_names}
+use Rattle.desk_rename.proofs.Exchanges.{package_cut}
+use Rattle.desk_rename.proofs.Kept.{signature_parts, keeps_class_names, keeps_signature_names}
 use Rattle.desk_rename.proofs.DescTrees.{renamed_twice, renamed_agree}
-use Rattle.desk_rename.proofs.SigTrees.{signature_once}
+use Rattle.desk_rename.proofs.SigTrees.{signature_twice}
 use Rattle.desk_rename.proofs.Differs.{some_kind}
 use Rattle.desk_rename.proofs.Finished.{desc_is, desc_other, sig_is, sig_other, cls_array, cls_name}
 
 -- ---- packages
-
-pkg_filled : (rs : List Renaming) → list_all is_rename rs ≡ true → (p : Package) → not (is_empty p) ≡ true → not (is_empty (pkg rs p)) ≡ true
-pkg_filled rs formed p filled =
-    elim (changing_pick rs p) as (λ (o : Option Renaming). changing_pick rs p ≡ o → not (is_empty (pkg rs p)) ≡ true) [
-      | None ↦ λ q. ap (λ (w : Package). not (is_empty w)) (unchanged rs p q) ∙ filled
-      | Some r ↦ λ q. let k = picked_by rs formed p r q in ap (λ (w : Package). not (is_empty w)) k.image ∙ more r.target k.tail k.target_filled
-    ] refl
-  where
-    more : (a b : Package) → not (is_empty a) ≡ true → not (is_empty (a ++ b)) ≡ true
-    more [] b h = absurd cc
-    more (x ∷ a) b h = refl
 
 pub package_laws : (rs : List Renaming) → IsSettledRenames rs → PackageImages rs
 package_laws rs settled = record {
@@ -79,17 +69,6 @@ class_once rs settled t = elim (cases_Bool (is_class_name t)) [
       ap (class_image rs) is ∙ class_named rs (repackaged rs t) (keeps_class_names rs settled.formed t named) ∙ once rs settled is_part class_parts t named ∙ sym is
   | inr other ↦ ap (class_image rs) (class_other rs t other)
 ]
-
--- a class name does not begin with `[`
-no_array_parts : (ps : Package) → list_all is_part (onto_first 91 ps) ≡ true → ⊥
-no_array_parts [] h = cc
-no_array_parts (p ∷ ps) h = cc
-
-pub no_array : (t : Text) → is_class_name t ≡ true → begins_array t ≡ false
-no_array [] named = refl
-no_array (b ∷ t) named = false_from_ne_true (b == 91) (λ e.
-    let P : ℕ → Type 0 = λ c. list_all is_part (segments slash (c ∷ t)) ≡ true in
-    no_array_parts (slice_split (λ c. c == slash) t) (subst P (eqb-true b 91 e) (and_parts _ _ named).1))
 
 name_stays_name : (rs : List Renaming) → IsSettledRenames rs → (t : Text) → begins_array t ≡ false → begins_array (class_image rs t) ≡ false
 name_stays_name rs settled t name = elim (cases_Bool (is_class_name t)) [
@@ -216,7 +195,7 @@ sig_once rs settled kind text = elim (cases_Bool (is_sound_signature kind text))
   | inl sound ↦
       let t = signature_of kind text sound in
       sig_printed rs kind (sig rs kind text) (map_signature (repackaged rs) t.0) (sig_stays rs settled kind text t.0 t.1)
-      ∙ ap print_signature (signature_once (repackaged rs) (λ n named. once rs settled is_signature_identifier signature_parts n named) most_nesting t.0 t.1.formed)
+      ∙ ap print_signature (signature_twice (repackaged rs) (repackaged rs) (repackaged rs) (λ n named. once rs settled is_signature_identifier signature_parts n named) most_nesting t.0 t.1.formed)
       ∙ sym (sig_printed rs kind text t.0 t.1)
   | inr odd ↦ ap (sig rs kind) (sig_other rs kind text odd)
 ]

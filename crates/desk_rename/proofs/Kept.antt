@@ -4,14 +4,13 @@ use Rattle.std.specs.List.{list_all}
 use Rattle.std.proofs.lemmas.Bool.{and_parts, or_from, both_ways, not-true, not_from_false, or_parts, cases_Bool, eqb-true}
 use Rattle.desk_base.specs.Names.{Text, is_part, is_identifier, is_identifier_byte, is_whole, slash}
 use Rattle.desk_base.specs.Signatures.{is_mark, is_signature_identifier}
+use Rattle.desk_base.proofs.Lists.{all_weaker}
 use Rattle.desk_packages.specs.Renames.{Renaming, is_rename}
-use Rattle.desk_packages.proofs.Bytes.{identifier_part, part_whole, each_byte, unreserved, unslashed}
+use Rattle.desk_packages.proofs.Bytes.{unreserved, unslashed}
 use Rattle.desk_rules.proofs.Forms.{Parts, name_image_named}
 use Rattle.desk_names.specs.Laws.{KeepsClassNames, KeepsSignatureNames}
+use Rattle.desk_rules.proofs.Laws.{class_parts}
 use Rattle.desk_rename.specs.Images.{repackaged}
-
-pub class_parts : Parts slash is_part
-class_parts = record { known = identifier_part; cuts = record { filled = refl; whole = part_whole } }
 
 other_byte : (c : ℕ) → is_identifier_byte c ≡ false → (b : ℕ) → is_identifier_byte b ≡ true → (b == c) ≡ false
 other_byte c strange b h = elim (cases_Bool (b == c)) [
@@ -32,11 +31,11 @@ signature_parts = record { known = known; cuts = record { filled = refl; whole =
   where
     known : (t : Text) → is_identifier t ≡ true → is_signature_identifier t ≡ true
     known [] h = absurd cc
-    known (b ∷ t) h = each_byte is_identifier_byte (λ b. not (is_mark b)) (λ b k. not_from_false _ (unmarked b k)) (b ∷ t) (and_parts _ _ h).1
+    known (b ∷ t) h = all_weaker is_identifier_byte (λ b. not (is_mark b)) (λ b k. not_from_false _ (unmarked b k)) (b ∷ t) (and_parts _ _ h).1
 
     whole : (t : Text) → is_signature_identifier t ≡ true → is_whole slash t ≡ true
     whole [] h = refl
-    whole (b ∷ t) h = each_byte (λ b. not (is_mark b)) (λ b. not (b == slash)) unslashed_mark (b ∷ t) h
+    whole (b ∷ t) h = all_weaker (λ b. not (is_mark b)) (λ b. not (b == slash)) unslashed_mark (b ∷ t) h
 
 -- class names stay class names
 pub keeps_class_names : (rs : List Renaming) → list_all is_rename rs ≡ true → KeepsClassNames (repackaged rs)

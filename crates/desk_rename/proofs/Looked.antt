@@ -4,6 +4,7 @@ use Rattle.std.proofs.lemmas.List.{append_assoc, append-nil, drop-drop, take_at,
 use Rattle.desk_base.specs.Names.{Text}
 use Rattle.desk_base.specs.Descriptors.{as_is}
 use Rattle.desk_names.specs.Pieces.{Piece, AreCut, piece_text, joined}
+use Rattle.desk_names.proofs.SigPieces.{joined_none}
 use Rattle.desk_packages.specs.Renames.{Renaming}
 use Rattle.desk_rename.specs.Images.{repackaged}
 use Rattle.desk_rename.specs.Drafts.{IsNew, IsNext, IsTaken, IsWhole, IsLooked, Changes, SomeChange, Fixed, IsCutPiece, stands}
@@ -75,10 +76,6 @@ looked_more rs text ps rest p old new looked taken =
     change : (0 < old.copied) ⊎ Changes rs p → SomeChange rs ps
     change (inl before) = looked.moved before
     change (inr here) = record { formed = here.formed; differs = λ h. here.differs (fixed_first (repackaged rs) p rest (looked.onward h)) }
-
-joined_none : (f : Text → Text) → joined f [] ≡ []
-unfolding joined
-joined_none f = refl
 
 -- behind the last part
 pub looked_whole : (rs : List Renaming) (text : Text) (ps : List Piece) (d : Draft) → IsLooked rs text ps [] d → IsWhole text d

@@ -5,11 +5,12 @@ use Rattle.std.proofs.lemmas.Grind.{common_steps}
 use Rattle.std.proofs.lemmas.Bool.{and_parts}
 use Rattle.std.proofs.lemmas.List.{length-take-le}
 use Rattle.desk_base.specs.Names.{Text, Package, segments, written, front, simple, is_name}
+use Rattle.desk_base.proofs.Separated.{front-push, simple-push}
 use Rattle.desk_packages.specs.Keys.{is_separator}
 use Rattle.desk_packages.specs.Renames.{Renaming, pkg, is_rename}
 use Rattle.desk_rules.specs.RuleSets.{IsFrontOf, changing_pick}
 use Rattle.desk_rules.specs.Images.{refronted, name_image}
-use Rattle.desk_packages.proofs.Cuts.{written-segments, front-push, simple-push, front_simple}
+use Rattle.desk_packages.proofs.Cuts.{written-segments, front_simple}
 use Rattle.desk_packages.specs.Fronts.{IsLastAt, IsFrontEnd}
 use Rattle.desk_rename.specs.Fronts.{IsExchange}
 use Rattle.desk_packages.proofs.Segments.{front_parts, parts_last, cut_last}

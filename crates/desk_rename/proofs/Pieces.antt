@@ -1,25 +1,21 @@
 -- Class names among the parts of a text, with their packages exchanged.
 use Rattle.std.proofs.Common.{◌≡◌, ◌≢◌, ◌≤◌, ◌<◌, ◌+◌, ℕ, true, ◌==◌, List, [], ◌∷◌, ◌++◌, length, drop, refl, sym, ap, subst, ◌∙◌, arith, length-append, None}
 use Rattle.std.specs.List.{list_all}
-use Rattle.std.proofs.lemmas.Bool.{and_parts}
 use Rattle.std.proofs.lemmas.List.{append_assoc}
 use Rattle.std.proofs.lemmas.List.Splits.{length-slice_split}
 use Rattle.desk_base.specs.Names.{Text, Package, segments, written, front, simple, is_whole, slash}
+use Rattle.desk_base.proofs.Separated.{front-push}
 use Rattle.desk_names.specs.ClassNames.{simple_of, class_name}
 use Rattle.desk_names.specs.Pieces.{IsCut}
+use Rattle.desk_names.proofs.CutNames.{last_part_whole}
 use Rattle.desk_packages.specs.Renames.{Renaming, pkg, is_rename}
 use Rattle.desk_rules.specs.RuleSets.{IsFrontOf, changing_pick}
-use Rattle.desk_packages.proofs.Cuts.{written-segments, front-push}
+use Rattle.desk_packages.proofs.Cuts.{written-segments}
 use Rattle.desk_rename.specs.Images.{repackaged}
 use Rattle.desk_packages.proofs.Joined.{written_push}
 use Rattle.desk_packages.proofs.Segments.{behind_last, whole_alone, segments_whole}
 use Rattle.desk_rename.proofs.Exchanges.{unchanged, package_front, name_front}
 use Rattle.desk_rename.proofs.NameImages.{drop_within}
-
-simple_whole : (ps : Package) → list_all (is_whole slash) ps ≡ true → is_whole slash (simple ps) ≡ true
-simple_whole [] h = refl
-simple_whole (x ∷ []) h = (and_parts _ _ h).0
-simple_whole (x ∷ y ∷ ps) h = simple_whole (y ∷ ps) (and_parts _ _ h).1
 
 -- the last part of a name that is cut
 last_is : (before last : Text) → IsCut before last → simple (segments slash (class_name before last)) ≡ last
@@ -27,7 +23,7 @@ unfolding simple_of
 last_is before last cut = cut.simple_is
 
 last_whole : (before last : Text) → IsCut before last → is_whole slash last ≡ true
-last_whole before last cut = ap (is_whole slash) (sym (last_is before last cut)) ∙ simple_whole (segments slash (class_name before last)) (segments_whole slash (class_name before last))
+last_whole before last cut = ap (is_whole slash) (sym (last_is before last cut)) ∙ last_part_whole (segments slash (class_name before last)) (segments_whole slash (class_name before last))
 
 -- and its package
 front_is : (before last : Text) → IsCut before last → front (segments slash (class_name before last)) ≡ segments slash before

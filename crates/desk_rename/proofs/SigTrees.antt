@@ -91,10 +91,10 @@ signature_mapped f (Signature.method ps js r ts) =
     ∙ ap (params_names (map_params f ps)) (javas_mapped f js (result_names r (thrown_names ts)))
     ∙ params_mapped f ps (javas_names js (result_names r (thrown_names ts)))
 
--- an exchange that is done at names of signatures once alone is done in a tree once alone
+-- two exchanges of which the second stands behind the first, where both come to a third at the names of signatures
 
-abbrev pub IsOnce : (Text → Text) → Type 0
-IsOnce f = (n : Text) → is_signature_name n ≡ true → f (f n) ≡ f n
+abbrev pub ComesTo : (Text → Text) → (Text → Text) → (Text → Text) → Type 0
+ComesTo f g h = (n : Text) → is_signature_name n ≡ true → f (g n) ≡ h n
 
 two : {A B C : Type 0} (c : A → B → C) (a b : A) (x y : B) → a ≡ b → x ≡ y → c a x ≡ c b y
 two c a b x y p q = ap (λ z. c z x) p ∙ ap (c b) q
@@ -105,98 +105,98 @@ three c a b x y u v p q r = ap (λ z. c z x u) p ∙ ap (λ z. c b z u) q ∙ ap
 mutual
   unfolding map_java map_ref map_class map_inner map_args map_arg is_java is_ref is_class is_inner is_args is_each is_arg
 
-  java_once : (f : Text → Text) → IsOnce f → (k : ℕ) (j : JavaType) → is_java k j ≡ true → map_java f (map_java f j) ≡ map_java f j
-  java_once f once k (JavaType.base c) h = refl
-  java_once f once k (JavaType.ref r) h = ap JavaType.ref (ref_once f once k r h)
+  java_twice : (f g h : Text → Text) → ComesTo f g h → (k : ℕ) (j : JavaType) → is_java k j ≡ true → map_java f (map_java g j) ≡ map_java h j
+  java_twice f g h same k (JavaType.base c) w = refl
+  java_twice f g h same k (JavaType.ref r) w = ap JavaType.ref (ref_twice f g h same k r w)
 
-  ref_once : (f : Text → Text) → IsOnce f → (k : ℕ) (r : Ref) → is_ref k r ≡ true → map_ref f (map_ref f r) ≡ map_ref f r
-  ref_once f once k (Ref.class c) h = ap Ref.class (class_once f once k c h)
-  ref_once f once k (Ref.variable n) h = refl
-  ref_once f once k (Ref.array j) h = ap Ref.array (java_once f once k j h)
+  ref_twice : (f g h : Text → Text) → ComesTo f g h → (k : ℕ) (r : Ref) → is_ref k r ≡ true → map_ref f (map_ref g r) ≡ map_ref h r
+  ref_twice f g h same k (Ref.class c) w = ap Ref.class (class_twice f g h same k c w)
+  ref_twice f g h same k (Ref.variable n) w = refl
+  ref_twice f g h same k (Ref.array j) w = ap Ref.array (java_twice f g h same k j w)
 
-  class_once : (f : Text → Text) → IsOnce f → (k : ℕ) (c : ClassType) → is_class k c ≡ true → map_class f (map_class f c) ≡ map_class f c
-  class_once f once k (ClassType.named n args inner) h =
-      let p = and_parts _ _ h in
+  class_twice : (f g h : Text → Text) → ComesTo f g h → (k : ℕ) (c : ClassType) → is_class k c ≡ true → map_class f (map_class g c) ≡ map_class h c
+  class_twice f g h same k (ClassType.named n args inner) w =
+      let p = and_parts _ _ w in
       let q = and_parts _ _ p.0 in
-      three ClassType.named _ _ _ _ _ _ (once n q.0) (args_once f once k args q.1) (inner_once f once k inner p.1)
+      three ClassType.named _ _ _ _ _ _ (same n q.0) (args_twice f g h same k args q.1) (inner_twice f g h same k inner p.1)
 
-  inner_once : (f : Text → Text) → IsOnce f → (k : ℕ) (i : Inner) → is_inner k i ≡ true → map_inner f (map_inner f i) ≡ map_inner f i
-  inner_once f once k Inner.done h = refl
-  inner_once f once k (Inner.dot n args inner) h =
-      let p = and_parts _ _ h in
-      two (Inner.dot n) _ _ _ _ (args_once f once k args (and_parts _ _ p.0).1) (inner_once f once k inner p.1)
+  inner_twice : (f g h : Text → Text) → ComesTo f g h → (k : ℕ) (i : Inner) → is_inner k i ≡ true → map_inner f (map_inner g i) ≡ map_inner h i
+  inner_twice f g h same k Inner.done w = refl
+  inner_twice f g h same k (Inner.dot n args inner) w =
+      let p = and_parts _ _ w in
+      two (Inner.dot n) _ _ _ _ (args_twice f g h same k args (and_parts _ _ p.0).1) (inner_twice f g h same k inner p.1)
 
-  args_once : (f : Text → Text) → IsOnce f → (k : ℕ) (a : Args) → is_args k a ≡ true → map_args f (map_args f a) ≡ map_args f a
-  args_once f once k Args.none h = refl
-  args_once f once k (Args.more a rest) h =
-      let p = and_parts _ _ h in
-      two Args.more _ _ _ _ (arg_once f once (k - 1) a (and_parts _ _ p.0).1) (each_once f once (k - 1) rest p.1)
+  args_twice : (f g h : Text → Text) → ComesTo f g h → (k : ℕ) (a : Args) → is_args k a ≡ true → map_args f (map_args g a) ≡ map_args h a
+  args_twice f g h same k Args.none w = refl
+  args_twice f g h same k (Args.more a rest) w =
+      let p = and_parts _ _ w in
+      two Args.more _ _ _ _ (arg_twice f g h same (k - 1) a (and_parts _ _ p.0).1) (each_twice f g h same (k - 1) rest p.1)
 
-  each_once : (f : Text → Text) → IsOnce f → (k : ℕ) (a : Args) → is_each k a ≡ true → map_args f (map_args f a) ≡ map_args f a
-  each_once f once k Args.none h = refl
-  each_once f once k (Args.more a rest) h =
-      let p = and_parts _ _ h in
-      two Args.more _ _ _ _ (arg_once f once k a p.0) (each_once f once k rest p.1)
+  each_twice : (f g h : Text → Text) → ComesTo f g h → (k : ℕ) (a : Args) → is_each k a ≡ true → map_args f (map_args g a) ≡ map_args h a
+  each_twice f g h same k Args.none w = refl
+  each_twice f g h same k (Args.more a rest) w =
+      let p = and_parts _ _ w in
+      two Args.more _ _ _ _ (arg_twice f g h same k a p.0) (each_twice f g h same k rest p.1)
 
-  arg_once : (f : Text → Text) → IsOnce f → (k : ℕ) (a : Arg) → is_arg k a ≡ true → map_arg f (map_arg f a) ≡ map_arg f a
-  arg_once f once k Arg.any h = refl
-  arg_once f once k (Arg.exactly r) h = ap Arg.exactly (ref_once f once k r h)
-  arg_once f once k (Arg.extends r) h = ap Arg.extends (ref_once f once k r h)
-  arg_once f once k (Arg.super_of r) h = ap Arg.super_of (ref_once f once k r h)
+  arg_twice : (f g h : Text → Text) → ComesTo f g h → (k : ℕ) (a : Arg) → is_arg k a ≡ true → map_arg f (map_arg g a) ≡ map_arg h a
+  arg_twice f g h same k Arg.any w = refl
+  arg_twice f g h same k (Arg.exactly r) w = ap Arg.exactly (ref_twice f g h same k r w)
+  arg_twice f g h same k (Arg.extends r) w = ap Arg.extends (ref_twice f g h same k r w)
+  arg_twice f g h same k (Arg.super_of r) w = ap Arg.super_of (ref_twice f g h same k r w)
 
-bound_once : (f : Text → Text) → IsOnce f → (k : ℕ) (b : Option Ref) → is_bound k b ≡ true → map_bound f (map_bound f b) ≡ map_bound f b
+bound_twice : (f g h : Text → Text) → ComesTo f g h → (k : ℕ) (b : Option Ref) → is_bound k b ≡ true → map_bound f (map_bound g b) ≡ map_bound h b
 unfolding map_bound is_bound
-bound_once f once k None h = refl
-bound_once f once k (Some r) h = ap (λ (x : Ref). Some x) (ref_once f once k r h)
+bound_twice f g h same k None w = refl
+bound_twice f g h same k (Some r) w = ap (λ (x : Ref). Some x) (ref_twice f g h same k r w)
 
-refs_once : (f : Text → Text) → IsOnce f → (k : ℕ) (rs : List Ref) → list_all (is_ref k) rs ≡ true → map_refs f (map_refs f rs) ≡ map_refs f rs
+refs_twice : (f g h : Text → Text) → ComesTo f g h → (k : ℕ) (rs : List Ref) → list_all (is_ref k) rs ≡ true → map_refs f (map_refs g rs) ≡ map_refs h rs
 unfolding map_refs
-refs_once f once k [] h = refl
-refs_once f once k (r ∷ rs) h = two (λ (x : Ref) (xs : List Ref). x ∷ xs) _ _ _ _ (ref_once f once k r (and_parts _ _ h).0) (refs_once f once k rs (and_parts _ _ h).1)
+refs_twice f g h same k [] w = refl
+refs_twice f g h same k (r ∷ rs) w = two (λ (x : Ref) (xs : List Ref). x ∷ xs) _ _ _ _ (ref_twice f g h same k r (and_parts _ _ w).0) (refs_twice f g h same k rs (and_parts _ _ w).1)
 
-param_once : (f : Text → Text) → IsOnce f → (k : ℕ) (p : Param) → is_param k p ≡ true → map_param f (map_param f p) ≡ map_param f p
-param_once f once k p h =
-    let q = and_parts _ _ h in
-    let b = bound_once f once k p.bound (and_parts _ _ q.0).1 in
-    let o = refs_once f once k p.others q.1 in
+param_twice : (f g h : Text → Text) → ComesTo f g h → (k : ℕ) (p : Param) → is_param k p ≡ true → map_param f (map_param g p) ≡ map_param h p
+param_twice f g h same k p w =
+    let q = and_parts _ _ w in
+    let b = bound_twice f g h same k p.bound (and_parts _ _ q.0).1 in
+    let o = refs_twice f g h same k p.others q.1 in
     λ i. record { name = p.name; bound = b i; others = o i }
 
-params_once : (f : Text → Text) → IsOnce f → (k : ℕ) (ps : List Param) → list_all (is_param k) ps ≡ true → map_params f (map_params f ps) ≡ map_params f ps
+params_twice : (f g h : Text → Text) → ComesTo f g h → (k : ℕ) (ps : List Param) → list_all (is_param k) ps ≡ true → map_params f (map_params g ps) ≡ map_params h ps
 unfolding map_params
-params_once f once k [] h = refl
-params_once f once k (p ∷ ps) h = two (λ (x : Param) (xs : List Param). x ∷ xs) _ _ _ _ (param_once f once k p (and_parts _ _ h).0) (params_once f once k ps (and_parts _ _ h).1)
+params_twice f g h same k [] w = refl
+params_twice f g h same k (p ∷ ps) w = two (λ (x : Param) (xs : List Param). x ∷ xs) _ _ _ _ (param_twice f g h same k p (and_parts _ _ w).0) (params_twice f g h same k ps (and_parts _ _ w).1)
 
-classes_once : (f : Text → Text) → IsOnce f → (k : ℕ) (cs : List ClassType) → list_all (is_class k) cs ≡ true → map_classes f (map_classes f cs) ≡ map_classes f cs
+classes_twice : (f g h : Text → Text) → ComesTo f g h → (k : ℕ) (cs : List ClassType) → list_all (is_class k) cs ≡ true → map_classes f (map_classes g cs) ≡ map_classes h cs
 unfolding map_classes
-classes_once f once k [] h = refl
-classes_once f once k (c ∷ cs) h = two (λ (x : ClassType) (xs : List ClassType). x ∷ xs) _ _ _ _ (class_once f once k c (and_parts _ _ h).0) (classes_once f once k cs (and_parts _ _ h).1)
+classes_twice f g h same k [] w = refl
+classes_twice f g h same k (c ∷ cs) w = two (λ (x : ClassType) (xs : List ClassType). x ∷ xs) _ _ _ _ (class_twice f g h same k c (and_parts _ _ w).0) (classes_twice f g h same k cs (and_parts _ _ w).1)
 
-javas_once : (f : Text → Text) → IsOnce f → (k : ℕ) (js : List JavaType) → list_all (is_java k) js ≡ true → map_javas f (map_javas f js) ≡ map_javas f js
+javas_twice : (f g h : Text → Text) → ComesTo f g h → (k : ℕ) (js : List JavaType) → list_all (is_java k) js ≡ true → map_javas f (map_javas g js) ≡ map_javas h js
 unfolding map_javas
-javas_once f once k [] h = refl
-javas_once f once k (j ∷ js) h = two (λ (x : JavaType) (xs : List JavaType). x ∷ xs) _ _ _ _ (java_once f once k j (and_parts _ _ h).0) (javas_once f once k js (and_parts _ _ h).1)
+javas_twice f g h same k [] w = refl
+javas_twice f g h same k (j ∷ js) w = two (λ (x : JavaType) (xs : List JavaType). x ∷ xs) _ _ _ _ (java_twice f g h same k j (and_parts _ _ w).0) (javas_twice f g h same k js (and_parts _ _ w).1)
 
-result_once : (f : Text → Text) → IsOnce f → (k : ℕ) (r : Option JavaType) → is_result k r ≡ true → map_result f (map_result f r) ≡ map_result f r
+result_twice : (f g h : Text → Text) → ComesTo f g h → (k : ℕ) (r : Option JavaType) → is_result k r ≡ true → map_result f (map_result g r) ≡ map_result h r
 unfolding map_result is_result
-result_once f once k None h = refl
-result_once f once k (Some j) h = ap (λ (x : JavaType). Some x) (java_once f once k j h)
+result_twice f g h same k None w = refl
+result_twice f g h same k (Some j) w = ap (λ (x : JavaType). Some x) (java_twice f g h same k j w)
 
-thrown_once : (f : Text → Text) → IsOnce f → (k : ℕ) (ts : List Thrown) → list_all (is_thrown k) ts ≡ true → map_thrown f (map_thrown f ts) ≡ map_thrown f ts
+thrown_twice : (f g h : Text → Text) → ComesTo f g h → (k : ℕ) (ts : List Thrown) → list_all (is_thrown k) ts ≡ true → map_thrown f (map_thrown g ts) ≡ map_thrown h ts
 unfolding map_thrown is_thrown
-thrown_once f once k [] h = refl
-thrown_once f once k (Thrown.class c ∷ ts) h = two (λ (x : Thrown) (xs : List Thrown). x ∷ xs) _ _ _ _ (ap Thrown.class (class_once f once k c (and_parts _ _ h).0)) (thrown_once f once k ts (and_parts _ _ h).1)
-thrown_once f once k (Thrown.variable n ∷ ts) h = ap (λ (xs : List Thrown). Thrown.variable n ∷ xs) (thrown_once f once k ts (and_parts _ _ h).1)
+thrown_twice f g h same k [] w = refl
+thrown_twice f g h same k (Thrown.class c ∷ ts) w = two (λ (x : Thrown) (xs : List Thrown). x ∷ xs) _ _ _ _ (ap Thrown.class (class_twice f g h same k c (and_parts _ _ w).0)) (thrown_twice f g h same k ts (and_parts _ _ w).1)
+thrown_twice f g h same k (Thrown.variable n ∷ ts) w = ap (λ (xs : List Thrown). Thrown.variable n ∷ xs) (thrown_twice f g h same k ts (and_parts _ _ w).1)
 
-pub signature_once : (f : Text → Text) → IsOnce f → (k : ℕ) (s : Signature) → is_signature k s ≡ true → map_signature f (map_signature f s) ≡ map_signature f s
+pub signature_twice : (f g h : Text → Text) → ComesTo f g h → (k : ℕ) (s : Signature) → is_signature k s ≡ true → map_signature f (map_signature g s) ≡ map_signature h s
 unfolding map_signature is_signature
-signature_once f once k (Signature.field r) h = ap Signature.field (ref_once f once k r h)
-signature_once f once k (Signature.class ps c cs) h =
-    let p = and_parts _ _ h in
+signature_twice f g h same k (Signature.field r) w = ap Signature.field (ref_twice f g h same k r w)
+signature_twice f g h same k (Signature.class ps c cs) w =
+    let p = and_parts _ _ w in
     let q = and_parts _ _ p.1 in
-    three Signature.class _ _ _ _ _ _ (params_once f once k ps p.0) (class_once f once k c q.0) (classes_once f once k cs q.1)
-signature_once f once k (Signature.method ps js r ts) h =
-    let p = and_parts _ _ h in
+    three Signature.class _ _ _ _ _ _ (params_twice f g h same k ps p.0) (class_twice f g h same k c q.0) (classes_twice f g h same k cs q.1)
+signature_twice f g h same k (Signature.method ps js r ts) w =
+    let p = and_parts _ _ w in
     let q = and_parts _ _ p.0 in
     let o = and_parts _ _ q.0 in
-    three (Signature.method (map_params f (map_params f ps))) _ _ _ _ _ _ (javas_once f once k js o.1) (result_once f once k r q.1) (thrown_once f once k ts p.1)
-    ∙ ap (λ (x : List Param). Signature.method x (map_javas f js) (map_result f r) (map_thrown f ts)) (params_once f once k ps o.0)
+    three (Signature.method (map_params f (map_params g ps))) _ _ _ _ _ _ (javas_twice f g h same k js o.1) (result_twice f g h same k r q.1) (thrown_twice f g h same k ts p.1)
+    ∙ ap (λ (x : List Param). Signature.method x (map_javas h js) (map_result h r) (map_thrown h ts)) (params_twice f g h same k ps o.0)

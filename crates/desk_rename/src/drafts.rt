@@ -37,7 +37,7 @@ fn name_length(name: &ClassName<'_>) -> usize
 }
 
 impl Draft {
-    /// Nothing was looked at.
+    /// A draft that stands in front of a text, of which nothing is written yet. It takes no memory.
     pub fn new(alloc: Global) -> Draft
         ensures { IsNew result }
     {

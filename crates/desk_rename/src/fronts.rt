@@ -4,7 +4,7 @@ ghost use Rattle.std.specs.Prelude.{◌≡◌, ◌++◌, ◌≤◌, OnOk, IfOk, 
 ghost use Rattle.desk_base.specs.Names.{written};
 
 use desk_base::{Memory, Text};
-use desk_rules::Front;
+use desk_rules::PackageFront;
 use std::alloc::Global;
 
 /// Appends a package, with a separator between its segments. The only error is want of memory; a
@@ -27,7 +27,7 @@ pub fn append_segments(out: &mut Text, segments: &[Text], separator: u8) -> Resu
 pub fn append_exchanged(
     out: &mut Text,
     text: &[u8],
-    front: &Front<'_>,
+    front: &PackageFront<'_>,
     separator: u8,
 ) -> Result<(), Memory>
     requires { front.now.taken ≤ length text.now }
@@ -41,7 +41,7 @@ pub fn append_exchanged(
 pub fn exchanged(
     alloc: Global,
     text: &[u8],
-    front: &Front<'_>,
+    front: &PackageFront<'_>,
     separator: u8,
 ) -> Result<Text, Memory>
     requires { front.now.taken ≤ length text.now }

@@ -9,7 +9,7 @@ use std::marker::Model;
 
 /// Images of class names under the renames that they were made under. No call takes memory.
 pub trait Images {
-    /// The renames.
+    /// The renames that the images are made under.
     ghost renames: { Self → List Renaming };
 
     /// The image of the name of a class or an array, where it is known.

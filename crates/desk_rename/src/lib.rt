@@ -24,4 +24,4 @@ pub use laws::{
 };
 pub use names::{append_dotted, append_package, rename_dotted, rename_package};
 pub use signatures::rename_signature;
-pub use strings::rename_string;
+pub use strings::{rename_dotted_package, rename_string};

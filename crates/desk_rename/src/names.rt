@@ -12,12 +12,16 @@ use crate::fronts::{append_exchanged, exchanged};
 use desk_base::{Memory, Text};
 use desk_names::{is_dotted, split_class};
 use desk_packages::front_end;
-use desk_rules::{Front, RuleSet, Separator};
+use desk_rules::{PackageFront, RuleSet, Separator};
 use std::alloc::Global;
 
 /// What is exchanged of a package that is written with a separator; none where its image is the
 /// package itself.
-pub fn package_front<'r>(rules: &'r RuleSet, text: &[u8], separator: Separator) -> Option<Front<'r>>
+pub fn package_front<'r>(
+    rules: &'r RuleSet,
+    text: &[u8],
+    separator: Separator,
+) -> Option<PackageFront<'r>>
     ensures front { MatchOption result
         (package_written (byte_of separator) rules.now.renames text.now ≡ text.now)
         (λ front. IsExchange (byte_of separator) text.now (package_written (byte_of separator) rules.now.renames text.now) front.taken front.segments.now) }
@@ -30,7 +34,7 @@ pub fn package_front<'r>(rules: &'r RuleSet, text: &[u8], separator: Separator) 
 }
 
 /// What is exchanged of a dotted name; none where its image is the text itself.
-fn dotted_front<'r>(rules: &'r RuleSet, text: &[u8]) -> Option<Front<'r>>
+fn dotted_front<'r>(rules: &'r RuleSet, text: &[u8]) -> Option<PackageFront<'r>>
     ensures front { MatchOption result
         (dotted rules.now.renames text.now ≡ text.now)
         (λ front. IsExchange dot text.now (dotted rules.now.renames text.now) front.taken front.segments.now) }
@@ -46,7 +50,7 @@ fn dotted_front<'r>(rules: &'r RuleSet, text: &[u8]) -> Option<Front<'r>>
 }
 
 /// What is exchanged of a class name; none where its image is the text itself.
-pub fn class_front<'r>(rules: &'r RuleSet, text: &[u8]) -> Option<Front<'r>>
+pub fn class_front<'r>(rules: &'r RuleSet, text: &[u8]) -> Option<PackageFront<'r>>
     ensures front { MatchOption result
         (class_image rules.now.renames text.now ≡ text.now)
         (λ front. IsExchange slash text.now (class_image rules.now.renames text.now) front.taken front.segments.now) }

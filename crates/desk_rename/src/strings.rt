@@ -11,13 +11,15 @@ use desk_base::{Memory, Text};
 use desk_rules::{RuleSet, Separator};
 use std::alloc::Global;
 
-/// The image of a package that is written with dots.
-fn rename_dotted_package(
+/// The image of a package that is written with dots. None exactly where the image is the text itself.
+/// The only error is want of memory.
+pub fn rename_dotted_package(
     alloc: Global,
     rules: &RuleSet,
     text: &[u8],
 ) -> Result<Option<Text>, Memory>
-    ensures { IfOk result (IsImage text.now (package_written dot rules.now.renames text.now)) }
+    ensures image { IfOk result (IsImage text.now (package_written dot rules.now.renames text.now)) }
+    ensures settled { IsRuleSet rules.now }
 {
     match package_front(rules, text, Separator::Dot) {
         None => Ok(None),

@@ -61,6 +61,7 @@ tree_described : (t : Tree Use) → AllByRecursion (Described (uses t)) (members
 tree_described Tree.nothing = tt
 tree_described (Tree.number bytes) = tt
 tree_described (Tree.raw bytes) = tt
+tree_described (Tree.code bytes) = tt
 tree_described (Tree.used u) = tt
 tree_described (Tree.both a b) =
     all_append (Described (uses a ++ uses b)) (members a) (members b)

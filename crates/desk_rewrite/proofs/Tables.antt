@@ -3,10 +3,10 @@ use Rattle.std.proofs.Common.{◌≡◌, ℕ, zero, suc, ◌+◌, ◌<◌, Bool,
 use Rattle.std.specs.Option.{is_some}
 use Rattle.std.specs.Ordering.{nat_cmp, is_eq, ordering_then}
 use Rattle.std.specs.declared.cmp.Ordering.{Ordering}
-use Rattle.std.specs.declared.cmp.Ordering.TheVariants.{Less, Equal, Greater}
+use Rattle.std.specs.declared.cmp.Ordering.TheVariants.{Equal}
 use Rattle.std.specs.BTreeMap as tree
 use Rattle.std.specs.Map.{lookup}
-use Rattle.std.proofs.lemmas.Bool.{eq-eqb, le-ltb}
+use Rattle.std.proofs.lemmas.Bool.{eq-eqb, le-ltb, or_right}
 use Rattle.std.proofs.lemmas.List.Elements.{All-more, All-weaker}
 use Rattle.std.proofs.lemmas.Map.Lookups.{exact_pairs, exact_unsigned}
 use Rattle.desk_base.specs.Names.{Text}
@@ -14,6 +14,7 @@ use Rattle.desk_base.specs.Entries.{Pool}
 use Rattle.desk_base.specs.declared.kinds.Role.{Role}
 use Rattle.desk_base.specs.declared.kinds.Role.TheVariants as roles
 use Rattle.desk_base.specs.declared.kinds.Used.{Used}
+use Rattle.desk_base.proofs.Orderings.{equal_is}
 use Rattle.desk_format.specs.Resolved.{Images}
 use Rattle.desk_rewrite.specs.declared.table.TextRole.{TextRole}
 use Rattle.desk_rewrite.specs.declared.table.TextRole.TheVariants as text_roles
@@ -43,13 +44,8 @@ role_at-rank text_roles.Str = refl
 rank_same : (a b : TextRole) → nat_cmp (rank a) (rank b) ≡ Equal → a ≡ b
 rank_same a b e = sym (role_at-rank a) ∙ ap role_at (exact_unsigned (rank a) (rank b) e) ∙ role_at-rank b
 
-is_equal : (r : Ordering) → is_eq r ≡ true → r ≡ Equal
-is_equal Less h = absurd cc
-is_equal Equal h = refl
-is_equal Greater h = absurd cc
-
 key_same : (x y : Key) → is_eq (key_cmp x y) ≡ true → x ≡ y
-key_same x y h = exact_pairs nat_cmp (λ (a b : TextRole). nat_cmp (rank a) (rank b)) exact_unsigned rank_same x y (is_equal (key_cmp x y) h)
+key_same x y h = exact_pairs nat_cmp (λ (a b : TextRole). nat_cmp (rank a) (rank b)) exact_unsigned rank_same x y (equal_is (key_cmp x y) h)
 
 -- ---- the order of the code
 
@@ -133,10 +129,6 @@ pub has_images : (im : Images) (pool : Pool) (table : Table) (us : List Used) �
 has_images im pool table us s h = All-weaker (λ (u : Used). has_image table u ≡ true) (λ (u : Used). Finds im pool table u.role u.index) (λ u k. finds im pool table u.role u.index s k) us h
 
 -- ---- uses, one after the other
-
-or_right : (a b : Bool) → b ≡ true → (a || b) ≡ true
-or_right true b h = refl
-or_right false b h = h
 
 text_role_more : (old new : Table) (key : Key) → Grows old key new → (i : ℕ) (o : Option TextRole) → has_text_role old i o ≡ true → has_text_role new i o ≡ true
 text_role_more old new key g i None h = refl

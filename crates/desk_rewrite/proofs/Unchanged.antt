@@ -23,8 +23,7 @@ use Rattle.desk_laws.proofs.Linked.{HasUse, Within, has_right, is_want}
 use Rattle.desk_laws.proofs.Pairs.{Alike, no_twins}
 use Rattle.desk_laws.proofs.Passes.{or_else-none}
 use Rattle.desk_laws.proofs.Refused.{none_overlong, not_full}
-use Rattle.desk_laws.proofs.Split.{IsWant}
-use Rattle.desk_laws.proofs.Stable.{Own, added_none, choice_stays, pool_same}
+use Rattle.desk_laws.proofs.Stable.{Own, added_none, choice_stays, pool_same, own_at}
 use Rattle.desk_rewrite.proofs.Parts.{IsFound, front_is, body_is, body_stands, patch_same}
 use Rattle.desk_rewrite.proofs.Described.{Described, class_described}
 
@@ -33,11 +32,6 @@ short_own pool s [] h = tt
 short_own pool s (w ∷ ws) h =
     let sound : IsTwoBytes (length w.text) × (bad_form w.text ≡ None) = sound_at false pool w.index (utf8 w.text) s h.0.names in
     (sound.0, short_own pool s ws (h.1))
-
-own_at : (pool : Pool) (ws : List Want) (w : Want) → AllByRecursion (Own pool) ws → IsWant ws w → Own pool w
-own_at pool [] w h is = absurd is
-own_at pool (v ∷ vs) w h (inl e) = subst (Own pool) e (h.0)
-own_at pool (v ∷ vs) w h (inr k) = own_at pool vs w (h.1) k
 
 module _ (im : Images) (bytes : List ℕ) (c : Class) (f : IsFound bytes c) (own : AllByRecursion (Own c.pool) (wants im c.pool (class_uses c))) where
   pub no_added : added im c.pool (class_uses c) ≡ []

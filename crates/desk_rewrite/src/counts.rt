@@ -22,7 +22,7 @@ fn is_odd(role: Role, text: &[u8]) -> bool
     }
 }
 
-/// How many uses have an odd text.
+/// How many uses of texts as signatures have a text that is no signature of their kind.
 pub fn odd_uses(pool: &Pool<'_>, uses: &[Used]) -> u32
     requires { length uses.now < 2 ^ 32 }
     ensures { result ≡ count_by (is_odd_use pool.now.entries) uses.now }
@@ -32,7 +32,7 @@ pub fn odd_uses(pool: &Pool<'_>, uses: &[Used]) -> u32
         .count() as u32
 }
 
-/// How many uses have an image that is another text.
+/// How many uses want another text than their own.
 pub fn renamed_uses(wants: &[WantedText<'_>]) -> u32
     requires { length wants.now < 2 ^ 32 }
     ensures { result ≡ count_by has_other wants.now }

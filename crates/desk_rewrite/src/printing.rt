@@ -17,7 +17,7 @@ use desk_class::ClassView;
 use desk_new_pool::{NewTexts, append_body, append_pool};
 use std::alloc::Global;
 
-/// The bytes of a class.
+/// The whole class file of a view.
 pub fn bytes_of<'a>(view: &ClassView<'a>) -> &'a [u8]
     ensures bytes { result.now ≡ view.now }
     ensures each { IsBytes view.now }

@@ -6,6 +6,7 @@ ghost use Rattle.desk_format.specs.NewClass.{new_bytes, new_class, refusal};
 ghost use Rattle.desk_laws.specs.Classes.{IsRenamedClass, IsUnchangedClass};
 ghost use Rattle.desk_format.specs.NewPool.{added};
 ghost use Rattle.desk_format.specs.Resolved.{Images};
+ghost use Rattle.desk_format.specs.Laws.{IsBytes};
 ghost use Rattle.desk_format.specs.Members.{members};
 ghost use Rattle.desk_format.specs.Classes.{uses_in};
 ghost use Rattle.desk_class.specs.Parts.{pool_in};
@@ -31,10 +32,10 @@ use desk_rename::Images;
 use desk_rules::RuleSet;
 use std::alloc::Global;
 
-/// A class that was rewritten.
+/// A class that was rewritten, with what its line in the report counts.
 #[derive(Debug, Drop)]
 pub struct Rewritten {
-    /// The bytes of the new class.
+    /// The whole of the new class file.
     pub bytes: Text,
     /// How many uses of texts have an image that differs from their text.
     pub renamed: u32,
@@ -57,7 +58,7 @@ pub enum RewriteFault {
     },
     /// The new constant pool would have more than 65,535 as its count (JVMS 4.1).
     PoolFull {
-        /// The count of the old pool.
+        /// `constant_pool_count` of the old class (JVMS 4.1).
         count: u16,
         /// How many texts would be added.
         needed: u32,
@@ -126,6 +127,15 @@ fn new_class(
     Ok((bytes, added))
 }
 
+/// The bytes of a text, each of them below 256.
+fn bytes_in(text: &Text) -> &[u8]
+    ensures bytes { result.now ≡ text.now }
+    ensures each { IsBytes text.now }
+{
+    let bytes = text.as_bytes();
+    bytes
+}
+
 /// The new class of a class under a rule set: its bytes, and how many of its uses changed. Each use of a text gets the
 /// image of that text by its role, and all other bytes stay. A class name is looked up in `images` first. A class in which
 /// nothing changes is copied.
@@ -143,6 +153,7 @@ pub fn rewrite<I: Images>(
 ) -> Result<Rewritten, RewriteFault>
     requires { I.renames images.now ≡ rules.now.renames }
     ensures bytes { IfOk result (λ new. (c : Class) → read_class view.now ≡ Ok c → new.bytes ≡ new_bytes (images_of rules.now) view.now c) }
+    ensures each { IfOk result (λ new. IsBytes new.bytes) }
     ensures renamed { IfOk result (λ new. (c : Class) → read_class view.now ≡ Ok c → new.renamed ≡ renamed_count (images_of rules.now) c) }
     ensures added { IfOk result (λ new. (c : Class) → read_class view.now ≡ Ok c → new.added ≡ length (added (images_of rules.now) c.pool (class_uses c))) }
     ensures odd { IfOk result (λ new. (c : Class) → read_class view.now ≡ Ok c → new.odd ≡ odd_count c) }
@@ -163,6 +174,8 @@ pub fn rewrite<I: Images>(
     } else {
         new_class(alloc, view, &table, &wants)?
     };
+    // `bytes_in` says that they are bytes.
+    let _each = bytes_in(&bytes);
     Ok(Rewritten {
         bytes,
         renamed,

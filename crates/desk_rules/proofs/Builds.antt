@@ -6,7 +6,7 @@ use Rattle.desk_patterns.specs.PatternTexts.{PatternText}
 use Rattle.desk_rules.specs.Files.{Files, versions_name, bundles_name, direct_name, selection_name}
 use Rattle.desk_packages.specs.Renames.{Renaming}
 use Rattle.desk_rules.specs.Rules.{Rules, Versions}
-use Rattle.desk_chains.specs.Exchanges.{Exchange, BundleUpdate}
+use Rattle.desk_entries.specs.Exchanges.{Exchange, BundleUpdate}
 use Rattle.desk_rules.specs.RuleSets.{rules_of}
 use Rattle.desk_rules.specs.Reads.{◌>>=◌, all_in, versions_entry, update_entry, direct_entry, selection_entry, renames_in, settled}
 use Rattle.desk_rules.specs.TextFiles.{texts_in}

@@ -13,7 +13,7 @@ use Rattle.desk_entries.specs.declared.faults.EntryFault.{EntryFault}
 use Rattle.desk_entries.specs.declared.faults.EntryFault.TheVariants.{Key, Value}
 use Rattle.desk_rules.specs.Files.{Files, versions_name, bundles_name}
 use Rattle.desk_rules.specs.Rules.{Versions, Update}
-use Rattle.desk_chains.specs.Exchanges.{BundleUpdate}
+use Rattle.desk_entries.specs.Exchanges.{BundleUpdate}
 use Rattle.desk_rules.specs.RuleSets.{AreVersions, HaveVersions, IsVersionOrNone, IsUpdate, HaveUpdates}
 use Rattle.desk_rules.specs.RuleFiles.{entries_in, all_in, keyed, versions_entry, update_entry}
 use Rattle.desk_rules.proofs.TextMaps.{find_in}

@@ -1,9 +1,11 @@
 -- Images of names keep their form, and are their own images.
-use Rattle.std.proofs.Common.{◌≡◌, ℕ, Bool, true, false, cond, not, List, [], ◌∷◌, ◌++◌, length, drop, Option, Some, None, refl, sym, ap, ◌∙◌}
+use Rattle.std.proofs.Common.{◌≡◌, ℕ, Bool, true, false, cond, List, [], ◌∷◌, ◌++◌, length, drop, Option, Some, None, refl, sym, ap, ◌∙◌}
 use Rattle.std.specs.List.{list_all}
 use Rattle.std.proofs.lemmas.Bool.{and_parts, and_from}
 use Rattle.std.proofs.lemmas.List.Folds.{list_all-append}
-use Rattle.desk_base.specs.Names.{Text, Package, segments, written, front, simple, is_empty, is_name, is_identifier}
+use Rattle.desk_base.specs.Names.{Text, Package, segments, written, front, simple, is_name, is_identifier}
+use Rattle.desk_base.proofs.Lists.{not_empty-push}
+use Rattle.desk_base.proofs.Separated.{front-push, simple-push}
 use Rattle.desk_packages.specs.Renames.{Renaming, in_scope, pick, renamed_by, pkg, is_rename}
 use Rattle.desk_chains.specs.Chains.{rename_then_rename, first_pair}
 use Rattle.desk_rules.specs.Images.{refronted, name_image}
@@ -11,7 +13,7 @@ use Rattle.desk_packages.proofs.Same.{covers_is}
 use Rattle.desk_packages.proofs.Picks.{Found, pick_Some, all_In}
 pub use Rattle.desk_chains.proofs.Fronts.{front_all}
 use Rattle.desk_rules.proofs.Twice.{pkg_twice}
-use Rattle.desk_packages.proofs.Cuts.{Cuts, segments_written, front-push, simple-push}
+use Rattle.desk_packages.proofs.Cuts.{Cuts, segments_written}
 
 all_weaker : (test other : Text → Bool) → ((t : Text) → test t ≡ true → other t ≡ true) → (ps : Package) → list_all test ps ≡ true → list_all other ps ≡ true
 all_weaker test other weaker [] h = refl
@@ -40,10 +42,6 @@ pkg_all part known rs renames p h =
 pub record Parts (separator : ℕ) (part : Text → Bool) : Type 0 where
   pub known : (t : Text) → is_identifier t ≡ true → part t ≡ true
   pub cuts : Cuts separator part
-
-not_empty-push : (p : Package) (x : Text) → not (is_empty (p ++ x ∷ [])) ≡ true
-not_empty-push [] x = refl
-not_empty-push (a ∷ p) x = refl
 
 -- the segments of a name's image
 pub segments_image : (separator : ℕ) (part : Text → Bool) → Parts separator part → (rs : List Renaming) → list_all is_rename rs ≡ true → (t : Text) → is_name part separator t ≡ true

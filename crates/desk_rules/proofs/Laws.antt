@@ -8,12 +8,14 @@ use Rattle.std.proofs.lemmas.Slice.Eq.{bytes_eq-Decides}
 use Rattle.std.proofs.lemmas.Bool.{cases_Bool, and_parts, and_from, or_left, not-false, not_from_false, both_ways, false_from_ne_true}
 use Rattle.desk_base.specs.Names.{Text, Package, segments, written, front, simple, is_part, is_dotted, is_class_name, is_identifier, slash, dot}
 use Rattle.std.proofs.lemmas.List.{append-nil, drop_at}
+use Rattle.std.proofs.lemmas.Cmp.{nat_list_eq_equiv}
+use Rattle.desk_base.proofs.Separated.{front-push, simple-push}
 use Rattle.desk_packages.specs.Renames.{Renaming, has_source, in_scope, in_reach, changes, pick, renamed_by, pkg, is_rename}
 use Rattle.desk_rules.specs.Rules.{Rules, Update, TextMap}
 use Rattle.desk_chains.specs.declared.ChainKind.{ChainKind}
 use Rattle.desk_chains.specs.declared.ChainKind.TheVariants.{RenameThenRename, RenameThenDirect, DirectThenDirect, DirectThenRename, BundleThenBundle, PackageThenName, NameThenPackage, PackageThenDirect, DirectThenPackage}
 use Rattle.desk_chains.specs.Chains.{first_pair, rename_then_rename, rename_then_direct, one_then_another, direct_then_rename, update_then_update, package_then_name, name_then_package, package_then_direct, direct_then_package, Chain, chain_of, or_chain, front_in_reach}
-use Rattle.desk_chains.specs.Exchanges.{alters, renames_bundle}
+use Rattle.desk_entries.specs.Exchanges.{alters, renames_bundle}
 use Rattle.desk_rules.specs.Settled.{IsSettled}
 use Rattle.desk_rules.specs.Images.{refronted, dotted, package_written, renamed_string, str}
 use Rattle.desk_rules.specs.RuleSets.{IsRuleSet, PackagesStay, ClassesStay, ClassesKeepForm, IsClassImage, DottedStay, DottedKeepForm, IsDottedImage, StringsStay, BundlesStay, only_other_name}
@@ -21,7 +23,7 @@ use Rattle.desk_packages.proofs.Same.{covers_is, covers_moved, same_is as bytes_
 use Rattle.desk_packages.proofs.Picks.{In, Found, pick_Some, all_In}
 use Rattle.desk_packages.proofs.HasSource.{PickedSource, source_picked}
 use Rattle.desk_rules.proofs.Twice.{first_pair_None, pkg_twice, unchanged}
-use Rattle.desk_packages.proofs.Cuts.{segments_written, written-segments, front-push, simple-push, front_simple}
+use Rattle.desk_packages.proofs.Cuts.{segments_written, written-segments, front_simple}
 use Rattle.desk_packages.proofs.Bytes.{identifier_part, part_whole, identifier_whole}
 use Rattle.desk_rules.proofs.Forms.{Parts, segments_image, name_image_named, name_image_twice}
 use Rattle.desk_rules.proofs.TextMaps.{map_holds}
@@ -161,9 +163,6 @@ dotted_reached rules fine t =
 unaltered : (t v : Text) → alters (t, v) ≡ false → t ≡ v
 unaltered t v h = (bytes_eq-Decides t v).0 (not-false _ h)
 
-equal_texts : (t : Text) → bytes_eq t t ≡ true
-equal_texts t = (bytes_eq-Decides t t).1 refl
-
 -- the image of a package whose own rename is picked
 picked_image : (rs : List Renaming) (p : Package) (r : Renaming) → pick rs p ≡ Some r → r.source ≡ p → pkg rs p ≡ r.target
 picked_image rs p r picked e =
@@ -200,7 +199,7 @@ direct_still rules settled t v is moves =
     text_still rules v
     (λ w q.
     let apart : one_then_another (t, v) (v, w) ≡ false = first_pair_None one_then_another (finite.entries rules.direct) (finite.entries rules.direct) (t, v) (v, w) none.directs is (map_holds rules.direct v w q) in
-    false_from_ne_true (alters (v, w)) (λ (changed : alters (v, w) ≡ true). both_ways _ apart (and_from _ _ (and_from _ _ moves changed) (equal_texts v))))
+    false_from_ne_true (alters (v, w)) (λ (changed : alters (v, w) ≡ true). both_ways _ apart (and_from _ _ (and_from _ _ moves changed) (nat_list_eq_equiv.refl v))))
     (string_still rules v
     (λ s js source.
     let apart : direct_then_package (t, v) s ≡ false = first_pair_None direct_then_package (finite.entries rules.direct) rules.renames (t, v) s none.direct_package is js in
@@ -220,7 +219,7 @@ target_still rules fine r is moves =
     text_still rules u
     (λ w q.
     let apart : package_then_direct r (u, w) ≡ false = first_pair_None package_then_direct rules.renames (finite.entries rules.direct) r (u, w) none.package_direct is (map_holds rules.direct u w q) in
-    false_from_ne_true (alters (u, w)) (λ (changed : alters (u, w) ≡ true). both_ways _ apart (and_from _ _ (and_from _ _ moves changed) (equal_texts u))))
+    false_from_ne_true (alters (u, w)) (λ (changed : alters (u, w) ≡ true). both_ways _ apart (and_from _ _ (and_from _ _ moves changed) (nat_list_eq_equiv.refl u))))
     (string_still rules u
     (λ s js source.
     let apart : rename_then_rename r s ≡ false = first_pair_None rename_then_rename rules.renames rules.renames r s none.renames is js in
@@ -304,6 +303,6 @@ bundles_stay rules fine name u h =
       | None ↦ λ q. refl
       | Some w ↦ λ q.
           let apart : update_then_update (name, u) (u.name, w) ≡ false = first_pair_None update_then_update (finite.entries rules.bundles) (finite.entries rules.bundles) (name, u) (u.name, w) (no_chain rules fine.settled).bundles (map_holds rules.bundles name u at.0) (map_holds rules.bundles u.name w q) in
-          let stays : renames_bundle (u.name, w) ≡ false = false_from_ne_true (renames_bundle (u.name, w)) (λ (changed : renames_bundle (u.name, w) ≡ true). both_ways _ apart (and_from _ _ (and_from _ _ at.1 changed) (equal_texts u.name))) in
+          let stays : renames_bundle (u.name, w) ≡ false = false_from_ne_true (renames_bundle (u.name, w)) (λ (changed : renames_bundle (u.name, w) ≡ true). both_ways _ apart (and_from _ _ (and_from _ _ at.1 changed) (nat_list_eq_equiv.refl u.name))) in
           ap (λ (b : Bool). cond b None (Some w)) (not-false _ stays)
     ] refl

@@ -1,6 +1,5 @@
 pub mod Twice
 pub mod Forms
-pub mod Entries
 pub mod TextMaps
 pub mod Laws
 pub mod Ordered
@@ -17,3 +16,4 @@ pub mod LoadedTexts
 pub mod TextBuilds
 pub mod Utf8Rules
 pub mod FormedEntries
+pub mod Others

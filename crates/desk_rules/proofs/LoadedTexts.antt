@@ -1,5 +1,5 @@
 -- Files of text rules that are read, one after the other.
-use Rattle.std.proofs.Common.{◌≡◌, ◌<◌, ◌≤◌, ◌+◌, ℕ, zero, suc, Bool, true, false, cond, List, [], ◌∷◌, ◌++◌, length, map, take, drop, get_or, Some, Result, Ok, Err, refl, sym, ap, subst, ◌∙◌, arith}
+use Rattle.std.proofs.Common.{◌≡◌, ◌<◌, ◌≤◌, ◌+◌, ℕ, zero, suc, Bool, true, false, cond, List, [], ◌∷◌, ◌++◌, length, map, take, drop, get_or, Some, Ok, refl, sym, ap, subst, ◌∙◌, arith}
 use Rattle.std.specs.Map.{lookup}
 use Rattle.std.specs.Str.{bytes_eq}
 use Rattle.std.specs.Ordering.{nat_cmp}
@@ -16,7 +16,8 @@ use Rattle.desk_rules.specs.Files.{Files}
 use Rattle.desk_rules.specs.TextFiles.{rule_texts, pattern_text}
 use Rattle.desk_rules.specs.LoadedTexts.{StandsAt, IsLoaded, GoesOn, IsPlaceOf, IsPatternAt}
 use Rattle.desk_properties.specs.Properties.{Entry}
-use Rattle.std.specs.Prelude.{slice_get, OnOk, IfErr}
+use Rattle.std.specs.Prelude.{slice_get}
+use Rattle.desk_patterns.proofs.Lists.{length_more}
 use Rattle.desk_rules.proofs.TextTurns.{IsCollectedTo, collect_more}
 
 -- the rules of a file stand in byte order of their sources
@@ -39,10 +40,6 @@ stands_behind rules n x rising h e k l =
 pub goes_on_same : (rules : List (List TextRule)) → GoesOn rules rules
 goes_on_same rules = record { more = omega arith; front = take_all (length rules) rules (omega arith) }
 
-length_one : {A : Type 0} (xs : List A) (y : A) → length (xs ++ y ∷ []) ≡ suc (length xs)
-length_one [] y = refl
-length_one (x ∷ xs) y = ap (λ (n : ℕ). suc n) (length_one xs y)
-
 front_one : {A : Type 0} (xs : List A) (y : A) → take (length xs) (xs ++ y ∷ []) ≡ xs
 front_one [] y = refl
 front_one (x ∷ xs) y = ap (λ zs. x ∷ zs) (front_one xs y)
@@ -52,7 +49,7 @@ last_one [] y d = refl
 last_one (x ∷ xs) y d = last_one xs y d
 
 goes_on_one : (rules : List (List TextRule)) (more : List TextRule) → GoesOn rules (rules ++ more ∷ [])
-goes_on_one rules more = record { more = omega (arith, length_one rules more); front = front_one rules more }
+goes_on_one rules more = record { more = omega (arith, length_more rules more); front = front_one rules more }
 
 -- an element of the front
 front_at : {A : Type 0} (xs ys : List A) (k : ℕ) (d : A) → take (length xs) ys ≡ xs → k < length xs → get_or ys k d ≡ get_or xs k d
@@ -92,7 +89,7 @@ place_added files name old places rules new more place loaded read added here up
   where
     stands : StandsAt files name (rules ++ more ∷ []) place
     stands = record {
-      within = omega (arith, here, length_one rules more);
+      within = omega (arith, here, length_more rules more);
       there = read ∙ ap (λ (rs : List TextRule). Ok rs) (sym (ap (λ (n : ℕ). get_or (rules ++ more ∷ []) n []) here ∙ last_one rules more []));
     }
 
@@ -128,11 +125,3 @@ placed_more files es i places next old new patterns more key value last so there
       within = places_more old new patterns last is.goes_on so.within is.within;
       loaded = is.loaded;
     }
-
-pub on_ok_so : {A E : Type 0} (r : Result A E) (P Q : Type 0) → (P → Q) → OnOk r P → OnOk r Q
-on_ok_so (Ok a) P Q f h = f h
-on_ok_so (Err e) P Q f h = tt
-
-pub if_err_so : {A E : Type 0} (r : Result A E) (P Q : E → Type 0) → ((e : E) → P e → Q e) → IfErr r P → IfErr r Q
-if_err_so (Ok a) P Q f h = tt
-if_err_so (Err e) P Q f h = f e h

@@ -20,6 +20,7 @@ use Rattle.std.specs.FinMap.Entries.{below_all}
 use Rattle.std.proofs.lemmas.Map.Keys.{apart_from_distinct, sorted_from_all_adjacent, Less-from_sorted}
 use Rattle.std.proofs.lemmas.Map.Text.{is_eq-slice_cmp}
 use Rattle.desk_base.specs.Names.{Text}
+use Rattle.desk_base.proofs.Orderings.{less_is}
 use Rattle.desk_properties.specs.Properties.{Entry}
 use Rattle.desk_packages.specs.Keys.{RiseBy}
 use Rattle.desk_rules.specs.RuleFiles.{in_order}
@@ -34,7 +35,8 @@ less_of a b not_less apart =
       | Greater ↦ λ e. absurd (both_ways (is_lt (slice_cmp nat_cmp b a)) not_less (ap is_lt (nat_list_cmp_total.antisymm b a ∙ ap ordering_reverse e)))
     ] refl
 
-keys_rise : (ks : List Text) → IsSorted (slice_cmp nat_cmp) ks → IsDistinct bytes_eq ks → IsStrictlySortedBy (slice_cmp nat_cmp) ks
+-- distinct texts that are sorted rise
+pub keys_rise : (ks : List Text) → IsSorted (slice_cmp nat_cmp) ks → IsDistinct bytes_eq ks → IsStrictlySortedBy (slice_cmp nat_cmp) ks
 keys_rise ks sorted apart = sorted_from_all_adjacent nat_list_cmp_total ks [] (λ k within.
     less_of (get_or ks k []) (get_or ks (k + 1) []) (sorted k [] (omega arith) within) (apart_from_distinct bytes_eq ks k (k + 1) [] apart (omega arith) within))
 
@@ -59,11 +61,6 @@ sorted_is old new sorted apart gets =
     same_map nat_list_cmp_total (slice_cmp-IsAntisymmetric nat_cmp-IsAntisymmetric) _ _ (λ q.
     get-from_entries nat_list_cmp_total new q ∙ found_is new q ∙ gets q ∙ sym (found_is old q) ∙ sym (get-from_entries nat_list_cmp_total old q)) in
     sym (entries_rising new (entries_rise new sorted apart)) ∙ ap finite.entries maps
-
-less_is : (o : Ordering) → is_lt o ≡ true → o ≡ Less
-less_is Less h = refl
-less_is Equal h = absurd cc
-less_is Greater h = absurd cc
 
 below_at : (x : Text) (es : List Entry) → below_all (slice_cmp nat_cmp) x es ≡ true → (k : ℕ) (d : Entry) → k < length es → slice_cmp nat_cmp x (get_or es k d).0 ≡ Less
 below_at x [] h k d within = absurd (omega arith)

@@ -1,14 +1,15 @@
 -- What is read of an entry of the renames.
-use Rattle.std.proofs.Common.{◌≡◌, ◌-◌, Bool, true, false, cond, not, ◌||◌, List, [], ◌∷◌, ◌++◌, length, take, Result, Ok, Err, refl, sym, ap, ◌∙◌, inl, inr}
+use Rattle.std.proofs.Common.{◌≡◌, ◌-◌, Bool, true, false, cond, not, ◌&&◌, List, [], ◌∷◌, ◌++◌, length, take, Result, Ok, Err, refl, sym, ap, ◌∙◌, inl, inr}
+use Rattle.std.specs.Str.{is_utf8}
 use Rattle.std.specs.List.{list_all}
-use Rattle.std.proofs.lemmas.Bool.{and_from, cases_Bool}
+use Rattle.std.proofs.lemmas.Bool.{and_from, and_parts, cases_Bool}
 use Rattle.std.proofs.lemmas.Bool.Decides.{Decides-eqb}
 use Rattle.std.proofs.lemmas.List.{append-nil}
 use Rattle.std.proofs.lemmas.Slice.Eq.{ends_is}
 use Rattle.desk_base.specs.Names.{Text, segments, written, dot, is_dotted}
 use Rattle.desk_properties.specs.Properties.{Entry}
 use Rattle.desk_lines.specs.Blanks.{trimmed_end}
-use Rattle.desk_entries.specs.Forms.{is_below, reach_of, source_text, is_stored}
+use Rattle.desk_entries.specs.Forms.{is_below, reach_of, source_text, is_stored, is_written_package}
 use Rattle.desk_entries.specs.Entries.{rename_of}
 use Rattle.desk_entries.specs.declared.faults.EntryFault.{EntryFault}
 use Rattle.desk_entries.specs.declared.faults.EntryFault.TheVariants.{Key, Value}
@@ -21,19 +22,19 @@ use Rattle.desk_rules.specs.Files.{renames_name}
 use Rattle.desk_rules.specs.declared.RuleFault.{RuleFault}
 use Rattle.desk_packages.proofs.Cuts.{written-segments}
 
--- what passes two tests, or is at fault
-record Passed {A : Type 0} (a b : Bool) (x y : A) : Type 0 where
+-- what passes a test, or is at fault
+record Passed {A : Type 0} (a : Bool) (x y : A) : Type 0 where
   first : a ≡ true
-  second : b ≡ true
   same : x ≡ y
 
-passed : {A : Type 0} (a b : Bool) (fault : EntryFault) (x y : A) → cond (not a || not b) (Err fault) (Ok x) ≡ Ok y → Passed a b x y
-passed true true fault x y h = let same : x ≡ y = cc in record { first = refl; second = refl; same = same }
-passed true false fault x y h = absurd cc
-passed false b fault x y h = absurd cc
+passed : {A : Type 0} (a : Bool) (fault : EntryFault) (x y : A) → cond (not a) (Err fault) (Ok x) ≡ Ok y → Passed a x y
+passed true fault x y h = let same : x ≡ y = cc in record { first = refl; same = same }
+passed false fault x y h = absurd cc
 
 -- what a rename that was read says
 pub record Read (key value : Text) (r : Rename) : Type 0 where
+  pub source_written : is_written_package (source_text key) ≡ true
+  pub target_written : is_written_package (trimmed_end value) ≡ true
   pub source : is_dotted (source_text key) ≡ true
   pub target : is_dotted (trimmed_end value) ≡ true
   pub stored : is_stored (trimmed_end value) ≡ true
@@ -42,11 +43,21 @@ pub record Read (key value : Text) (r : Rename) : Type 0 where
 pub read_parts : (key value : Text) (r : Rename) → rename_of key value ≡ Ok r → Read key value r
 read_parts key value r h =
     let R : Rename = record { source = segments dot (source_text key); target = segments dot (trimmed_end value); reach = reach_of key } in
-    elim (is_dotted (source_text key)) as (λ (a : Bool). is_dotted (source_text key) ≡ a → cond (not a) (Err Key) (cond (not (is_dotted (trimmed_end value)) || not (is_stored (trimmed_end value))) (Err Value) (Ok R)) ≡ Ok r → Read key value r) [
+    elim (is_written_package (source_text key)) as (λ (a : Bool). is_written_package (source_text key) ≡ a → cond (not a) (Err Key) (cond (not (is_written_package (trimmed_end value))) (Err Value) (Ok R)) ≡ Ok r → Read key value r) [
       | false ↦ λ p k. absurd cc
       | true ↦ λ p k.
-          let fine = passed (is_dotted (trimmed_end value)) (is_stored (trimmed_end value)) Value R r k in
-          record { source = p; target = fine.first; stored = fine.second; is = fine.same }
+          let fine = passed (is_written_package (trimmed_end value)) Value R r k in
+          let from = and_parts (is_dotted (source_text key) && is_stored (source_text key)) (is_utf8 (source_text key)) p in
+          let to = and_parts (is_dotted (trimmed_end value) && is_stored (trimmed_end value)) (is_utf8 (trimmed_end value)) fine.first in
+          let into = and_parts (is_dotted (trimmed_end value)) (is_stored (trimmed_end value)) to.0 in
+          record {
+            source_written = p;
+            target_written = fine.first;
+            source = (and_parts (is_dotted (source_text key)) (is_stored (source_text key)) from.0).0;
+            target = into.0;
+            stored = into.1;
+            is = fine.same;
+          }
     ] refl h
 
 pub entry_formed : (key value : Text) (r : Rename) → rename_of key value ≡ Ok r → is_rename (renaming r.source r.target (goes_below r.reach)) ≡ true

@@ -7,11 +7,9 @@ use Rattle.std.specs.Ordering.{nat_cmp}
 use Rattle.std.specs.Cmp.Lexicographic.{slice_cmp}
 use Rattle.std.specs.FinMap as finite
 use Rattle.std.specs.FinMap.{get-from_entries, same_map, slice_cmp-IsAntisymmetric, nat_cmp-IsAntisymmetric}
-use Rattle.std.proofs.lemmas.Cmp.{nat_list_cmp_total}
+use Rattle.std.proofs.lemmas.Cmp.{nat_list_cmp_total, nat_list_eq_equiv}
 use Rattle.std.proofs.lemmas.List.{append-nil, append_assoc, drop_more, drop_all}
 use Rattle.std.proofs.lemmas.Option.{slice_get_within, get_or_from_slice_get, slice_get-get_or}
-use Rattle.std.proofs.lemmas.Slice.Eq.{bytes_eq-Decides}
-use Rattle.std.proofs.lemmas.Bool.Decides.{same_from_decides}
 use Rattle.desk_base.specs.Names.{Text}
 use Rattle.desk_properties.specs.Properties.{Entry}
 use Rattle.desk_patterns.specs.TextRules.{TextRule}
@@ -66,9 +64,6 @@ module _ {A X : Type 0} (f : A → Result X RuleFault) (items : List A) where
   pub item_there : (d : A) (i : ℕ) → slice_get items i ≡ None → i < length items → ⊥
   item_there d i none within = let some : slice_get items i ≡ Some (get_or items i d) = slice_get-get_or items i d within in absurd (cc (none, some))
 
-flipped : (a b : Text) → bytes_eq a b ≡ bytes_eq b a
-flipped a b = same_from_decides (bytes_eq a b) (bytes_eq b a) (bytes_eq-Decides a b) (λ h. sym ((bytes_eq-Decides b a).0 h), λ e. (bytes_eq-Decides b a).1 (sym e))
-
 either : {V : Type 0} (a b : Bool) (v w : V) → cond a v (cond b v w) ≡ cond b v (cond a v w)
 either true true v w = refl
 either true false v w = refl
@@ -76,7 +71,7 @@ either false true v w = refl
 either false false v w = refl
 
 lookup_push : (ns : List Text) (n q : Text) → lookup (bytes_eq q) (as_entries (ns ++ n ∷ [])) ≡ cond (bytes_eq n q) (Some []) (lookup (bytes_eq q) (as_entries ns))
-lookup_push [] n q = ap (λ (b : Bool). cond b (Some []) None) (flipped q n)
+lookup_push [] n q = ap (λ (b : Bool). cond b (Some []) None) (nat_list_eq_equiv.symm q n)
 lookup_push (m ∷ ns) n q =
     ap (λ (o : Option Text). cond (bytes_eq q m) (Some []) o) (lookup_push ns n q)
     ∙ either (bytes_eq q m) (bytes_eq n q) (Some []) (lookup (bytes_eq q) (as_entries ns))

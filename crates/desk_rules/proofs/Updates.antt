@@ -6,7 +6,7 @@ use Rattle.std.specs.Str.{bytes_eq}
 use Rattle.std.proofs.lemmas.Bool.{not-true, not-false}
 use Rattle.std.proofs.lemmas.Slice.Eq.{bytes_eq-Decides}
 use Rattle.desk_base.specs.Names.{Text}
-use Rattle.desk_chains.specs.Exchanges.{BundleUpdate, renames_bundle}
+use Rattle.desk_entries.specs.Exchanges.{BundleUpdate, renames_bundle}
 use Rattle.desk_rules.specs.RuleSets.{changing_update, only_other_name}
 use Rattle.desk_packages.proofs.Picks.{Found, find_Some}
 use Rattle.desk_rules.proofs.TextMaps.{found_value}

@@ -10,16 +10,16 @@ use Rattle.desk_base.specs.Names.{Text, written, dot, is_empty}
 use Rattle.desk_base.specs.Utf8.{bad_form}
 use Rattle.desk_properties.specs.Properties.{Entry}
 use Rattle.desk_lines.specs.Blanks.{trimmed_end}
-use Rattle.desk_entries.specs.Forms.{is_plain, is_stored}
+use Rattle.desk_entries.specs.Forms.{source_text, is_plain, is_stored, is_written_package}
 use Rattle.desk_entries.specs.Entries.{rename_of}
 use Rattle.desk_entries.specs.declared.faults.EntryFault.{EntryFault}
 use Rattle.desk_entries.specs.declared.faults.EntryFault.TheVariants.{Key, Value}
 use Rattle.desk_entries.specs.declared.renames.Rename.{Rename}
 use Rattle.desk_rules.specs.Files.{Files, renames_name, direct_name}
 use Rattle.desk_packages.specs.Renames.{Renaming}
-use Rattle.desk_chains.specs.Exchanges.{Exchange}
+use Rattle.desk_entries.specs.Exchanges.{Exchange}
 use Rattle.desk_packages.specs.Keys.{renaming, goes_below}
-use Rattle.desk_rules.specs.RuleSets.{HaveUtf8Targets, HaveUtf8Texts}
+use Rattle.desk_rules.specs.RuleSets.{AreWritten, HaveUtf8Targets, HaveUtf8Texts}
 use Rattle.desk_rules.specs.RuleFiles.{◌>>=◌, entries_in, in_order, each, with_first, all_in, renames_in, renames_of, rename_entry, renaming_from, direct_entry, where_ok}
 use Rattle.desk_rules.specs.declared.RuleFault.{RuleFault}
 use Rattle.desk_packages.proofs.Picks.{In}
@@ -78,6 +78,31 @@ renames_all (Err fault) rs h = absurd cc
 -- the targets of renames that were read are modified UTF-8
 pub renames_utf8 : (files : Files) (rs : List Renaming) → renames_in files ≡ Ok rs → HaveUtf8Targets rs
 renames_utf8 files rs h = renames_all (entries_in files renames_name) rs h
+
+-- both packages of renames that were read are written as a rule file has them
+abbrev Both : Renaming → Type 0
+Both r = (is_written_package (written dot r.source) ≡ true) × (is_written_package (written dot r.target) ≡ true)
+
+entry_written : (key value : Text) (r : Rename) → rename_of key value ≡ Ok r → Both (renaming r.source r.target (goes_below r.reach))
+entry_written key value r h =
+    let read = read_parts key value r h in (
+      ap (λ (x : Rename). is_written_package (written dot x.source)) (sym read.is) ∙ ap is_written_package (written-segments dot (source_text key)) ∙ read.source_written,
+      ap (λ (x : Rename). is_written_package (written dot x.target)) (sym read.is) ∙ ap is_written_package (written-segments dot (trimmed_end value)) ∙ read.target_written,
+    )
+
+renaming_written : (key value : Text) (o : Result Rename EntryFault) (r : Renaming) → rename_of key value ≡ o → renaming_from o ≡ Ok r → Both r
+renaming_written key value (Ok x) r q h =
+    let same : renaming x.source x.target (goes_below x.reach) ≡ r = cc in
+    subst Both same (entry_written key value x q)
+renaming_written key value (Err fault) r q h = absurd cc
+
+all_written : (r : Result (List Entry) RuleFault) (rs : List Renaming) → (r >>= renames_of) ≡ Ok rs → AreWritten rs
+all_written (Ok []) rs h = absurd cc
+all_written (Ok (e ∷ es)) rs h = each_all Both renames_name rename_entry (λ key value r k. renaming_written key value (rename_of key value) r refl k) (in_order (e ∷ es)) rs h
+all_written (Err fault) rs h = absurd cc
+
+pub renames_written : (files : Files) (rs : List Renaming) → renames_in files ≡ Ok rs → AreWritten rs
+renames_written files rs h = all_written (entries_in files renames_name) rs h
 
 -- ---- direct rules
 

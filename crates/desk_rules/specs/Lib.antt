@@ -9,3 +9,4 @@ pub mod RuleFiles
 pub mod TextFiles
 pub mod LoadedTexts
 pub mod Sides
+pub mod Others

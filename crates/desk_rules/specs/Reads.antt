@@ -17,7 +17,7 @@ use Rattle.desk_packages.specs.Renames.{Renaming}
 use Rattle.desk_packages.specs.Keys.{renaming, goes_below}
 use Rattle.desk_rules.specs.Rules.{Rules, Versions}
 use Rattle.desk_chains.specs.Chains.{Chain as FoundChain}
-use Rattle.desk_chains.specs.Exchanges.{Exchange, BundleUpdate}
+use Rattle.desk_entries.specs.Exchanges.{Exchange, BundleUpdate}
 use Rattle.desk_rules.specs.Settled.{first_chain}
 use Rattle.desk_rules.specs.declared.RuleFault.{RuleFault}
 use Rattle.desk_rules.specs.declared.RuleFault.TheVariants.{NoRenames, Properties, BadKey, BadValue, Chain}

@@ -5,14 +5,14 @@ use Rattle.std.specs.Str.{bytes_eq}
 use Rattle.std.specs.FinMap as finite
 use Rattle.desk_base.specs.Names.{Text, Package, segments, written, is_dotted, is_class_name, front, simple, dot, slash}
 use Rattle.desk_base.specs.Utf8.{bad_form}
-use Rattle.desk_entries.specs.Forms.{is_version, is_symbolic_name}
+use Rattle.desk_entries.specs.Forms.{is_version, is_symbolic_name, is_written_package}
 use Rattle.desk_patterns.specs.Selections.{Choice}
 use Rattle.desk_patterns.specs.PatternTexts.{PatternText}
 use Rattle.desk_packages.specs.Renames.{Renaming, pick, pkg, changes, is_rename}
 use Rattle.desk_rules.specs.Rules.{Rules, Update, Versions, TextMap}
 use Rattle.desk_packages.specs.Keys.{IsTable, RiseBy}
 use Rattle.desk_chains.specs.Chains.{first_chain_in}
-use Rattle.desk_chains.specs.Exchanges.{Exchange, BundleUpdate}
+use Rattle.desk_entries.specs.Exchanges.{Exchange, BundleUpdate}
 use Rattle.desk_rules.specs.Settled.{IsSettled}
 use Rattle.desk_rules.specs.Images.{dotted, cls, str}
 
@@ -30,6 +30,10 @@ rules_of renames versions bundles direct selection texts = record {
 -- each target, as a rule has it, is modified UTF-8, as a class file stores texts (JVMS 4.4.7)
 abbrev pub HaveUtf8Targets : List Renaming → Type 0
 HaveUtf8Targets = AllByRecursion (λ r. bad_form (written dot r.target) ≡ None)
+
+-- both packages of each rename are written as a rule file has them
+abbrev pub AreWritten : List Renaming → Type 0
+AreWritten = AllByRecursion (λ r. IsTrue (is_written_package (written dot r.source)) × IsTrue (is_written_package (written dot r.target)))
 
 -- each new text of a direct rule is modified UTF-8
 abbrev pub HaveUtf8Texts : TextMap Text → Type 0
@@ -67,6 +71,7 @@ pub record IsKept (renames : List Renaming) (versions : List (Text × Versions))
   pub direct_rise : RiseBy (λ d. d.0) direct
   pub settled : first_chain_in renames direct bundles ≡ None
   pub utf8 : HaveUtf8Targets renames
+  pub packages : AreWritten renames
   pub direct_utf8 : HaveUtf8Texts (finite.from_entries direct)
   pub versioned : HaveVersions (finite.from_entries versions)
   pub updated : HaveUpdates (finite.from_entries bundles)
@@ -77,6 +82,7 @@ pub record IsRuleSet (rules : Rules) : Type 0 where
   pub formed : IsTrue (list_all is_rename rules.renames)
   pub settled : IsSettled rules
   pub utf8 : HaveUtf8Targets rules.renames
+  pub packages : AreWritten rules.renames
   pub direct_utf8 : HaveUtf8Texts rules.direct
   pub versioned : HaveVersions rules.versions
   pub updated : HaveUpdates rules.bundles

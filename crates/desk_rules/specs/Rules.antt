@@ -10,7 +10,8 @@ pub use Rattle.desk_entries.specs.declared.versions.Versions.{Versions}
 use Rattle.desk_patterns.specs.Selections.{Choice}
 use Rattle.desk_patterns.specs.PatternTexts.{PatternText}
 use Rattle.desk_packages.specs.Renames.{Renaming, renaming_code}
-pub use Rattle.desk_chains.specs.Exchanges.{Update, text_code, update_code}
+pub use Rattle.desk_entries.specs.declared.bundles.Update.{Update}
+pub use Rattle.desk_entries.specs.Exchanges.{text_code, update_code}
 
 -- a finite map from texts
 abbrev pub TextMap : Type 0 → Type 0

@@ -2,6 +2,7 @@
 
 ghost use Rattle.std.specs.Prelude.{◌≡◌, ◌≤◌, ◌↔◌, None, Some, IsTrue, MatchOption, length, OnOk, OnErr, IfSome};
 ghost use Rattle.std.specs.FinMap as map;
+ghost use Rattle.desk_base.specs.Limits.{rule_size};
 
 use desk_base::{Memory, Text};
 use std::alloc::Global;
@@ -26,14 +27,15 @@ impl Model for RuleFiles {
     ghost use Rattle.std.specs.Prelude.{◌≤◌, length};
     ghost use Rattle.std.specs.List.{All};
     ghost use Rattle.std.specs.BTreeMap.{values};
+    ghost use Rattle.desk_base.specs.Limits.{rule_size};
 
     ghost view = { λ f. map.from_entries f.files.entries };
 
-    ghost invariant = { λ f. All (λ content. length content ≤ 1048576) (values f.files) };
+    ghost invariant = { λ f. All (λ content. length content ≤ rule_size) (values f.files) };
 }
 
 impl RuleFiles {
-    /// No files. It takes no memory.
+    /// A rule folder of no files. It takes no memory.
     pub fn new(alloc: Global) -> RuleFiles
         ensures { result ≡ map.empty }
     {
@@ -46,7 +48,7 @@ impl RuleFiles {
     /// the files are as they were.
     pub fn add(&mut self, name: Text, content: Text) -> Result<(), Memory>
         requires absent { map.get self.old name ≡ None }
-        requires small { length content ≤ 1048576 }
+        requires small { length content ≤ rule_size }
         ensures ok { OnOk result (self.new ≡ map.insert self.old name content) }
         ensures err { OnErr result (self.new ≡ self.old) }
     {
@@ -59,7 +61,7 @@ impl RuleFiles {
         ensures answer { MatchOption result
             (map.get self.now name.now ≡ None)
             (λ content. map.get self.now name.now ≡ Some content.now) }
-        ensures small { IfSome result (λ content. length content.now ≤ 1048576) }
+        ensures small { IfSome result (λ content. length content.now ≤ rule_size) }
     {
         match self.files.get(name) {
             None => None,

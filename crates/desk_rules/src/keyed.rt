@@ -14,7 +14,9 @@ use std::marker::Model;
 /// The versions of a new package, where it is imported and where it is exported.
 #[derive(Debug, Drop)]
 pub(crate) struct VersionRule {
+    /// The new package, written with dots: the rule's key.
     pub(crate) package: Text,
+    /// Its version where it is imported, and where it is exported.
     pub(crate) versions: Versions,
 }
 
@@ -53,7 +55,9 @@ impl VersionRule {
 /// A pattern of paths, and what it says of them.
 #[derive(Debug, Drop)]
 pub(crate) struct SelectionRule {
+    /// The pattern of paths: the rule's key.
     pub(crate) pattern: Text,
+    /// Whether it includes or excludes the paths that fit it.
     pub(crate) mark: Mark,
 }
 

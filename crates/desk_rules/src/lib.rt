@@ -22,7 +22,7 @@ pub use desk_packages::Separator;
 pub use desk_patterns::{PathTexts, TextHit, TextPlace, TextRules};
 pub use desk_properties::PropFault;
 pub use files::RuleFiles;
-pub use rule_set::{BundleUpdate, Front, RuleSet};
+pub use rule_set::{BundleUpdate, PackageFront, RuleSet};
 use std::alloc::AllocFailed;
 
 /// Whether a bundle imports a package or exports it (OSGi Core 3.6).
@@ -67,10 +67,31 @@ pub enum RuleFault {
     },
 }
 
+/// Why a rule set has no inverse, a set of renames that takes its renames back.
+#[derive(Debug, Drop, PartialEq, Eq)]
+pub enum InvertFault {
+    /// It has other rules than renames.
+    NotRenames {
+        /// The name of the first other rule file that has a key.
+        file: Text,
+    },
+    /// No rename changes its package.
+    Nothing,
+    /// Two changing renames give one package, or the second gives a name in a package that the first gives.
+    Overlap {
+        /// The key of the first, in byte order.
+        first: Text,
+        /// The key of the second.
+        second: Text,
+    },
+}
+
 /// Why no rule set was built: the first fault of the rule files, or want of memory.
 #[derive(Debug, Drop, PartialEq, Eq)]
 pub enum BuildFault {
+    /// The rule files make no rule set.
     Rules(RuleFault),
+    /// Memory ran out.
     Memory,
 }
 

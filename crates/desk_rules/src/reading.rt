@@ -11,11 +11,11 @@ ghost use Rattle.desk_rules.specs.RuleFiles.{entries_in, in_order, each, all_in,
 use crate::keyed::{SelectionRule, VersionRule};
 use crate::{BuildFault, RuleFault, RuleFiles};
 use desk_base::{Memory, Text};
-use desk_chains::{BundleRule, DirectRule};
 use desk_entries::{
-    EntryError, EntryFault, check_string, read_mark, read_rename, read_update, read_versions,
+    BundleRule, DirectRule, EntryError, EntryFault, check_string, read_mark, read_rename,
+    read_update, read_versions,
 };
-use desk_packages::{Keyed, Rename};
+use desk_packages::{Keyed, PackageRename};
 use desk_patterns::Selection;
 use desk_properties::{PropError, read_properties};
 use indexmap::IndexMap;
@@ -25,7 +25,7 @@ use std::alloc::Global;
 const RENAMES: &[u8] = b"renames.properties";
 
 /// The file of the selection.
-const SELECTION: &[u8] = b"selection.properties";
+pub(crate) const SELECTION: &[u8] = b"selection.properties";
 
 /// What an entry of a rule file says.
 pub(crate) trait FromEntry: Keyed + Drop {
@@ -145,7 +145,10 @@ pub(crate) fn read_all<R: FromEntry>(
 }
 
 /// The renames, of which there must be one.
-pub(crate) fn read_renames(alloc: Global, files: &RuleFiles) -> Result<Vec<Rename>, BuildFault>
+pub(crate) fn read_renames(
+    alloc: Global,
+    files: &RuleFiles,
+) -> Result<Vec<PackageRename>, BuildFault>
     ensures read { IfOk result (λ renames. renames_in files.now ≡ Ok renames.items) }
     ensures refused { IfErr result (IsFaultOf (renames_in files.now)) }
     ensures table { IfOk result (λ renames. IsTable renames.items) }
@@ -179,14 +182,14 @@ pub(crate) fn read_selection(alloc: Global, files: &RuleFiles) -> Result<Selecti
     Ok(selection_from(alloc, &rules)?)
 }
 
-impl FromEntry for Rename {
+impl FromEntry for PackageRename {
     ghost use Rattle.desk_rules.specs.RuleFiles.{rename_entry};
 
     ghost read_entry = { rename_entry };
 
-    fn from_entry(alloc: Global, key: &[u8], value: &[u8]) -> Result<Rename, EntryError> {
+    fn from_entry(alloc: Global, key: &[u8], value: &[u8]) -> Result<PackageRename, EntryError> {
         let entry = read_rename(alloc, key, value)?;
-        Ok(Rename::new(alloc, entry.source, entry.target, entry.reach)?)
+        Ok(PackageRename::new(alloc, entry.source, entry.target, entry.reach)?)
     }
 }
 

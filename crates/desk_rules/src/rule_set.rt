@@ -1,6 +1,6 @@
 //! A rule set, which is well-formed and settled by its type.
 
-ghost use Rattle.std.specs.Prelude.{◌≡◌, ◌==◌, None, Some, Ok, IsTrue, MatchOption, IfOk, IfErr, if◌then◌else◌};
+ghost use Rattle.std.specs.Prelude.{◌≡◌, ◌==◌, None, Some, Ok, length, slice_get, IsTrue, MatchOption, IfOk, IfErr, if◌then◌else◌};
 ghost use Rattle.std.specs.Option.{option_copied};
 ghost use Rattle.std.specs.FinMap as finite;
 ghost use Rattle.desk_base.specs.Names.{segments, dot};
@@ -11,16 +11,18 @@ ghost use Rattle.desk_packages.specs.Keys.{byte_of, IsTable, RiseBy};
 ghost use Rattle.desk_packages.specs.Renames.{key_of, has_source};
 ghost use Rattle.desk_rules.specs.Builds.{IsFaultOf};
 ghost use Rattle.desk_rules.specs.RuleFiles.{rules_of_files, settled};
+ghost use Rattle.desk_rules.specs.Others.{first_other};
 ghost use Rattle.desk_rules.specs.Sides.{exports};
-ghost use Rattle.desk_rules.specs.RuleSets.{changing_pick, IsFrontOf, IsRuleSet, HaveUtf8Targets, HaveUtf8Texts, HaveVersions, HaveUpdates, PackagesStay, ClassesStay, ClassesKeepForm, DottedStay, DottedKeepForm, StringsStay, BundlesStay, version_of, changing_update, update_of, rules_of};
+ghost use Rattle.desk_rules.specs.RuleSets.{changing_pick, IsFrontOf, IsRuleSet, AreWritten, HaveUtf8Targets, HaveUtf8Texts, HaveVersions, HaveUpdates, PackagesStay, ClassesStay, ClassesKeepForm, DottedStay, DottedKeepForm, StringsStay, BundlesStay, version_of, changing_update, update_of, rules_of};
 
 use crate::keyed::VersionRule;
-use crate::reading::{read_all, read_renames, read_selection};
-use crate::texts::read_texts;
+use crate::reading::{SELECTION, read_all, read_renames, read_selection};
+use crate::texts::{TEXT, read_texts};
 use crate::{BuildFault, RuleFault, RuleFiles, Side};
 use desk_base::{Text, TextList};
-use desk_chains::{BundleRule, DirectRule, first_chain};
-use desk_packages::{Rename, Separator, is_source, pick, rule_of};
+use desk_chains::first_chain;
+use desk_entries::{BundleRule, DirectRule};
+use desk_packages::{PackageRename, Separator, is_source, pick, rule_of};
 use desk_patterns::{PathTexts, PatternTexts, Selection, TextRules};
 use std::alloc::Global;
 use std::marker::Model;
@@ -36,14 +38,14 @@ const DIRECT: &[u8] = b"direct.properties";
 
 /// What is exchanged of a package: its first `taken` bytes, for these segments.
 #[derive(Clone, Copy, Debug)]
-pub struct Front<'r> {
+pub struct PackageFront<'r> {
     /// How many bytes of the package are exchanged, from its first on.
     pub taken: usize,
     /// The segments that take their place.
     pub segments: &'r TextList,
 }
 
-/// What a bundle is updated to.
+/// What a bundle is updated to, by a rule of `bundles.properties`.
 #[derive(Clone, Copy, Debug)]
 pub struct BundleUpdate<'r> {
     /// The new symbolic name.
@@ -69,7 +71,7 @@ fn updated_by(rule: &BundleRule) -> BundleUpdate<'_>
 /// The rules of a rule folder. No image under them is changed again.
 #[derive(Drop)]
 pub struct RuleSet {
-    renames: Vec<Rename>,
+    renames: Vec<PackageRename>,
     versions: Vec<VersionRule>,
     bundles: Vec<BundleRule>,
     direct: Vec<DirectRule>,
@@ -94,7 +96,7 @@ impl RuleSet {
     /// The rule set of rules in byte order of their keys. The fault is their first chain, or want of memory.
     pub(crate) fn settled(
         alloc: Global,
-        renames: Vec<Rename>,
+        renames: Vec<PackageRename>,
         versions: Vec<VersionRule>,
         bundles: Vec<BundleRule>,
         direct: Vec<DirectRule>,
@@ -106,6 +108,7 @@ impl RuleSet {
         requires bundles { RiseBy (λ b. b.0) bundles.items }
         requires direct { RiseBy (λ d. d.0) direct.items }
         requires utf8 { HaveUtf8Targets renames.items }
+        requires packages { AreWritten renames.items }
         requires direct_utf8 { HaveUtf8Texts (finite.from_entries direct.items) }
         requires versioned { HaveVersions (finite.from_entries versions.items) }
         requires updated { HaveUpdates (finite.from_entries bundles.items) }
@@ -113,7 +116,7 @@ impl RuleSet {
         ensures refused { IfErr result (IsFaultOf (settled (rules_of renames.items versions.items bundles.items direct.items selection texts))) }
         ensures settled { IfOk result IsRuleSet }
     {
-        if let Some(chain) = first_chain(&renames, &direct, &bundles) {
+        if let Some(chain) = first_chain(alloc, &renames, &direct, &bundles) {
             return Err(BuildFault::Rules(RuleFault::Chain {
                 kind: chain.kind,
                 first: Text::from_bytes(alloc, chain.first)?,
@@ -160,11 +163,55 @@ impl RuleSet {
         true
     }
 
+    /// How many renames there are, exceptions among them. It takes no memory.
+    pub fn rename_count(&self) -> usize
+        ensures { result ≡ length self.now.renames }
+    {
+        self.renames.len()
+    }
+
+    /// The rename at a place, counted from 0, in byte order of their keys; none exactly where the place isn't below their
+    /// count. It takes no memory.
+    pub fn rename(&self, place: usize) -> Option<&PackageRename>
+        ensures { option_copied result ≡ slice_get self.now.renames place }
+    {
+        self.renames.get(place)
+    }
+
+    /// The renames, in byte order of their keys and each key once. It takes no memory.
+    pub fn renames(&self) -> &[PackageRename]
+        ensures all { result.now ≡ self.now.renames }
+        ensures table { IsTable result.now }
+    {
+        &self.renames
+    }
+
+    /// The name of the first of `versions.properties`, `bundles.properties`, `direct.properties`, `selection.properties` and
+    /// `text.properties` that has a key; none exactly where none of them has one: the rules are renames alone. It takes no
+    /// memory.
+    pub fn first_other(&self) -> Option<&'static [u8]>
+        ensures { option_copied result ≡ first_other self.now }
+    {
+        if !self.versions.is_empty() {
+            Some(VERSIONS)
+        } else if !self.bundles.is_empty() {
+            Some(BUNDLES)
+        } else if !self.direct.is_empty() {
+            Some(DIRECT)
+        } else if !self.selection.is_empty() {
+            Some(SELECTION)
+        } else if !self.texts.is_empty() {
+            Some(TEXT)
+        } else {
+            None
+        }
+    }
+
     /// What is exchanged of a package that is written with a separator: something exactly where a
     /// changing rule is picked for it. It takes no memory. Every rule set is settled: under
     /// it the image of a package, of a class name or of a dotted name is its own image, and the image
     /// of a name is a name of its kind with the same last part.
-    pub fn package(&self, path: &[u8], separator: Separator) -> Option<Front<'_>>
+    pub fn package(&self, path: &[u8], separator: Separator) -> Option<PackageFront<'_>>
         ensures answer { MatchOption result
             (changing_pick self.now.renames (segments (byte_of separator) path.now) ≡ None)
             (λ front. IsFrontOf self.now.renames (byte_of separator) path.now front.taken front.segments.now) }
@@ -176,7 +223,7 @@ impl RuleSet {
         ensures dotted_keep_form { DottedKeepForm self.now.renames }
     {
         match pick(&self.renames, path, separator) {
-            Some(rename) if rename.changes() => Some(Front {
+            Some(rename) if rename.changes() => Some(PackageFront {
                 taken: rename.source_text(separator).len(),
                 segments: rename.target(),
             }),

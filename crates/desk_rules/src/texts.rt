@@ -18,7 +18,7 @@ use std::alloc::Global;
 use std::marker::Model;
 
 /// The file of the patterns.
-const TEXT: &[u8] = b"text.properties";
+pub(crate) const TEXT: &[u8] = b"text.properties";
 
 /// A text that isn't empty, and what it is exchanged for.
 #[derive(Debug, Drop)]
@@ -30,7 +30,7 @@ struct TextRule {
 impl Model for TextRule {
     ghost use Rattle.std.specs.Prelude.{◌≢◌, []};
     ghost use Rattle.std.specs.Coded.{coded×};
-    ghost use Rattle.desk_chains.specs.Exchanges.{Exchange};
+    ghost use Rattle.desk_entries.specs.Exchanges.{Exchange};
     ghost use Rattle.desk_rules.specs.Rules.{text_code};
 
     ghost Value = { Exchange };
@@ -154,7 +154,7 @@ fn read_rules(alloc: Global, files: &RuleFiles, name: &Text) -> Result<TextRules
 }
 
 impl LoadedTexts {
-    /// No files.
+    /// Text rules to begin with: no file is read yet.
     fn none(alloc: Global) -> LoadedTexts
         ensures places { result.places.entries ≡ [] }
         ensures rules { result.rules.items ≡ [] }

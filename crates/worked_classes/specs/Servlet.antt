@@ -8,17 +8,18 @@ use Rattle.desk_format.specs.Classes.{Class, read_class, list_in}
 use Rattle.desk_format.specs.Resolved.{Images}
 use Rattle.desk_format.specs.NewClass.{Refusal, refusal, new_bytes}
 
--- the raw bytes of a tree, one behind the other
-abbrev pub raw_in : Tree Use → List ℕ
-raw_in Tree.nothing = []
-raw_in (Tree.number bytes) = []
-raw_in (Tree.raw bytes) = bytes
-raw_in (Tree.used u) = []
-raw_in (Tree.both a b) = raw_in a ++ raw_in b
-raw_in (Tree.member a) = raw_in a
+-- the code arrays of a tree, one behind the other (JVMS 4.7.3)
+abbrev pub code_within : Tree Use → List ℕ
+code_within Tree.nothing = []
+code_within (Tree.number bytes) = []
+code_within (Tree.raw bytes) = []
+code_within (Tree.code bytes) = bytes
+code_within (Tree.used u) = []
+code_within (Tree.both a b) = code_within a ++ code_within b
+code_within (Tree.member a) = code_within a
 
 abbrev pub code_in : List ℕ → List ℕ
-code_in bytes = list_in (λ c. raw_in c.body) (read_class bytes)
+code_in bytes = list_in (λ c. code_within c.body) (read_class bytes)
 
 -- ---- images
 

@@ -82,7 +82,7 @@ pub const NEW_SERVLET: [u8; 538] = [
     0x00, 0x01, 0x00, 0x15, 0x5B, 0x00, 0x01, 0x73, 0x00, 0x16,
 ];
 
-/// Its first fault: none.
+/// The first fault of `SERVLET`: none.
 pub fn servlet_fault() -> Option<Malformed>
     ensures { result ≡ class_fault SERVLET }
 {
@@ -129,7 +129,7 @@ pub fn servlet_uses() -> [Used; 21]
     ]
 }
 
-/// Its two methods.
+/// The two methods of `SERVLET`, its constructor and `doGet`, by place.
 pub fn servlet_members() -> [Member; 2]
     ensures { result ≡ members_in SERVLET }
 {

@@ -1,5 +1,5 @@
 use Rattle.std.proofs.Common.{◌≡◌, ◌+◌, ◌-◌, ◌*◌}
-use Rattle.desk_format.specs.declared.attributes.Place.TheVariants.{OfComponent}
+use Rattle.desk_format.specs.declared.attributes.Location.TheVariants.{OfComponent}
 use Rattle.desk_format.specs.Layouts.{Layout}
 use Rattle.desk_format.specs.Attributes.{component_head, inner_attributes}
 use Rattle.desk_format.specs.Reading.{read, times, attribute_at}

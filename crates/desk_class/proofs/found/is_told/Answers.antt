@@ -1,10 +1,10 @@
 use Rattle.std.proofs.Common.{◌≡◌, ◌∙◌, sym, ap, get_or, ℕ, List, [], length, ◌<◌, arith}
 use Rattle.std.specs.Str.{bytes_eq}
-use Rattle.std.proofs.lemmas.Bool.{false_from_ne_true, eqb-true}
+use Rattle.std.proofs.lemmas.Bool.{false_from_ne_true, eqb-true, and_right, and_left}
 use Rattle.std.proofs.lemmas.Slice.Eq.{bytes_eq-Decides}
 use Rattle.desk_base.specs.Names.{Text}
 use Rattle.desk_class.specs.Found.{texts}
-use Rattle.desk_class.proofs.Told.{Borrowed, told_here, told_on, other_mark, other_name}
+use Rattle.desk_class.proofs.Told.{Borrowed, told_here, told_on}
 use Rattle.desk_class.proofs.Packing.{get_map, length_map}
 use Rattle.desk_class.proofs.found.is_told.Goals.{else-known-mark-via-then-known-mark+then-place-names+else-eq, else-known-mark-via-then-known-mark+else-place-names, else-known-mark-via-else-known-mark}
 use Rattle.desk_class.proofs.found.is_told.Goals as goal
@@ -24,8 +24,8 @@ loop-place-preserved c =
     told_on c.args.marks.now (texts c.args.names.now) c.args.mark c.args.name.now c.loop-place.place c.loop-place-test.true
     (λ within. elim c.else-known-mark.branch [
       | else-known-mark-via-then-known-mark+then-place-names+else-eq w ↦
-          other_name _ _ (ap (λ (t : Text). bytes_eq t c.args.name.now) (name_at c.args.names.now c.loop-place.place _ w.if-place-names.true) ∙ sym w.eq.ensures ∙ w.if-eq.false)
+          and_right _ _ (ap (λ (t : Text). bytes_eq t c.args.name.now) (name_at c.args.names.now c.loop-place.place _ w.if-place-names.true) ∙ sym w.eq.ensures ∙ w.if-eq.false)
       | else-known-mark-via-then-known-mark+else-place-names w ↦ absurd (omega (arith, w.if-place-names.false, within, length_map (λ (n : Borrowed). n.now) c.args.names.now))
-      | else-known-mark-via-else-known-mark w ↦ other_mark _ _ (false_from_ne_true _ (λ e. w.if-known-mark.false (eqb-true _ _ e)))
+      | else-known-mark-via-else-known-mark w ↦ and_left _ _ (false_from_ne_true _ (λ e. w.if-known-mark.false (eqb-true _ _ e)))
     ])
     c.loop-place.invariant

@@ -1,10 +1,10 @@
-use Rattle.std.proofs.Common.{◌≡◌, ◌==◌, ℕ, ◌&&◌, Bool, refl, List, [], ◌∷◌, Result, Ok, Err, OnOk, false, true, sym, ap, subst, ◌∙◌}
-use Rattle.std.proofs.lemmas.Bool.{both_ways, eqb-true, eq-eqb}
+use Rattle.std.proofs.Common.{◌≡◌, List, [], ◌∷◌, Result, Ok, Err, OnOk, false, true, sym, ap, subst, ◌∙◌}
 use Rattle.std.specs.List.{starts_with}
 use Rattle.desk_base.specs.Names.{Text}
 use Rattle.desk_base.specs.Referents.{begins_array}
 use Rattle.desk_base.specs.declared.kinds.Role.{Role}
 use Rattle.desk_base.specs.declared.kinds.Role.TheVariants as roles
+use Rattle.desk_base.proofs.Separated.{starts_array}
 use Rattle.desk_class.specs.Formed.{IsFormed}
 use Rattle.desk_class.specs.Held.{found_all, names_of}
 use Rattle.desk_class.specs.Standing.{standing_in}
@@ -20,27 +20,9 @@ put (Err x) s n xs ys e h = tt
 formed_as : (role other : Role) (text : Text) → role ≡ other → IsFormed role text → IsFormed other text
 formed_as role other text e h = subst (λ (r : Role). IsFormed r text) e h
 
-and-true : (x : Bool) → (x && true) ≡ x
-and-true true = refl
-and-true false = refl
-
-nat_eq-sym : (a b : ℕ) → (a == b) ≡ (b == a)
-nat_eq-sym a b = by (a == b) (b == a) refl refl
-  where
-    by : (x y : Bool) → (a == b) ≡ x → (b == a) ≡ y → x ≡ y
-    by true true e f = refl
-    by false false e f = refl
-    by true false e f = absurd (both_ways (b == a) f (eq-eqb b a (sym (eqb-true a b e))))
-    by false true e f = absurd (both_ways (a == b) e (eq-eqb a b (sym (eqb-true b a f))))
-
--- a `[` in front
-array_is : (t : Text) → starts_with ◌==◌ t (91 ∷ []) ≡ begins_array t
-array_is [] = refl
-array_is (b ∷ t) = and-true (91 == b) ∙ nat_eq-sym 91 b
-
 pub returns-then-starts_with : goal.returns-then-starts_with
 returns-then-starts_with c =
-    let array : begins_array c.args.text.now ≡ true = sym (array_is c.args.text.now) ∙ sym c.starts_with.ensures.value ∙ c.if-starts_with.true in
+    let array : begins_array c.args.text.now ≡ true = sym (starts_array c.args.text.now) ∙ sym c.starts_with.ensures.value ∙ c.if-starts_with.true in
     put c.add_descriptor.result c.args.names.now c.add_descriptor.new.names (standing_in c.args.text.now) (names_of c.args.role c.args.text.now)
     (array_stands c.args.text.now array (formed_as c.args.role roles.Class c.args.text.now c.in-Class.is c.requires)
     ∙ ap (λ (r : Role). names_of r c.args.text.now) (sym c.in-Class.is))
@@ -48,7 +30,7 @@ returns-then-starts_with c =
 
 pub returns-else-starts_with : goal.returns-else-starts_with
 returns-else-starts_with c =
-    let plain : begins_array c.args.text.now ≡ false = sym (array_is c.args.text.now) ∙ sym c.starts_with.ensures.value ∙ c.if-starts_with.false in
+    let plain : begins_array c.args.text.now ≡ false = sym (starts_array c.args.text.now) ∙ sym c.starts_with.ensures.value ∙ c.if-starts_with.false in
     put c.add.result c.args.names.now c.add.new.self (c.args.text.now ∷ []) (names_of c.args.role c.args.text.now)
     (sym (class_named c.args.text.now (is_named c.args.text.now plain (formed_as c.args.role roles.Class c.args.text.now c.in-Class.is c.requires)))
     ∙ ap (λ (r : Role). names_of r c.args.text.now) (sym c.in-Class.is))

@@ -1,7 +1,8 @@
 use Rattle.std.proofs.Common.{◌≡◌, None, sym, ◌∙◌}
 use Rattle.std.proofs.lemmas.Map.Text.{btree_map_updates_str}
+use Rattle.desk_base.proofs.Results.{never_copied}
 use Rattle.desk_class.specs.Numbers.{number_at}
-use Rattle.desk_class.proofs.Numbering.{put_keeps, put_comes, never_copied}
+use Rattle.desk_class.proofs.Numbering.{put_keeps, put_comes}
 use Rattle.desk_class.proofs.numbers.number_of_text.Goals as goal
 
 pub returns-clause-keeps : goal.returns-clause-keeps

@@ -1,7 +1,8 @@
 use Rattle.std.proofs.Common.{◌≡◌, false, None, ap, sym, ◌∙◌, option_map, get_or}
+use Rattle.desk_base.proofs.Results.{never_copied}
 use Rattle.desk_new_pool.specs.Twins.{places_of, Key, key_of, at_key}
 use Rattle.desk_new_pool.specs.declared.twins.NumberedMember.{NumberedMember}
-use Rattle.desk_new_pool.proofs.Paired.{places_more, twins_found, twins_later, never_copied}
+use Rattle.desk_new_pool.proofs.Paired.{places_more, twins_found, twins_later}
 use Rattle.desk_new_pool.proofs.twins.first_twins.Goals as goal
 
 abbrev default : NumberedMember

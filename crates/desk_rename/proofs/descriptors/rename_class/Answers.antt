@@ -1,7 +1,8 @@
 use Rattle.std.proofs.Common.{◌≡◌, ◌∙◌, sym, true, false}
 use Rattle.desk_base.specs.Referents.{begins_array}
+use Rattle.desk_base.proofs.Separated.{starts_array}
 use Rattle.desk_rename.specs.Images.{cls, desc, class_image}
-use Rattle.desk_rename.proofs.Finished.{starts_array, cls_array, cls_name, image_along}
+use Rattle.desk_rename.proofs.Finished.{cls_array, cls_name, image_along}
 use Rattle.desk_rename.proofs.descriptors.rename_class.Goals as goal
 
 pub returns-then-starts_with-clause-image : goal.returns-then-starts_with-clause-image

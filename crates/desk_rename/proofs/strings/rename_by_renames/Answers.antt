@@ -9,7 +9,7 @@ returns-then-is_source c =
     let rs = c.args.rules.now.renames in
     let t = c.args.text.now in
     image_along t (package_written dot rs t) (renamed_string rs t)
-    (ap (λ (b : Bool). cond b (package_written dot rs t) (dotted rs t)) (sym c.is_source.ensures ∙ c.if-is_source.true)) c.rename_dotted_package.result c.rename_dotted_package.ensures
+    (ap (λ (b : Bool). cond b (package_written dot rs t) (dotted rs t)) (sym c.is_source.ensures ∙ c.if-is_source.true)) c.rename_dotted_package.result c.rename_dotted_package.ensures.image
 
 pub returns-else-is_source : goal.returns-else-is_source
 returns-else-is_source c =

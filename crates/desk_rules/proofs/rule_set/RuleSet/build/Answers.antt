@@ -3,12 +3,15 @@ use Rattle.desk_rules.specs.RuleSets.{rules_of}
 use Rattle.desk_rules.specs.RuleFiles.{rules_of_files, settled}
 use Rattle.desk_rules.proofs.Faults.{read_whole, refused_whole}
 use Rattle.desk_rules.proofs.Builds.{versions_refused, bundles_refused, direct_refused, selection_refused, texts_refused, all_read}
-use Rattle.desk_rules.proofs.Utf8Rules.{renames_utf8, direct_utf8}
+use Rattle.desk_rules.proofs.Utf8Rules.{renames_utf8, renames_written, direct_utf8}
 use Rattle.desk_rules.proofs.FormedEntries.{versions_formed, updates_formed}
 use Rattle.desk_rules.proofs.rule_set.RuleSet.build.Goals as goal
 
 pub settled-requires-clause-utf8 : goal.settled-requires-clause-utf8
 settled-requires-clause-utf8 c = renames_utf8 c.args.files.now c.in_ok-renames.renames.items c.in_ok-renames.ensures.read
+
+pub settled-requires-clause-packages : goal.settled-requires-clause-packages
+settled-requires-clause-packages c = renames_written c.args.files.now c.in_ok-renames.renames.items c.in_ok-renames.ensures.read
 
 pub settled-requires-clause-direct_utf8 : goal.settled-requires-clause-direct_utf8
 settled-requires-clause-direct_utf8 c = direct_utf8 c.args.files.now c.in_ok-direct.direct.items c.in_ok-direct.ensures.read

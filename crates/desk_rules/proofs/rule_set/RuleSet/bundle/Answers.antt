@@ -2,7 +2,7 @@ use Rattle.std.proofs.Common.{◌∙◌, ap, sym, Some}
 use Rattle.std.specs.List.{find}
 use Rattle.std.specs.Str.{bytes_eq}
 use Rattle.desk_rules.specs.Rules.{Rules, Update}
-use Rattle.desk_chains.specs.Exchanges.{BundleUpdate}
+use Rattle.desk_entries.specs.Exchanges.{BundleUpdate}
 use Rattle.desk_rules.specs.RuleSets.{changing_update}
 use Rattle.desk_rules.proofs.Kept.{rule_set_by}
 use Rattle.desk_rules.proofs.Updates.{no_update, some_update, same_update}

@@ -3,7 +3,7 @@ use Rattle.std.specs.FinMap as finite
 use Rattle.std.specs.List.{find}
 use Rattle.std.specs.Str.{bytes_eq}
 use Rattle.desk_rules.specs.Rules.{Rules}
-use Rattle.desk_chains.specs.Exchanges.{Exchange}
+use Rattle.desk_entries.specs.Exchanges.{Exchange}
 use Rattle.desk_rules.proofs.Kept.{rule_set_by}
 use Rattle.desk_rules.proofs.TextMaps.{found_value}
 use Rattle.desk_rules.proofs.Laws.{strings_stay}

@@ -1,7 +1,7 @@
 use Rattle.std.proofs.Common.{◌∙◌, ap, sym, List, ℕ, Some}
 use Rattle.desk_packages.specs.Renames.{Renaming}
 use Rattle.desk_chains.specs.Chains.{first_chain_in, chain_at}
-use Rattle.desk_chains.specs.Exchanges.{Exchange, BundleUpdate}
+use Rattle.desk_entries.specs.Exchanges.{Exchange, BundleUpdate}
 use Rattle.desk_rules.specs.RuleSets.{rules_of}
 use Rattle.desk_rules.specs.RuleFiles.{unless_chain}
 use Rattle.desk_rules.proofs.Kept.{chain_is, settled_by}
@@ -31,4 +31,4 @@ returns-clause-settled c =
     (ap (λ (rs : List Renaming). first_chain_in rs c.args.direct.items c.args.bundles.items) (sym c.deref.ensures.value)
     ∙ ap (λ (ds : List Exchange). first_chain_in c.deref.result.now ds c.args.bundles.items) (sym c.deref-2.ensures.value)
     ∙ ap (λ (bs : List BundleUpdate). first_chain_in c.deref.result.now c.deref-2.result.now bs) (sym c.deref-3.ensures.value)
-    ∙ c.in_default.ensures) c.requires.utf8 c.requires.direct_utf8 c.requires.versioned c.requires.updated
+    ∙ c.in_default.ensures) c.requires.utf8 c.requires.packages c.requires.direct_utf8 c.requires.versioned c.requires.updated

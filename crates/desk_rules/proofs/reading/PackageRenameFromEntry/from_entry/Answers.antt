@@ -2,7 +2,7 @@ use Rattle.std.proofs.Common.{◌≡◌, ◌∙◌, Ok, ap, sym}
 use Rattle.desk_packages.specs.Renames.{Renaming, key_of}
 use Rattle.desk_rules.specs.RuleFiles.{renaming_from}
 use Rattle.desk_rules.proofs.RenameEntries.{entry_formed, entry_key}
-use Rattle.desk_rules.proofs.reading.RenameFromEntry.from_entry.Goals as goal
+use Rattle.desk_rules.proofs.reading.PackageRenameFromEntry.from_entry.Goals as goal
 
 pub new-requires : goal.new-requires
 new-requires c = entry_formed c.args.key.now c.args.value.now c.in_ok-entry.entry c.in_ok-entry.ensures.read
