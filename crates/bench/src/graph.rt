@@ -11,7 +11,7 @@
 
 use crate::made::class_of;
 use crate::reading::{bad_words, file_lines, rule_set, undone};
-use desk_base::{FILE_SIZE, Text};
+use desk_base::{MAX_FILE_SIZE, Text};
 use desk_class::ClassView;
 use desk_folders::GenFile;
 use desk_gen::generate;
@@ -27,7 +27,7 @@ fn keep(alloc: Global, path: &Text, view: &ClassView<'_>, kept: &mut Vec<Scanned
 /// Reads the class of a file, and keeps what a scan keeps of it where that is asked for.
 fn read_one(alloc: Global, file: &GenFile, scans: bool, kept: &mut Vec<Scanned>) -> Option<()> {
     let bytes = file.content.as_bytes();
-    if !file.path.as_bytes().ends_with(b".class") || bytes.len() > FILE_SIZE {
+    if !file.path.as_bytes().ends_with(b".class") || bytes.len() > MAX_FILE_SIZE {
         return Some(());
     }
     let view = ClassView::read(alloc, bytes).ok()?;

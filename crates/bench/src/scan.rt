@@ -3,14 +3,14 @@
 
 use crate::counts::Counts;
 use crate::reading::{file_lines, input_lines, undone};
-use desk_base::{FILE_SIZE, Memory, ReadFault};
+use desk_base::{MAX_FILE_SIZE, Memory, ReadFault};
 use desk_class::ClassView;
 use std::alloc::Global;
 use std::{fs, io};
 
 /// Counts a file by its bytes.
 fn count(alloc: Global, bytes: &[u8], counts: &mut Counts) -> Result<(), Memory> {
-    if bytes.len() > FILE_SIZE {
+    if bytes.len() > MAX_FILE_SIZE {
         counts.add_unreadable();
         return Ok(());
     }

@@ -2,7 +2,7 @@
 //! changed, and how many bytes the image has.
 
 use crate::reading::{bad_words, read_rules, times_of, undone};
-use desk_base::{Changed, FILE_SIZE};
+use desk_base::{Changed, MAX_FILE_SIZE};
 use desk_rules::RuleSet;
 use desk_textrules::migrate_text;
 use std::alloc::Global;
@@ -20,7 +20,7 @@ const WORDS: &[&[u8]] = &[
 /// The image of a text of at most 67,108,864 bytes.
 fn image(alloc: Global, rules: &RuleSet, text: &[u8]) -> Option<Changed> {
     let texts = rules.texts_for(b"t", b"t")?;
-    if text.len() > FILE_SIZE {
+    if text.len() > MAX_FILE_SIZE {
         return None;
     }
     migrate_text(alloc, text, texts.here, texts.there).ok()

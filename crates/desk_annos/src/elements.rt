@@ -182,7 +182,7 @@ pub(crate) fn walk_annotation<P: PoolView, V: Visit>(
     walk_pair_table(cursor, depth, pool, visit)
 }
 
-/// So many annotations.
+/// So many annotations, one behind the other.
 #[tactic(auto, using(desk_format::proofs::Walks::times_begin, desk_format::proofs::Walks::times_on, desk_format::proofs::Walks::times_stopped, desk_format::proofs::Walks::times_done))]
 fn walk_each_annotation<P: PoolView, V: Visit>(
     count: u16,
@@ -217,7 +217,7 @@ pub fn walk_annotations<P: PoolView, V: Visit>(
     walk_each_annotation(count, cursor, pool, visit)
 }
 
-/// So many tables of annotations.
+/// So many tables of annotations, one for each parameter (JVMS 4.7.18).
 #[tactic(auto, using(desk_format::proofs::Walks::times_begin, desk_format::proofs::Walks::times_on, desk_format::proofs::Walks::times_stopped, desk_format::proofs::Walks::times_done))]
 fn walk_each_parameter<P: PoolView, V: Visit>(
     count: u8,

@@ -11,7 +11,7 @@ ghost use Rattle.desk_annos.specs.Stands.{StandsWithin};
 use crate::items::{read_tag, walk_index, walk_u2};
 use desk_base::{Cursor, FaultKind, Malformed, PoolView, ReadFault, UseKind, Visit};
 
-/// A verification type.
+/// A verification type: a one-byte tag, and behind 7 the index of a Class, behind 8 an offset (JVMS 4.7.4).
 fn walk_type<P: PoolView, V: Visit>(
     cursor: &mut Cursor<'_>,
     pool: &P,
@@ -36,7 +36,7 @@ fn walk_type<P: PoolView, V: Visit>(
     }
 }
 
-/// So many verification types.
+/// So many verification types, one behind the other.
 #[tactic(auto, using(desk_format::proofs::Walks::times_begin, desk_format::proofs::Walks::times_on, desk_format::proofs::Walks::times_stopped, desk_format::proofs::Walks::times_done))]
 fn walk_types<P: PoolView, V: Visit>(
     count: u16,
@@ -53,7 +53,7 @@ fn walk_types<P: PoolView, V: Visit>(
     Ok(())
 }
 
-/// A table of verification types.
+/// A table of verification types, behind its two-byte count.
 #[tactic(auto, using(desk_format::proofs::Walks::table_walked, desk_format::proofs::Walks::table_stopped))]
 fn walk_type_table<P: PoolView, V: Visit>(
     cursor: &mut Cursor<'_>,
@@ -110,7 +110,7 @@ fn walk_full_frame<P: PoolView, V: Visit>(
     walk_locals_and_stack(cursor, pool, visit)
 }
 
-/// A frame.
+/// A frame of a stack map: its one-byte tag, and what that tag says comes behind it (JVMS 4.7.4).
 fn walk_frame<P: PoolView, V: Visit>(
     cursor: &mut Cursor<'_>,
     pool: &P,
@@ -140,7 +140,7 @@ fn walk_frame<P: PoolView, V: Visit>(
     }
 }
 
-/// So many frames.
+/// So many frames of a stack map, one behind the other.
 #[tactic(auto, using(desk_format::proofs::Walks::times_begin, desk_format::proofs::Walks::times_on, desk_format::proofs::Walks::times_stopped, desk_format::proofs::Walks::times_done))]
 fn walk_each_frame<P: PoolView, V: Visit>(
     count: u16,

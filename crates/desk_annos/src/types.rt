@@ -103,7 +103,7 @@ fn walk_step(cursor: &mut Cursor<'_>) -> Result<(), ReadFault>
     Ok(())
 }
 
-/// So many steps of a type path.
+/// So many steps of a type path, each two bytes: a kind, and the number of a type argument (JVMS 4.7.20.2).
 #[tactic(auto, using(desk_format::proofs::Walks::times_begin, desk_format::proofs::Walks::times_on, desk_format::proofs::Walks::times_stopped, desk_format::proofs::Walks::times_done))]
 fn walk_steps(count: u8, cursor: &mut Cursor<'_>) -> Result<(), ReadFault>
     ensures walks { (us : List UsedOf) (entries : Pool) → Walks result (walk (times count (read entries path_step)) (walk_at us cursor.old)) cursor.new us }
@@ -153,7 +153,7 @@ fn walk_type_annotation<P: PoolView, V: Visit>(
     walk_path_and_annotation(cursor, pool, visit)
 }
 
-/// So many type annotations.
+/// So many type annotations, one behind the other.
 #[tactic(auto, using(desk_format::proofs::Walks::times_begin, desk_format::proofs::Walks::times_on, desk_format::proofs::Walks::times_stopped, desk_format::proofs::Walks::times_done))]
 fn walk_each_type_annotation<P: PoolView, V: Visit>(
     count: u16,

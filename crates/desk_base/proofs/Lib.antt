@@ -1,1 +1,7 @@
 pub mod Forms
+pub mod Bools
+pub mod Orderings
+pub mod Lists
+pub mod Results
+pub mod Separated
+pub mod TextEntries

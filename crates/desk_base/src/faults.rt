@@ -4,10 +4,10 @@ ghost use Rattle.std.specs.Prelude.{◌≡◌};
 ghost use Rattle.desk_base.specs.declared.faults.FaultKind.TheVariants as kinds;
 ghost use Rattle.desk_base.specs.declared.faults.ReadFault.TheVariants as read_faults;
 
-use crate::{Memory, Short};
+use crate::{Memory, UnexpectedEnd};
 use std::alloc::{AllocError, AllocFailed};
 
-/// A kind of fault.
+/// What makes a class file malformed.
 #[derive(Clone, Copy, Debug, PartialEq, Eq)]
 pub enum FaultKind {
     /// The first four bytes aren't CAFEBABE.
@@ -52,9 +52,10 @@ pub enum FaultKind {
     Twins,
 }
 
-/// A fault and its place.
+/// The first fault of a class file, and where it is.
 #[derive(Clone, Copy, Debug, PartialEq, Eq)]
 pub struct Malformed {
+    /// What makes the file malformed.
     pub kind: FaultKind,
     /// The offset from the start of the file, in bytes.
     pub at: u32,
@@ -63,17 +64,43 @@ pub struct Malformed {
 /// Why a class file, or a part of it, wasn't read.
 #[derive(Clone, Copy, Debug, PartialEq, Eq)]
 pub enum ReadFault {
-    /// The first fault.
+    /// The file isn't well-formed: its first fault.
     Malformed(Malformed),
     /// Memory ran out.
     Memory,
 }
 
+/// Why a code array doesn't read as instructions (JVMS 4.9.1, 6.5): its first fault. Places are offsets in bytes, from the
+/// first byte of the code or of the file, as the call says that answers it.
+#[derive(Clone, Copy, Debug, PartialEq, Eq)]
+pub enum CodeFault {
+    /// A byte that is no opcode, alone or behind the byte C4 that widens one.
+    Opcode {
+        /// The place of that byte.
+        at: u32,
+    },
+    /// An instruction that passes the end of its code.
+    UnexpectedEnd {
+        /// The place of its first byte.
+        at: u32,
+    },
+    /// A `tableswitch` whose low is over its high, or a `lookupswitch` whose count is negative.
+    Switch {
+        /// The place of its opcode.
+        at: u32,
+    },
+    /// An index that names no entry of a tag that its opcode takes.
+    Operand {
+        /// The place of the index.
+        at: u32,
+    },
+}
+
 /// An item that reaches past the end is Truncated at its first byte.
-impl From<Short> for Malformed {
+impl From<UnexpectedEnd> for Malformed {
     ghost from_gives = { λ short malformed. malformed ≡ record { kind = kinds.Truncated; at = short.at } };
 
-    fn from(short: Short) -> Malformed {
+    fn from(short: UnexpectedEnd) -> Malformed {
         Malformed {
             kind: FaultKind::Truncated,
             at: short.at,
@@ -81,10 +108,10 @@ impl From<Short> for Malformed {
     }
 }
 
-impl From<Short> for ReadFault {
+impl From<UnexpectedEnd> for ReadFault {
     ghost from_gives = { λ short fault. fault ≡ read_faults.Malformed (record { kind = kinds.Truncated; at = short.at }) };
 
-    fn from(short: Short) -> ReadFault {
+    fn from(short: UnexpectedEnd) -> ReadFault {
         ReadFault::Malformed(Malformed::from(short))
     }
 }

@@ -3,22 +3,39 @@
 /// The tag of an entry of the constant pool (JVMS 4.4).
 #[derive(Clone, Copy, Debug, PartialEq, Eq)]
 pub enum Tag {
+    /// 1: a text in modified UTF-8 (JVMS 4.4.7).
     Utf8,
+    /// 3: a constant of type `int` (JVMS 4.4.4).
     Integer,
+    /// 4: a constant of type `float` (JVMS 4.4.4).
     Float,
+    /// 5: a constant of type `long`, which takes two indices (JVMS 4.4.5).
     Long,
+    /// 6: a constant of type `double`, which takes two indices (JVMS 4.4.5).
     Double,
+    /// 7: a class, an interface or an array (JVMS 4.4.1).
     Class,
+    /// 8: a constant of type `String` (JVMS 4.4.3).
     String,
+    /// 9: a field of a class (JVMS 4.4.2).
     Fieldref,
+    /// 10: a method of a class (JVMS 4.4.2).
     Methodref,
+    /// 11: a method of an interface (JVMS 4.4.2).
     InterfaceMethodref,
+    /// 12: a name and a descriptor (JVMS 4.4.6).
     NameAndType,
+    /// 15: a method handle (JVMS 4.4.8).
     MethodHandle,
+    /// 16: a method type (JVMS 4.4.9).
     MethodType,
+    /// 17: a constant that is computed (JVMS 4.4.10).
     Dynamic,
+    /// 18: a call site that is computed (JVMS 4.4.10).
     InvokeDynamic,
+    /// 19: a module (JVMS 4.4.11).
     Module,
+    /// 20: a package of a module (JVMS 4.4.12).
     Package,
 }
 
@@ -41,7 +58,7 @@ pub enum Role {
     FieldSig,
     /// The text of a string constant.
     Str,
-    /// Any other text.
+    /// Any other text, as the name of a field or a method; it isn't renamed.
     Plain,
     /// The name of an attribute.
     AttrName,
@@ -72,7 +89,7 @@ pub enum UseKind {
     Str,
     /// A Class whose text is a class name, and no array.
     ClassName,
-    /// The same, or index 0.
+    /// A Class whose text is a class name, and no array, or index 0.
     ClassNameOrNone,
     /// A Class.
     Class,

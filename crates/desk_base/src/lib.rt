@@ -7,7 +7,7 @@
 //! cursor.u4()?;                            // 0xCAFE_BABE, the magic of a class file
 //! cursor.u2()?;                            // 0, the minor version
 //! cursor.u2()?;                            // 65, the major version
-//! cursor.u1()                              // Err(Short { at: 8 })
+//! cursor.u1()                              // Err(UnexpectedEnd { at: 8 })
 //! ```
 #![tactic(auto)]
 
@@ -20,9 +20,9 @@ mod texts;
 mod utf8;
 mod views;
 
-pub use faults::{FaultKind, Malformed, ReadFault};
+pub use faults::{CodeFault, FaultKind, Malformed, ReadFault};
 pub use kinds::{Role, Tag, UseKind, Used};
-pub use reading::{Cursor, Short};
+pub use reading::{Cursor, UnexpectedEnd};
 pub use referents::{Choice, Form, Referent};
 pub use shown::{ShownByte, show_byte};
 use std::alloc::{AllocError, AllocFailed};
@@ -30,8 +30,11 @@ pub use texts::{Text, TextList};
 pub use utf8::check_utf8;
 pub use views::{PoolView, Visit};
 
-/// How many bytes a file may have.
-pub const FILE_SIZE: usize = 67_108_864;
+/// How many bytes a file may have that is read whole: 64 MiB.
+pub const MAX_FILE_SIZE: usize = 67_108_864;
+
+/// How many bytes a rule file may have: 1 MiB.
+pub const MAX_RULE_FILE_SIZE: usize = 1_048_576;
 
 /// Memory ran out. It is merged with no other fault.
 #[derive(Clone, Copy, Debug, PartialEq, Eq)]
@@ -40,7 +43,9 @@ pub struct Memory;
 /// New bytes, and how many of the things that they were made of changed.
 #[derive(Debug, Drop)]
 pub struct Changed {
+    /// The whole of the new bytes, unchanged parts included.
     pub bytes: Text,
+    /// How many names, headers or places of the text have another image than themselves.
     pub changed: u32,
 }
 

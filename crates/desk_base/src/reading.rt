@@ -8,9 +8,9 @@ ghost use Rattle.desk_base.specs.Spot.{Spot, past, first};
 use byteorder::{BigEndian, ByteOrder};
 use std::marker::Model;
 
-/// Fewer bytes are left than were asked for.
+/// A cursor had fewer bytes left than were asked for: an item reaches past the end.
 #[derive(Clone, Copy, Debug, PartialEq, Eq)]
-pub struct Short {
+pub struct UnexpectedEnd {
     /// The offset of the first byte that was asked for, from the start of the file, in bytes.
     pub at: u32,
 }
@@ -18,7 +18,8 @@ pub struct Short {
 /// A place in bytes, and the bytes from there to an end. Contracts see the place, counted in bytes from the start of the
 /// file, and the bytes that are left. No call takes memory.
 ///
-/// Each call that takes bytes answers [`Short`] with its place exactly where fewer are left, and the cursor is then as it was.
+/// Each call that takes bytes answers [`UnexpectedEnd`] with its place exactly where fewer are left, and the cursor is then as it
+/// was.
 #[derive(Debug, Drop)]
 pub struct Cursor<'a> {
     at: u32,
@@ -58,7 +59,7 @@ impl<'a> Cursor<'a> {
     }
 
     /// The next `n` bytes.
-    pub fn take(&mut self, n: u32) -> Result<&'a [u8], Short>
+    pub fn take(&mut self, n: u32) -> Result<&'a [u8], UnexpectedEnd>
         ensures enough { OnOk result (n ≤ length self.old.left) }
         ensures bytes { IfOk result (λ bytes. bytes.now ≡ take n self.old.left) }
         ensures moved { OnOk result (self.new ≡ past n self.old) }
@@ -67,7 +68,7 @@ impl<'a> Cursor<'a> {
         ensures same { OnErr result (self.new ≡ self.old) }
     {
         if self.rest.len() < n as usize {
-            return Err(Short { at: self.at });
+            return Err(UnexpectedEnd { at: self.at });
         }
         let (front, rest) = self.rest.split_at(n as usize);
         self.rest = rest;
@@ -75,8 +76,8 @@ impl<'a> Cursor<'a> {
         Ok(front)
     }
 
-    /// The next byte.
-    pub fn u1(&mut self) -> Result<u8, Short>
+    /// The next byte, as a number.
+    pub fn u1(&mut self) -> Result<u8, UnexpectedEnd>
         ensures enough { OnOk result (1 ≤ length self.old.left) }
         ensures number { IfOk result (λ number. number ≡ from_be_bytes w8 (take 1 self.old.left)) }
         ensures moved { OnOk result (self.new ≡ past 1 self.old) }
@@ -89,7 +90,7 @@ impl<'a> Cursor<'a> {
     }
 
     /// The number in the next two bytes, the high one first.
-    pub fn u2(&mut self) -> Result<u16, Short>
+    pub fn u2(&mut self) -> Result<u16, UnexpectedEnd>
         ensures enough { OnOk result (2 ≤ length self.old.left) }
         ensures number { IfOk result (λ number. number ≡ from_be_bytes w16 (take 2 self.old.left)) }
         ensures moved { OnOk result (self.new ≡ past 2 self.old) }
@@ -102,7 +103,7 @@ impl<'a> Cursor<'a> {
     }
 
     /// The number in the next four bytes, the highest first.
-    pub fn u4(&mut self) -> Result<u32, Short>
+    pub fn u4(&mut self) -> Result<u32, UnexpectedEnd>
         ensures enough { OnOk result (4 ≤ length self.old.left) }
         ensures number { IfOk result (λ number. number ≡ from_be_bytes w32 (take 4 self.old.left)) }
         ensures moved { OnOk result (self.new ≡ past 4 self.old) }
@@ -115,7 +116,7 @@ impl<'a> Cursor<'a> {
     }
 
     /// A cursor over the next `n` bytes, with offsets from the start of the file; this one then stands behind them.
-    pub fn fence(&mut self, n: u32) -> Result<Cursor<'a>, Short>
+    pub fn fence(&mut self, n: u32) -> Result<Cursor<'a>, UnexpectedEnd>
         ensures enough { OnOk result (n ≤ length self.old.left) }
         ensures inner { IfOk result (λ inner. inner ≡ first n self.old) }
         ensures moved { OnOk result (self.new ≡ past n self.old) }

@@ -2,7 +2,7 @@
 
 use crate::kinds::{Role, Tag};
 
-/// A form that a text may have to have.
+/// A form that a text must have where some index leads to it.
 #[derive(Clone, Copy, Debug, PartialEq, Eq)]
 pub enum Form {
     /// Every text has it.
@@ -34,7 +34,7 @@ pub enum Choice {
     AnyMethod,
 }
 
-/// What an index must name.
+/// What the entry that an index names must be, and the form of the text that it leads to.
 #[derive(Clone, Copy, Debug, PartialEq, Eq)]
 pub enum Referent {
     /// A Utf8 that is used in a role, with a text of a form.

@@ -29,7 +29,7 @@ pub trait PoolView {
         ensures { result ≡ misfit (pool self.now) kind index };
 }
 
-/// Takes uses, one after the other.
+/// What a walker hands the uses of texts to, one after the other, in the order in which they stand in the file.
 pub trait Visit {
     /// The uses that it took, in their order.
     ghost taken: { Self → List Used };

@@ -1,6 +1,6 @@
 -- The files of a batch, those of them that are read whole, and their images.
 use Rattle.std.proofs.Common.{◌≡◌, ℕ, zero, ◌+◌, ◌≤◌, ◌<◌, List, [], ◌∷◌, ◌++◌, Option, Some, None, Bool, refl, sym, ap, ◌∙◌, subst, take, drop, length, true, false, suc, get_or, length-append, append_assoc, arith, ◌-◌, ◌≢◌, inl, inr}
-use Rattle.std.specs.Prelude.{IfSome, map, cond, Result, unwrap_or, All, option_map, nat_le, IsSome}
+use Rattle.std.specs.Prelude.{IfSome, map, cond, Result, unwrap_or, All, option_map, IsSome}
 use Rattle.std.proofs.Math.Seq.{get_or-append_seam, take-add}
 use Rattle.std.proofs.lemmas.List.{map-append, length-map, take_more, get_or-drop, take-append-drop, drop_more}
 use Rattle.std.proofs.Math.ListN.{get_or-map}
@@ -18,24 +18,23 @@ use Rattle.desk_file.specs.declared.images.Image.{Image}
 use Rattle.desk_rules.specs.Rules.{Rules}
 use Rattle.desk_folders.specs.Contents.{Contents}
 use Rattle.desk_report.specs.declared.lines.Reason.{Reason}
-use Rattle.desk_readings.proofs.Fronts.{at_some, split_at}
+use Rattle.desk_readings.proofs.Fronts.{split_at}
 use Rattle.desk_batches.proofs.Steps.{files_after-join, ledger_after-join, one_file_more, one_row_more, stopped_here}
 use Rattle.std.proofs.lemmas.Grind.{common_steps}
 use Rattle.std.proofs.lemmas.List.Sums.{sum_by_push}
 use Rattle.std.specs.List.{sum_by, slice_range}
 use Rattle.desk_base.specs.Limits.{file_size}
 use Rattle.desk_batches.specs.Turns.{fitting, weight_of, DidWork, HasItsDigest, MovedIn, OneMoved, SourceStays, bytes_of, image_here, image_of_input, input_in, is_migrated, migrated, outcome_of, plan_by, work_by, work_in, work_with, works_in}
-use Rattle.std.proofs.lemmas.List.Elements.{All-cons, All-contains, All-drop, All-map, All-nil, All-tail, All-take}
+use Rattle.std.proofs.lemmas.List.Elements.{All-cons, All-contains, All-drop, All-map, All-nil, All-tail, All-take, All-head}
 use Rattle.std.specs.FinMap as fin
+use Rattle.std.proofs.lemmas.Bool.{le-leb}
+use Rattle.desk_base.proofs.Results.{at_some}
 use Rattle.desk_ledger.specs.Digests.{digest}
 use Rattle.desk_batches.specs.declared.stops.Stop.{Stop}
 use Rattle.desk_batches.specs.declared.inputs.Input.{Input}
 use Rattle.desk_batches.specs.declared.noted.Noted.{Noted}
 use Rattle.desk_batches.specs.declared.noted.Way.{Way}
 use Rattle.desk_batches.specs.declared.noted.Way.TheVariants.{Keep, Migrate, Copy}
-
-all_at : {X : Type 0} (P : X → Type 0) (xs : List X) (x : X) → All P (x ∷ xs) → P x
-all_at P xs x h = h 0 x (omega arith)
 
 pub migrated_append : (xs ys : List Noted) → migrated (xs ++ ys) ≡ migrated xs ++ migrated ys
 migrated_append [] ys = refl
@@ -69,7 +68,7 @@ count_more xs i x old new lt is e f =
 -- what holds of files holds of those that are read whole
 pub all_migrated : (P : Noted → Type 0) (xs : List Noted) → All P xs → All P (migrated xs)
 all_migrated P [] h = All-nil P
-all_migrated P (x ∷ xs) h = one P (is_migrated x.way) x (migrated xs) (all_at P xs x h) (all_migrated P xs (All-tail P x xs h)) where
+all_migrated P (x ∷ xs) h = one P (is_migrated x.way) x (migrated xs) (All-head P x xs h) (all_migrated P xs (All-tail P x xs h)) where
   one : (P : Noted → Type 0) (b : Bool) (x : Noted) (ys : List Noted) → P x → All P ys → All P (cond b (x ∷ ys) ys)
   one P true x ys p h = All-cons P x ys p h
   one P false x ys p h = h
@@ -78,7 +77,7 @@ images_along : (rules : Rules) (defined : List Text) (from : List ℕ) (m : Cont
     → map (image_of_input rules defined) (map (input_in from m) xs) ≡ map (image_here (image_in rules defined) from m) xs
 images_along rules defined from m [] h = refl
 images_along rules defined from m (x ∷ xs) h =
-    let here = image_routed rules defined x.route (bytes_of from m x) (all_at (λ (x : Noted). IsRouteBy rules x.route) xs x h) in
+    let here = image_routed rules defined x.route (bytes_of from m x) (All-head (λ (x : Noted). IsRouteBy rules x.route) x xs h) in
     ap (λ y. y ∷ map (image_of_input rules defined) (map (input_in from m) xs)) (sym here)
     ∙ ap (λ ys. image_here (image_in rules defined) from m x ∷ ys) (images_along rules defined from m xs (All-tail (λ (x : Noted). IsRouteBy rules x.route) x xs h))
 
@@ -231,7 +230,7 @@ pub works_same : (image : Text → Text → Result Image Reason) (from : List �
     → works_in image from n xs ≡ works_in image from m xs
 works_same image from m n [] same h = refl
 works_same image from m n (x ∷ xs) same h =
-    ap (λ o. work_by x (unwrap_or o []) (image x.route.path (unwrap_or o [])) ∷ works_in image from n xs) (same x.route.path (all_at IsSound xs x h).path)
+    ap (λ o. work_by x (unwrap_or o []) (image x.route.path (unwrap_or o [])) ∷ works_in image from n xs) (same x.route.path (All-head IsSound x xs h).path)
     ∙ ap (λ ws. work_in image from m x ∷ ws) (works_same image from m n xs same (All-tail IsSound x xs h))
 
 -- what holds by what stands there now
@@ -355,9 +354,7 @@ pub room_first : (xs : List Noted) (a : ℕ) → file_size + sum_by weight_of (s
 room_first xs a = let none = weighs_none xs a in omega (arith, none)
 
 fitting_on : (room : ℕ) (x : Noted) (xs : List Noted) → weight_of x ≤ room → fitting room (x ∷ xs) ≡ fitting (room - weight_of x) xs + 1
-fitting_on room x xs fits = ap (λ b. cond b (fitting (room - weight_of x) xs + 1) 0) (within (weight_of x) room fits) where
-  within : (a b : ℕ) → a ≤ b → nat_le a b ≡ true
-  within a b h = grind arith
+fitting_on room x xs fits = ap (λ b. cond b (fitting (room - weight_of x) xs + 1) 0) (le-leb (weight_of x) room fits)
 
 dropped_at : (xs : List Noted) (i : ℕ) (x : Noted) → i < length xs → x ≡ get_or xs i x → drop i xs ≡ x ∷ drop (i + 1) xs
 dropped_at xs i x lt is = drop_more xs i x lt ∙ ap (λ y. y ∷ drop (i + 1) xs) (sym is)
@@ -393,7 +390,7 @@ stopped_kept to image from m [] i f f' k k' lt kept e h = absurd (omega arith)
 stopped_kept to image from m (x ∷ xs) zero f f' k k' lt kept e h = stopped_first to image from m (x ∷ xs) f f' k k' (omega arith) e h
 stopped_kept to image from m (x ∷ xs) (suc i) f f' k k' lt kept e h =
     let s = stopped_kept to image from m xs i f f' k k' (omega arith) (All-tail (λ (x : Noted). x.way ≡ Keep) x (take i xs) kept) e h in
-    let here = all_at (λ (x : Noted). x.way ≡ Keep) (take i xs) x kept in
+    let here = All-head (λ (x : Noted). x.way ≡ Keep) x (take i xs) kept in
     record {
       before = work_in image from m x ∷ s.before;
       work = s.work;

@@ -1,20 +1,14 @@
 -- Folders of texts.
+use mathlib.Core.Bool.{and-false}
 use Rattle.std.proofs.Common.{◌≡◌, ℕ, ◌<◌, Bool, true, false, cond, ◌||◌, ◌&&◌, eqb, List, [], ◌∷◌, ◌++◌, length, take, get_or, map, refl, sym, ap, ◌∙◌, append_assoc, arith}
 use Rattle.std.specs.List.{list_any}
 use Rattle.std.specs.Str.{bytes_eq}
 use Rattle.std.proofs.lemmas.List.{append-nil, map-append}
 use Rattle.std.proofs.lemmas.List.Folds.{list_any-append}
-use Rattle.std.proofs.lemmas.Bool.Decides.{nat_tests}
+use Rattle.std.proofs.lemmas.Cmp.{nat_list_eq_equiv, nat_eq_equiv}
 use Rattle.desk_base.specs.Names.{Text, slash}
 use Rattle.desk_clashes.specs.Clashes.{clashes, is_folder}
 use Rattle.desk_clashes.specs.Known.{folders_of}
-
-eqb_swap : (x y : ℕ) → eqb x y ≡ eqb y x
-eqb_swap x y = grind (arith, nat_tests)
-
-and_false : (b : Bool) → (b && false) ≡ false
-and_false true = refl
-and_false false = refl
 
 and_swap : (p e b : Bool) → (p && (e && b)) ≡ (e && (p && b))
 and_swap true e b = refl
@@ -32,20 +26,14 @@ or_mid false true false d = refl
 or_mid false false true d = refl
 or_mid false false false d = refl
 
-pub bytes_swap : (a b : Text) → bytes_eq a b ≡ bytes_eq b a
-bytes_swap [] [] = refl
-bytes_swap [] (y ∷ b) = refl
-bytes_swap (x ∷ a) [] = refl
-bytes_swap (x ∷ a) (y ∷ b) = ap (λ v. v && bytes_eq a b) (eqb_swap x y) ∙ ap (λ v. eqb y x && v) (bytes_swap a b)
-
 pub folder_long : (a b : Text) → length a < length b → is_folder a b ≡ (eqb (get_or b (length a) 0) slash && bytes_eq (take (length a) b) a)
 folder_long [] [] h = absurd (omega arith)
-folder_long [] (y ∷ b) h = ap (λ v. v && true) (eqb_swap slash y)
+folder_long [] (y ∷ b) h = ap (λ v. v && true) (nat_eq_equiv.symm slash y)
 folder_long (x ∷ a) [] h = absurd (omega arith)
 folder_long (x ∷ a) (y ∷ b) h =
     ap (λ v. eqb x y && v) (folder_long a b (omega arith))
     ∙ and_swap (eqb x y) (eqb (get_or b (length a) 0) slash) (bytes_eq (take (length a) b) a)
-    ∙ ap (λ v. eqb (get_or b (length a) 0) slash && (v && bytes_eq (take (length a) b) a)) (eqb_swap x y)
+    ∙ ap (λ v. eqb (get_or b (length a) 0) slash && (v && bytes_eq (take (length a) b) a)) (nat_eq_equiv.symm x y)
 
 pub list_any-or : {X : Type 0} (p q : X → Bool) (xs : List X) → list_any (λ x. p x || q x) xs ≡ (list_any p xs || list_any q xs)
 list_any-or p q [] = refl
@@ -60,7 +48,7 @@ list_any-false [] = refl
 list_any-false (x ∷ xs) = list_any-false xs
 
 any_mapped : (x b : ℕ) (q : Text) (fs : List Text) → list_any (bytes_eq (x ∷ q)) (map (λ f. b ∷ f) fs) ≡ (eqb x b && list_any (bytes_eq q) fs)
-any_mapped x b q [] = sym (and_false (eqb x b))
+any_mapped x b q [] = sym (and-false (eqb x b))
 any_mapped x b q (f ∷ fs) = ap (λ v. (eqb x b && bytes_eq q f) || v) (any_mapped x b q fs) ∙ and_or (eqb x b) (bytes_eq q f) (list_any (bytes_eq q) fs)
 
 empty_mapped : (b : ℕ) (fs : List Text) → list_any (bytes_eq []) (map (λ f. b ∷ f) fs) ≡ false
@@ -82,7 +70,7 @@ any_folder (x ∷ q) [] = refl
 any_folder [] (b ∷ bs) =
     list_any-append (bytes_eq []) (cond (eqb b slash) ([] ∷ []) []) (map (λ folder. b ∷ folder) (folders_of bs))
     ∙ ap (λ v. list_any (bytes_eq []) (cond (eqb b slash) ([] ∷ []) []) || v) (empty_mapped b (folders_of bs))
-    ∙ empty_here (eqb b slash) ∙ ap (λ v. v && true) (eqb_swap b slash)
+    ∙ empty_here (eqb b slash) ∙ ap (λ v. v && true) (nat_eq_equiv.symm b slash)
 any_folder (x ∷ q) (b ∷ bs) =
     list_any-append (bytes_eq (x ∷ q)) (cond (eqb b slash) ([] ∷ []) []) (map (λ folder. b ∷ folder) (folders_of bs))
     ∙ ap (λ v. list_any (bytes_eq (x ∷ q)) (cond (eqb b slash) ([] ∷ []) []) || v) (any_mapped x b q (folders_of bs))
@@ -109,7 +97,7 @@ pub any_swapped : (ts : List Text) (t : Text) → list_any (λ folder. list_any 
 any_swapped [] t = list_any-false (folders_of t)
 any_swapped (u ∷ us) t =
     list_any-or (λ folder. bytes_eq folder u) (λ folder. list_any (bytes_eq folder) us) (folders_of t)
-    ∙ ap (λ v. v || list_any (λ folder. list_any (bytes_eq folder) us) (folders_of t)) (list_any-same (λ folder. bytes_eq folder u) (bytes_eq u) (folders_of t) (λ folder. bytes_swap folder u) ∙ any_folder u t)
+    ∙ ap (λ v. v || list_any (λ folder. list_any (bytes_eq folder) us) (folders_of t)) (list_any-same (λ folder. bytes_eq folder u) (bytes_eq u) (folders_of t) (λ folder. nat_list_eq_equiv.symm folder u) ∙ any_folder u t)
     ∙ ap (λ v. is_folder u t || v) (any_swapped us t)
 
 -- what is looked up of a target

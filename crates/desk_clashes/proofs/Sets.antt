@@ -1,4 +1,5 @@
 -- What sets of texts hold as they are filled and asked.
+use mathlib.Core.Bool.{or-true, or-false, and-false}
 use Rattle.std.proofs.Common.{◌≡◌, ℕ, zero, suc, ◌+◌, ◌<◌, ◌≤◌, Bool, true, false, cond, ◌||◌, ◌&&◌, eqb, List, [], ◌∷◌, ◌++◌, length, take, get_or, map, refl, sym, ap, ◌∙◌, arith}
 use Rattle.std.specs.List.{list_any}
 use Rattle.std.specs.Str.{bytes_eq}
@@ -9,10 +10,12 @@ use Rattle.std.proofs.lemmas.List.{take_more}
 use Rattle.std.proofs.lemmas.List.Folds.{list_any-append}
 use Rattle.std.proofs.lemmas.Map.Text.{is_eq-slice_cmp}
 use Rattle.std.proofs.lemmas.Bool.Decides.{nat_tests}
+use Rattle.std.proofs.lemmas.Cmp.{nat_list_eq_equiv}
 use Rattle.desk_base.specs.Names.{Text, slash}
+use Rattle.desk_base.proofs.Bools.{cond_or}
 use Rattle.desk_clashes.specs.Clashes.{clashes, is_folder}
 use Rattle.desk_clashes.specs.Known.{TextRef, holds, folders_of, Knows}
-use Rattle.desk_clashes.proofs.Folders.{bytes_swap, folders_of-push, folder_long, any_swapped, any_clash, list_any-same}
+use Rattle.desk_clashes.proofs.Folders.{folders_of-push, folder_long, any_swapped, any_clash, list_any-same}
 
 eqb_at : (x : ℕ) → x ≡ slash → eqb x slash ≡ true
 eqb_at x e = grind (arith, nat_tests)
@@ -27,15 +30,11 @@ folder_at a b r h e f = f ∙ ap (λ v. v && bytes_eq (take (length a) b) a) (sy
 pub folder_not_at : (a b : Text) → length a < length b → (get_or b (length a) 0 ≡ slash → ⊥) → eqb (get_or b (length a) 0) slash ≡ is_folder a b
 folder_not_at a b h n = eqb_not (get_or b (length a) 0) n ∙ sym (ap (λ v. v && bytes_eq (take (length a) b) a) (eqb_not (get_or b (length a) 0) n)) ∙ sym (folder_long a b h)
 
-cond_or : (a b : Bool) → cond a true b ≡ (a || b)
-cond_or true b = refl
-cond_or false b = refl
-
 -- a text was put into a set
 pub put_holds : (old new : BTreeSet TextRef) (t : TextRef) (q : Text) → Updates (λ (x y : TextRef). slice_cmp nat_cmp x.now y.now) old new t true → holds new q ≡ (bytes_eq q t.now || holds old q)
 put_holds old new t q u =
     u.0 (record { ref_ptr = (0, 0); now = q })
-    ∙ ap (λ b. cond b true (holds old q)) (is_eq-slice_cmp t.now q ∙ bytes_swap t.now q)
+    ∙ ap (λ b. cond b true (holds old q)) (is_eq-slice_cmp t.now q ∙ nat_list_eq_equiv.symm t.now q)
     ∙ cond_or (bytes_eq q t.now) (holds old q)
 
 folders_more : (t : Text) (i : ℕ) → i < length t → folders_of (take (i + 1) t) ≡ folders_of (take i t) ++ cond (eqb (get_or t i 0) slash) (take i t ∷ []) []
@@ -68,26 +67,16 @@ put_step q t i was now start h e f g =
 pub skip_step : (p : Text → Bool) (t : Text) (i : ℕ) → i < length t → (get_or t i 0 ≡ slash → ⊥) → list_any p (folders_of (take (i + 1) t)) ≡ list_any p (folders_of (take i t))
 skip_step p t i h n =
     any_more p t i h ∙ ap (λ v. list_any p (folders_of (take i t)) || (v && p (take i t))) (eqb_not (get_or t i 0) n)
-    ∙ or_false (list_any p (folders_of (take i t))) where
-      or_false : (b : Bool) → (b || false) ≡ b
-      or_false true = refl
-      or_false false = refl
+    ∙ or-false (list_any p (folders_of (take i t)))
 
 -- a folder that fails the test too
 pub miss_step : (p : Text → Bool) (t : Text) (i : ℕ) → i < length t → p (take i t) ≡ false → list_any p (folders_of (take i t)) ≡ false → list_any p (folders_of (take (i + 1) t)) ≡ false
 miss_step p t i h e f =
-    any_more p t i h ∙ ap (λ v. v || (eqb (get_or t i 0) slash && p (take i t))) f ∙ ap (λ v. eqb (get_or t i 0) slash && v) e ∙ and_false (eqb (get_or t i 0) slash) where
-      and_false : (b : Bool) → (b && false) ≡ false
-      and_false true = refl
-      and_false false = refl
+    any_more p t i h ∙ ap (λ v. v || (eqb (get_or t i 0) slash && p (take i t))) f ∙ ap (λ v. eqb (get_or t i 0) slash && v) e ∙ and-false (eqb (get_or t i 0) slash)
 
 any_map : {X Y : Type 0} (p : Y → Bool) (f : X → Y) (xs : List X) → list_any p (map f xs) ≡ list_any (λ x. p (f x)) xs
 any_map p f [] = refl
 any_map p f (x ∷ xs) = ap (λ v. p (f x) || v) (any_map p f xs)
-
-or_true : (b : Bool) → (b || true) ≡ true
-or_true true = refl
-or_true false = refl
 
 -- a front before a `/` is a folder
 pub any_front : (p : Text → Bool) (t : Text) (i : ℕ) → i < length t → get_or t i 0 ≡ slash → p (take i t) ≡ true → list_any p (folders_of t) ≡ true
@@ -98,7 +87,7 @@ any_front p (b ∷ bs) zero h e f =
 any_front p (b ∷ bs) (suc i) h e f =
     list_any-append p (cond (eqb b slash) ([] ∷ []) []) (map (λ folder. b ∷ folder) (folders_of bs))
     ∙ ap (λ v. list_any p (cond (eqb b slash) ([] ∷ []) []) || v) (any_map p (λ folder. b ∷ folder) (folders_of bs) ∙ any_front (λ folder. p (b ∷ folder)) bs i (omega arith) e f)
-    ∙ or_true (list_any p (cond (eqb b slash) ([] ∷ []) []))
+    ∙ or-true (list_any p (cond (eqb b slash) ([] ∷ []) []))
 
 -- what is looked up of a target says whether it clashes with one that was seen
 pub meets_all : (names folders : BTreeSet TextRef) (t : Text) (seen : List Text) → Knows names folders seen → (holds names t || (holds folders t || list_any (holds names) (folders_of t))) ≡ list_any (clashes t) seen

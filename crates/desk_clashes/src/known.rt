@@ -51,17 +51,17 @@ fn holds_folder<'a>(set: &BTreeSet<&'a [u8]>, text: &'a [u8]) -> bool
 
 /// Targets that were seen, and the folders of each.
 #[derive(Drop)]
-pub(crate) struct Known<'a> {
+pub(crate) struct SeenTargets<'a> {
     names: BTreeSet<&'a [u8]>,
     folders: BTreeSet<&'a [u8]>,
 }
 
-impl<'a> Known<'a> {
-    /// No targets.
-    pub(crate) fn new(alloc: Global) -> Known<'a>
+impl<'a> SeenTargets<'a> {
+    /// A set to begin with: no target was seen, so that none clashes.
+    pub(crate) fn new(alloc: Global) -> SeenTargets<'a>
         ensures { Knows result.names result.folders [] }
     {
-        Known {
+        SeenTargets {
             names: BTreeSet::new(alloc),
             folders: BTreeSet::new(alloc),
         }

@@ -18,6 +18,8 @@ pub use targets::Targets;
 /// Two places in a list of targets, counted from 0, the first below the second.
 #[derive(Clone, Copy, Debug, PartialEq, Eq)]
 pub struct Clash {
+    /// The least place whose target clashes with a later one.
     pub first: usize,
+    /// The least later place whose target clashes with that one.
     pub second: usize,
 }

@@ -6,7 +6,7 @@ ghost use Rattle.desk_clashes.specs.Clashes.{clashes, first_clash};
 ghost use Rattle.desk_clashes.specs.Known.{names_of, name_at, first_place};
 
 use crate::Clash;
-use crate::known::Known;
+use crate::known::SeenTargets;
 use crate::pairs::clashes;
 use desk_base::Memory;
 use std::alloc::Global;
@@ -31,7 +31,7 @@ impl<'a> Model for Targets<'a> {
 fn first_place(alloc: Global, targets: &[&[u8]]) -> Result<Option<usize>, Memory>
     ensures { IfOk result (λ place. place ≡ first_place 0 (names_of targets.now)) }
 {
-    let mut known = Known::new(alloc);
+    let mut known = SeenTargets::new(alloc);
     let mut first = None;
     for place in (0..targets.len()).rev() {
         let target = targets[place];
@@ -58,7 +58,7 @@ fn second_place(targets: &[&[u8]], first: usize) -> Option<usize>
 }
 
 impl<'a> Targets<'a> {
-    /// No targets. It takes no memory.
+    /// A list to begin with, of no targets. It takes no memory.
     pub fn new(alloc: Global) -> Targets<'a>
         ensures { result ≡ [] }
     {

@@ -34,17 +34,17 @@ abbrev parts_behind : ℕ → Quoting → Text → List Text
 parts_behind mark at [] = []
 parts_behind mark at (b ∷ t) = cut mark at t
 
+pub outside_is : (q : Quoting) → is_outside q ≡ true → q ≡ Outside
+outside_is Outside h = refl
+outside_is Quoted h = absurd cc
+outside_is Escaped h = absurd cc
+
 pub cut_parts : (mark : ℕ) (at : Quoting) (t : Text) → cut mark at t ≡ before_mark mark at t ∷ parts_behind mark Outside (from_mark mark at t)
 cut_parts mark at [] = refl
 cut_parts mark at (b ∷ t) = elim (is_outside at && b == mark) as (λ (c : Bool). (is_outside at && b == mark) ≡ c → cond c ([] ∷ cut mark at t) (onto_first b (cut mark (next at b) t)) ≡ cond c [] (b ∷ before_mark mark (next at b) t) ∷ parts_behind mark Outside (cond c (b ∷ t) (from_mark mark (next at b) t))) [
   | true ↦ λ e. ap (λ (q : Quoting). [] ∷ cut mark q t) (outside_is at (and_parts _ _ e).0)
   | false ↦ λ e. ap (onto_first b) (cut_parts mark (next at b) t)
 ] refl
-  where
-    outside_is : (q : Quoting) → is_outside q ≡ true → q ≡ Outside
-    outside_is Outside h = refl
-    outside_is Quoted h = absurd cc
-    outside_is Escaped h = absurd cc
 
 pub before_from : (mark : ℕ) (at : Quoting) (t : Text) → before_mark mark at t ++ from_mark mark at t ≡ t
 before_from mark at [] = refl

@@ -4,7 +4,7 @@ use Rattle.std.specs.List.{slice_split, onto_first}
 use Rattle.std.proofs.lemmas.List.{drop_more}
 use Rattle.std.proofs.lemmas.Bool.{eqb-true}
 use Rattle.desk_base.specs.Names.{Text}
-use Rattle.desk_lines.specs.Lines.{rest}
+use Rattle.desk_base.proofs.Lists.{none_behind}
 use Rattle.desk_lines.specs.Cuts.{until, onward}
 use Rattle.desk_lines.proofs.Cuts.{until_length, take_until, drop_until, until-onward}
 use Rattle.desk_clauses.specs.Cuts.{parts_of, behind, IsFirst, IsFirstItem}
@@ -23,12 +23,8 @@ cut_items (b ∷ t) = elim (b == 44) as (λ (c : Bool). cond c ([] ∷ slice_spl
   | false ↦ ap (onto_first b) (cut_items t)
 ]
 
-no_more : (x y : Text) → x ++ y ≡ x → y ≡ []
-no_more [] y e = e
-no_more (b ∷ x) y e = no_more x y (ap rest e)
-
 onward_none : (t : Text) → until is_comma t ≡ t → onward is_comma t ≡ []
-onward_none t h = no_more (until is_comma t) (onward is_comma t) (until-onward is_comma t ∙ sym h)
+onward_none t h = none_behind (until is_comma t) (onward is_comma t) (until-onward is_comma t ∙ sym h)
 
 pub item_alone : (list : Text) → ((k : ℕ) → k < length list → is_comma (get_or list k 0) ≡ false) → IsFirstItem list list None
 item_alone list none =

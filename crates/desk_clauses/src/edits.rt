@@ -9,9 +9,9 @@ use std::alloc::Global;
 /// A text with some of its bytes exchanged, as far as it was gone over. It takes no memory before the first exchange.
 #[derive(Drop)]
 pub struct Edits {
-    /// For how many bytes of the text the image stands.
+    /// How many bytes of the text, from its first on, `image` stands for.
     pub copied: usize,
-    /// The image of these bytes.
+    /// What these bytes became; nothing is written before the first exchange.
     pub image: Text,
 }
 
@@ -27,7 +27,7 @@ pub fn image_or_none(text: &[u8], image: Text) -> Option<Text>
 }
 
 impl Edits {
-    /// No byte was gone over.
+    /// Edits that start at the first byte of a text, of which nothing is exchanged yet. It takes no memory.
     pub fn new(alloc: Global) -> Edits
         ensures copied { result.copied ≡ 0 }
         ensures image { result.image ≡ [] }

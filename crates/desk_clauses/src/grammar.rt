@@ -64,7 +64,7 @@ pub fn is_in_grammar(value: &[u8]) -> bool
     true
 }
 
-/// The first path of a value in the grammar.
+/// The first path of the first clause of a value in the grammar, without blanks around it.
 pub fn first_path(value: &[u8]) -> &[u8]
     ensures { result.now ≡ first_path value.now }
 {

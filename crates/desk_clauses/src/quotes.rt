@@ -9,7 +9,7 @@ ghost use Rattle.desk_clauses.specs.Cuts.{IsFirstPart, IsFirstItem};
 
 use memchr::memchr;
 
-/// Where a reader of a text stands.
+/// Where a reader of a header's value stands, by the quotes before it (OSGi Core, `quoted-string`).
 #[derive(Clone, Copy)]
 pub enum Quoting {
     /// Outside quotes.

@@ -46,7 +46,3 @@ relative_push (y ∷ xs) x h e = by (is_relative_path y) (λ rest. relative_push
   by : (b : Bool) → (list_all is_relative_path xs ≡ true → list_all is_relative_path (xs ++ x ∷ []) ≡ true) → (b && list_all is_relative_path xs) ≡ true → (b && list_all is_relative_path (xs ++ x ∷ [])) ≡ true
   by true rest h = rest h
   by false rest h = h
-
-pub rising_none : IsStrictlySortedBy {K = Text} (slice_cmp nat_cmp) []
-unfolding IsStrictlySortedBy
-rising_none = tt

@@ -20,7 +20,9 @@ use std::marker::Model;
 /// How many faults there were, and the last of them.
 #[derive(Debug, Drop)]
 pub struct Faults {
+    /// How many calls failed so far.
     pub count: u64,
+    /// What the last of them tried, and why it failed; none where memory for that was wanting.
     pub last: Option<Fault>,
 }
 
@@ -88,7 +90,7 @@ impl<'r> DiskFolders<'r> {
         self.progress.show(self.rt);
     }
 
-    /// Takes away what is shown.
+    /// Takes the line of the progress away from the terminal.
     pub fn end_progress(&mut self)
         ensures { self.new ≡ self.old }
     {

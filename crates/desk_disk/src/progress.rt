@@ -45,7 +45,7 @@ impl Progress {
         }
     }
 
-    /// A file was made.
+    /// Counts a file that was made, and shows the count where standard error is a terminal.
     pub(crate) fn note_made(&mut self, rt: &HostRuntime) {
         self.made = self.made.saturating_add(1);
         if self.is_shown && self.made % STEP == 0 {
@@ -53,7 +53,7 @@ impl Progress {
         }
     }
 
-    /// Takes the line away.
+    /// Takes the line of the progress away, where it is shown.
     pub(crate) fn end(&mut self, rt: &HostRuntime) {
         if self.is_shown {
             let _ = rt.stderr().write_all(b"\r\x1B[K");

@@ -57,14 +57,14 @@ fn kind_of(entry: &DirEntry) -> Result<Entry, Refusal> {
 /// A listing that goes on: the files that it found, and the folders that it has yet to enter, by their
 /// paths relative to the root, how many entries it looked at, and the path at which it failed.
 #[derive(Drop)]
-pub(crate) struct Listing {
+pub(crate) struct FolderWalk {
     found: Vec<Text>,
     folders: Vec<Text>,
     looked: u32,
     at: Option<Text>,
 }
 
-impl Model for Listing {
+impl Model for FolderWalk {
     ghost use Rattle.std.specs.Prelude.{◌≤◌};
     ghost use Rattle.desk_disk.specs.Disk.{Looked, looked_code, entries};
 
@@ -77,11 +77,11 @@ impl Model for Listing {
     ghost invariant = { λ l. l.looked ≤ entries };
 }
 
-impl Listing {
-    fn new(alloc: Global) -> Listing
+impl FolderWalk {
+    fn new(alloc: Global) -> FolderWalk
         ensures { result ≡ record { found = []; folders = []; count = 0 } }
     {
-        Listing {
+        FolderWalk {
             found: Vec::new(alloc),
             folders: Vec::new(alloc),
             looked: 0,
@@ -206,7 +206,9 @@ fn path_of_folder(alloc: Global, root: &Text, folder: &Text) -> Result<Text, Mem
 /// Why a listing failed, and at which path where it is below the root.
 #[derive(Drop)]
 pub(crate) struct Stopped {
+    /// What the system refused, or what stands in the folders that is neither a file nor a folder.
     pub(crate) refusal: Refusal,
+    /// The full path at which it failed; none where that is the root itself, or memory is wanting.
     pub(crate) path: Option<Text>,
 }
 
@@ -220,9 +222,9 @@ fn full_at(alloc: Global, root: &Text, at: &Option<Text>) -> Option<Text> {
 
 /// The files below a root, in the order in which they were found.
 pub(crate) fn files_below(rt: &HostRuntime, root: &Text) -> Result<Vec<Text>, Stopped> {
-    let mut listing = Listing::new(rt.alloc());
+    let mut listing = FolderWalk::new(rt.alloc());
     let gone = listing.go(rt, root);
-    let Listing { found, at, .. } = listing;
+    let FolderWalk { found, at, .. } = listing;
     match gone {
         Ok(()) => Ok(found),
         Err(refusal) => Err(Stopped {

@@ -1,15 +1,8 @@
 -- Texts that are shown byte by byte.
-use Rattle.std.proofs.Common.{◌≡◌, ℕ, ◌+◌, ◌<◌, List, [], ◌∷◌, ◌++◌, append-nil, append_assoc, sym, length, take, get_or, ap, ◌∙◌}
-use Rattle.std.proofs.lemmas.List.{take_more}
-use Rattle.std.proofs.lemmas.Grind.{flat_map-append}
+use Rattle.std.proofs.Common.{◌≡◌, ℕ, ◌+◌, ◌<◌, List, ◌++◌, append_assoc, sym, length, take, get_or, ap, ◌∙◌}
 use Rattle.std.specs.List.{flat_map}
 use Rattle.desk_base.specs.Names.{Text}
-
--- the texts of a list up to one item, and its text
-pub texts_more : {X : Type 0} (f : X → Text) (xs : List X) (i : ℕ) (d : X) → i < length xs → flat_map f (take (i + 1) xs) ≡ flat_map f (take i xs) ++ f (get_or xs i d)
-texts_more f xs i d lt =
-    ap (flat_map f) (take_more xs i d lt) ∙ flat_map-append f (take i xs) (get_or xs i d ∷ [])
-    ∙ ap (λ t. flat_map f (take i xs) ++ t) (append-nil (f (get_or xs i d)))
+use Rattle.desk_base.proofs.Lists.{texts_more}
 
 -- a line that has the texts of a list up to one item, with that item's text behind it
 pub texts_behind : {X : Type 0} (f : X → Text) (xs : List X) (i : ℕ) (d : X) (old line new : Text) → i < length xs

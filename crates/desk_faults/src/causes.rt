@@ -7,7 +7,7 @@ use desk_base::{Memory, Text};
 use std::alloc::{AllocError, AllocFailed, Global};
 use std::io::{self, ErrorKind};
 
-/// Why the outside refused.
+/// Why the outside refused a call, or why its answer can't be used.
 #[derive(Clone, Copy, Debug)]
 pub enum Cause {
     /// The system's error.
@@ -89,7 +89,7 @@ fn system_words(alloc: Global, error: io::Error) -> Result<Text, Memory> {
 pub enum Refusal {
     /// Memory ran out.
     Memory,
-    /// The outside refused.
+    /// The outside refused the call, or an answer of it can't be used.
     Failed(Cause),
 }
 

@@ -9,7 +9,7 @@ use crate::Cause;
 use desk_base::{Memory, Text, show_byte};
 use std::alloc::Global;
 
-/// What was tried.
+/// What was tried as a call on the outside failed.
 #[derive(Clone, Copy, Debug, PartialEq, Eq)]
 pub enum Tried {
     /// A folder was listed.
@@ -45,8 +45,11 @@ impl Tried {
 /// What failed outside: what was tried, on which path, and the words of the cause.
 #[derive(Debug, Drop)]
 pub struct Fault {
+    /// The call that failed.
     pub tried: Tried,
+    /// The full path that the call was given.
     pub path: Text,
+    /// The cause in words, as they are told behind the path.
     pub words: Text,
 }
 

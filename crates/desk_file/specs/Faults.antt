@@ -3,8 +3,10 @@ use Rattle.std.specs.Prelude.{◌≡◌, ⊤, List, Result, Err}
 use Rattle.desk_base.specs.Names.{Text}
 use Rattle.desk_base.specs.declared.faults.ReadFault.{ReadFault}
 use Rattle.desk_base.specs.declared.faults.ReadFault.TheVariants as read
-use Rattle.desk_metainf.specs.declared.MetaFault.{MetaFault}
-use Rattle.desk_metainf.specs.declared.MetaFault.TheVariants as meta
+use Rattle.desk_manifest.specs.declared.ManifestFault.{ManifestFault}
+use Rattle.desk_manifest.specs.declared.ManifestFault.TheVariants as manifest
+use Rattle.desk_metainf.specs.declared.ServiceFault.{ServiceFault}
+use Rattle.desk_metainf.specs.declared.ServiceFault.TheVariants as service
 use Rattle.desk_report.specs.declared.lines.Reason.{Reason}
 use Rattle.desk_report.specs.declared.lines.Reason.TheVariants as reason
 use Rattle.desk_rewrite.specs.declared.rewriting.RewriteFault.{RewriteFault}
@@ -32,10 +34,15 @@ IsServiceFault rules bytes fault = IsFaultOf (service_image rules bytes) fault
 abbrev pub IsManifestFault : Rules → Text → FileFault → Type 0
 IsManifestFault rules bytes fault = IsFaultOf (manifest_image rules bytes) fault
 
--- why a service file or a manifest has none
-abbrev pub line_fault : MetaFault → FileFault
-line_fault (meta.BadLine at) = Refused (reason.BadLine at)
-line_fault meta.Memory = Memory
+-- why a service file has none
+abbrev pub service_fault : ServiceFault → FileFault
+service_fault (service.BadLine at) = Refused (reason.BadLine at)
+service_fault service.Memory = Memory
+
+-- why a manifest has none
+abbrev pub manifest_fault : ManifestFault → FileFault
+manifest_fault (manifest.BadLine at) = Refused (reason.BadLine at)
+manifest_fault manifest.Memory = Memory
 
 -- why a text has none
 abbrev pub text_fault : TextFault → FileFault

@@ -13,8 +13,8 @@ use crate::routes::Route;
 use crate::treatments::Treatment;
 use desk_base::{Changed, Memory, Text};
 use desk_graph::ClassGraph;
-use desk_manifest::migrate_manifest;
-use desk_metainf::{MetaFault, migrate_service};
+use desk_manifest::{ManifestFault, migrate_manifest};
+use desk_metainf::{ServiceFault, migrate_service};
 use desk_report::{Detail, Reason};
 use desk_rules::RuleSet;
 use desk_textrules::{TextFault, migrate_text};
@@ -23,14 +23,18 @@ use std::alloc::Global;
 /// What a file becomes: its new bytes, and what they are made of.
 #[derive(Debug, Drop)]
 pub struct Image {
+    /// The whole of the target's content.
     pub bytes: Text,
+    /// Its kind, with the counts that its line in the report has.
     pub detail: Detail,
 }
 
 /// Why a file has no image, or want of memory.
 #[derive(Clone, Copy, Debug, PartialEq, Eq)]
 pub enum FileFault {
+    /// The file has no image, for this reason.
     Refused(Reason),
+    /// Memory ran out.
     Memory,
 }
 
@@ -45,16 +49,30 @@ impl From<Memory> for FileFault {
     }
 }
 
-impl From<MetaFault> for FileFault {
+impl From<ServiceFault> for FileFault {
     ghost use Rattle.std.specs.Prelude.{◌≡◌};
-    ghost use Rattle.desk_file.specs.Faults.{line_fault};
+    ghost use Rattle.desk_file.specs.Faults.{service_fault};
 
-    ghost from_gives = { λ why fault. fault ≡ line_fault why };
+    ghost from_gives = { λ why fault. fault ≡ service_fault why };
 
-    fn from(why: MetaFault) -> FileFault {
+    fn from(why: ServiceFault) -> FileFault {
         match why {
-            MetaFault::BadLine { at } => FileFault::Refused(Reason::BadLine { at }),
-            MetaFault::Memory => FileFault::Memory,
+            ServiceFault::BadLine { at } => FileFault::Refused(Reason::BadLine { at }),
+            ServiceFault::Memory => FileFault::Memory,
+        }
+    }
+}
+
+impl From<ManifestFault> for FileFault {
+    ghost use Rattle.std.specs.Prelude.{◌≡◌};
+    ghost use Rattle.desk_file.specs.Faults.{manifest_fault};
+
+    ghost from_gives = { λ why fault. fault ≡ manifest_fault why };
+
+    fn from(why: ManifestFault) -> FileFault {
+        match why {
+            ManifestFault::BadLine { at } => FileFault::Refused(Reason::BadLine { at }),
+            ManifestFault::Memory => FileFault::Memory,
         }
     }
 }

@@ -13,8 +13,11 @@ use std::alloc::Global;
 /// A file of the source: its path, its target, and how it is treated.
 #[derive(Clone, Debug, Drop)]
 pub struct Route {
+    /// Its path, relative to the root of the source.
     pub path: Text,
+    /// The path of its target, relative to the root of the target.
     pub target: Text,
+    /// What makes its image, or that it is copied.
     pub treatment: Treatment,
 }
 

@@ -6,7 +6,7 @@
 //! ```
 #![tactic(auto)]
 
-use desk_base::{Memory, Text};
+use desk_base::{MAX_RULE_FILE_SIZE, Memory, Text};
 use desk_rules::{BuildFault, RuleFiles, RuleSet};
 use std::alloc::Global;
 
@@ -19,7 +19,7 @@ pub fn with_file(
     content: &[u8],
 ) -> Result<RuleFiles, Memory> {
     let name = Text::from_bytes(alloc, name)?;
-    if content.len() > 1_048_576 || files.content(&name).is_some() {
+    if content.len() > MAX_RULE_FILE_SIZE || files.content(&name).is_some() {
         return Ok(files);
     }
     let content = Text::from_bytes(alloc, content)?;

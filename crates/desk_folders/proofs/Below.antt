@@ -3,17 +3,17 @@ use Rattle.std.proofs.Common.{◌≡◌, ℕ, List, [], ◌∷◌, ◌++◌, Som
 use Rattle.std.specs.Prelude.{T, ◌&&◌, ◌==◌, option_and_then, if◌then◌else◌}
 use Rattle.std.specs.List.{filter_map, cons_option, list_all, AllByRecursion}
 use Rattle.std.specs.List.Sorted.{IsStrictlySortedBy}
-use Rattle.std.specs.Ordering.{nat_cmp, ordering_then, is_lt}
+use Rattle.std.specs.Ordering.{nat_cmp, ordering_then}
 use Rattle.std.specs.Cmp.Lexicographic.{slice_cmp}
 use Rattle.std.proofs.lemmas.Cmp.{nat_cmp_total, tied_itself}
 use Rattle.std.proofs.lemmas.Bool.{eqb-true, eq-eqb}
-use Rattle.std.specs.declared.cmp.Ordering.{Ordering}
-use Rattle.std.specs.declared.cmp.Ordering.TheVariants.{Less, Equal, Greater}
+use Rattle.std.specs.declared.cmp.Ordering.TheVariants.{Less}
 use Rattle.std.specs.FinMap as fin
 use Rattle.std.specs.FinMap.Entries.{below_all, is_sorted}
 use Rattle.std.specs.Str.{bytes_eq}
 use Rattle.desk_base.specs.Names.{Text, slash}
 use Rattle.desk_base.specs.Paths.{here, top, folder, full, is_relative_path}
+use Rattle.desk_base.proofs.Orderings.{less_is}
 use Rattle.desk_folders.specs.Contents.{Contents, behind, relative, below, paths_below}
 
 -- what stands before a path below a root that is neither `.` nor `/`
@@ -117,18 +117,13 @@ both_pass : (a b : Bool) → T (a && b) → (a ≡ true) × T b
 both_pass true b h = (refl, h)
 both_pass false b h = absurd h
 
-less_from : (o : Ordering) → is_lt o ≡ true → o ≡ Less
-less_from Less e = refl
-less_from Equal e = absurd (cc)
-less_from Greater e = absurd (cc)
-
 -- keys of entries, in their order
 abbrev pub keys_of_entries : List (Text × Text) → List Text
 keys_of_entries = map (λ e. e.0)
 
 all_sorted : (k : Text) (es : List (Text × Text)) → T (below_all (slice_cmp nat_cmp) k es) → AllBehind k (keys_of_entries es)
 all_sorted k [] h = tt
-all_sorted k (e ∷ es) h = let both = both_pass _ _ h in (less_from _ both.0, all_sorted k es both.1)
+all_sorted k (e ∷ es) h = let both = both_pass _ _ h in (less_is _ both.0, all_sorted k es both.1)
 
 both_T : (a b : Bool) → T (a && b) → T a × T b
 both_T true b h = (tt, h)

@@ -1,5 +1,5 @@
 -- A map of entries by their texts, and what one change of a key leaves.
-use Rattle.std.proofs.Common.{rules, ◌≡◌, List, ℕ, [], ◌∷◌, Some, None, Option, refl, sym, ap, ◌∙◌, cond, Result, Ok, Err, OnErr, subst, ◌++◌, true, false}
+use Rattle.std.proofs.Common.{rules, ◌≡◌, List, ℕ, [], ◌∷◌, Some, None, Option, refl, sym, ap, ◌∙◌, cond, subst, ◌++◌, true, false}
 use Rattle.std.specs.Ordering.{nat_cmp, eq_by_cmp}
 use Rattle.std.specs.Cmp.{eq_by_cmp_equiv}
 use Rattle.std.specs.Cmp.Lexicographic.{slice_cmp}
@@ -7,25 +7,14 @@ use Rattle.std.proofs.lemmas.Cmp.{nat_list_cmp_total}
 use Rattle.std.specs.Str.{bytes_eq}
 use Rattle.std.proofs.lemmas.Map.Text.{is_eq-slice_cmp}
 use Rattle.std.specs.BTreeMap.{is_at}
-use Rattle.std.specs.Map.{lookup}
-use Rattle.std.specs.FinMap.{get, insert, from_entries, find, gets, get_tied, get-from_entries, get-insert, get-remove}
+use Rattle.std.specs.FinMap.{get, insert, from_entries, gets, get_tied, get-insert, get-remove}
 use Rattle.desk_base.specs.Names.{Text}
 use Rattle.desk_folders.specs.Contents.{Contents, ChangesOnly, setting}
 use Rattle.desk_base.specs.TextMaps.{same_texts}
+use Rattle.desk_base.proofs.TextEntries.{entry_at, get_text}
 use Rattle.desk_folders.specs.ContentsLaws.{ChangesOnly-refl}
 use Rattle.desk_folders.specs.InMemory.{InMemory, leaving, called, filled}
 use Rattle.desk_folders.specs.declared.folders.GenFile.{GenFile}
-
--- what a map of entries has at a text
-abbrev pub entry_at : List (Text × Text) → Text → Option Text
-entry_at es q = lookup (is_at (slice_cmp nat_cmp q)) es
-
-find_text : (es : List (Text × Text)) (q : Text) → find (slice_cmp nat_cmp) q es ≡ entry_at es q
-find_text [] q = refl
-find_text (e ∷ es) q = ap (cond (is_at (slice_cmp nat_cmp q) e.0) (Some e.1)) (find_text es q)
-
-pub get_text : (es : List (Text × Text)) (q : Text) → get (from_entries {R = slice_cmp nat_cmp} es) q ≡ entry_at es q
-get_text es q = get-from_entries nat_list_cmp_total es q ∙ find_text es q
 
 get-setting : (k : Text) (left : Option Text) (m : Contents) (q : Text) → get (setting k left m) q ≡ cond (eq_by_cmp (slice_cmp nat_cmp) q k) left (get m q)
 get-setting k None m q = get-remove nat_list_cmp_total m k q
@@ -48,10 +37,6 @@ pub leaves : (es fs : List (Text × Text)) (faults calls : ℕ) (failing : List 
     → record { contents = from_entries fs; faults = faults; calls = calls; failing = failing; stop = stop } ≡ leaving k left m
 leaves es fs faults calls failing stop k left m e is =
     ap (λ (contents : Contents). record { contents = contents; faults = faults; calls = calls; failing = failing; stop = stop }) e ∙ ap (leaving k left) is
-
-pub on_err : {T E P : Type 0} (r : Result T E) → P → OnErr r P
-on_err (Ok x) p = tt
-on_err (Err e) p = p
 
 -- a call that leaves the contents changes one path at most
 pub ChangesOnly-called : (p : Text) (m k n : InMemory) → n ≡ k → k ≡ called m → ChangesOnly p (Some m.contents) (Some n.contents)

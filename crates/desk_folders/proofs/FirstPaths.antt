@@ -1,5 +1,5 @@
 -- The listing of a folder, from the ordered entries of a map.
-use Rattle.std.proofs.Common.{Result, Ok, Err, OnOk, IfOk, ◌≡◌, ℕ, ◌+◌, ◌<◌, ◌≤◌, inl, inr, List, [], ◌∷◌, ◌++◌, Some, None, Option, Bool, true, false, refl, sym, ap, ◌∙◌, cond, length, take, drop, arith, nat_eq, map, append-nil, length-append, append_assoc, Bor, subst, get_or, IsTrue}
+use Rattle.std.proofs.Common.{Result, Ok, Err, OnOk, IfOk, ◌≡◌, ℕ, ◌+◌, ◌<◌, ◌≤◌, inl, inr, List, [], ◌∷◌, ◌++◌, Some, None, Option, Bool, true, false, refl, sym, ap, ◌∙◌, cond, length, take, drop, arith, nat_eq, map, append-nil, length-append, append_assoc, Bor, subst, get_or, IsTrue, take_all}
 use Rattle.std.specs.Prelude.{◌&&◌, nat_le, All, Contains}
 use Rattle.std.specs.Ordering.{nat_cmp}
 use Rattle.std.specs.Cmp.Lexicographic.{slice_cmp}
@@ -44,9 +44,6 @@ entries_ordered [] h = empty_of
 entries_ordered (e ∷ es) h =
     entries-insert nat_list_cmp_total (from_entries es) e.0 e.1 ∙ ap (put (slice_cmp nat_cmp) e.0 e.1) (entries_ordered es h.1) ∙ put_first e es h.0
 
-pub taken_whole : {X : Type 0} (n : ℕ) (xs : List X) → length xs ≤ n → take n xs ≡ xs
-taken_whole n xs h = grind (arith, common_steps)
-
 -- those taken from a list are of it
 taken_of : {X : Type 0} (n : ℕ) (xs : List X) → All (Contains xs) (take n xs)
 taken_of n xs k d lt = subst (λ ys. Contains ys (get_or (take n xs) k d)) (take-append-drop n xs) (Contains-append_left (take n xs) (drop n xs) _ (Contains-get_or (take n xs) k d lt))
@@ -55,7 +52,7 @@ taken_of n xs k d lt = subst (λ ys. Contains ys (get_or (take n xs) k d)) (take
 pub listing : (most : ℕ) (all : List Text) → IsListing most all (take (most + 1) all)
 listing most all = by (nat_le (length all) most) refl where
   by : (b : Bool) → nat_le (length all) most ≡ b → IsListing most all (take (most + 1) all)
-  by true e = inl (grind (arith, nat_tests, e), taken_whole (most + 1) all (grind (arith, nat_tests, e)))
+  by true e = inl (grind (arith, nat_tests, e), take_all (most + 1) all (grind (arith, nat_tests, e)))
   by false e = inr (grind (arith, nat_tests, e), length-take-le (most + 1) all (grind (arith, nat_tests, e)), taken_of (most + 1) all)
 
 -- the paths below a root, from ordered entries
@@ -86,9 +83,9 @@ pub one_path_more : (n : ℕ) (root : Text) (keys : List Text) (key rest : Text)
 one_path_more n root keys key rest items new room is e grown =
     let all = filter_map (below root) keys in
     let short : length all < n = grind (arith, common_steps, e) in
-    let whole : items ≡ all = e ∙ taken_whole n all (omega arith) in
+    let whole : items ≡ all = e ∙ take_all n all (omega arith) in
     let more : filter_map (below root) (keys ++ key ∷ []) ≡ all ++ rest ∷ [] = filtered (below root) keys key ∙ ap (λ o. all ++ cons_option o []) (sym is) in
-    grown ∙ ap (λ xs. xs ++ rest ∷ []) whole ∙ sym (taken_whole n (all ++ rest ∷ []) (let k = length-append all (rest ∷ []) in omega arith)) ∙ ap (take n) (sym more)
+    grown ∙ ap (λ xs. xs ++ rest ∷ []) whole ∙ sym (take_all n (all ++ rest ∷ []) (let k = length-append all (rest ∷ []) in omega arith)) ∙ ap (take n) (sym more)
 
 -- a path that isn't behind the front
 pub no_path_more : (n : ℕ) (root : Text) (keys : List Text) (key : Text) (items : List Text) → None ≡ below root key → items ≡ take n (filter_map (below root) keys)

@@ -1,4 +1,5 @@
 -- Which paths stand below a root: those whose full path is there.
+use mathlib.Core.Bool.{and-false}
 use Rattle.std.proofs.Common.{◌≡◌, List, [], ◌∷◌, Some, None, Option, Bool, true, false, refl, sym, ap, ◌∙◌}
 use Rattle.std.specs.Prelude.{◌&&◌, ◌||◌, is_some, IsSome, Contains}
 use Rattle.std.specs.List.{filter_map, cons_option, list_any}
@@ -8,10 +9,9 @@ use Rattle.std.proofs.lemmas.Cmp.{nat_list_cmp_total, tied_itself}
 use Rattle.std.proofs.lemmas.Map.Views.{Contains-from_any}
 use Rattle.std.specs.FinMap as fin
 use Rattle.std.specs.FinMap.{slice_cmp-IsAntisymmetric, nat_cmp-IsAntisymmetric}
-use Rattle.std.specs.declared.cmp.Ordering.{Ordering}
-use Rattle.std.specs.declared.cmp.Ordering.TheVariants.{Less, Equal, Greater}
 use Rattle.desk_base.specs.Names.{Text}
 use Rattle.desk_base.specs.Paths.{folder, full, is_relative_path}
+use Rattle.desk_base.proofs.Orderings.{equal_is}
 use Rattle.desk_folders.specs.Contents.{Contents, below, paths_below}
 use Rattle.desk_folders.proofs.Below.{below-is, below-full, cmp-behind}
 
@@ -19,23 +19,15 @@ use Rattle.desk_folders.proofs.Below.{below-is, below-full, cmp-behind}
 abbrev pub same_text : Text → Text → Bool
 same_text = eq_by_cmp (slice_cmp nat_cmp)
 
-equal_from : (o : Ordering) → is_eq o ≡ true → o ≡ Equal
-equal_from Equal e = refl
-equal_from Less e = absurd (cc)
-equal_from Greater e = absurd (cc)
-
 pub same_text-is : (p q : Text) → same_text p q ≡ true → p ≡ q
-same_text-is p q e = slice_cmp-IsAntisymmetric nat_cmp-IsAntisymmetric p q (equal_from _ e)
+same_text-is p q e = slice_cmp-IsAntisymmetric nat_cmp-IsAntisymmetric p q (equal_is _ e)
 
 pub same_text-itself : (p : Text) → same_text p p ≡ true
 same_text-itself p = ap is_eq (tied_itself nat_list_cmp_total p)
 
 -- a path is among those below a root where it is relative and its full path is among the keys
 pub any_below : (root p : Text) (ks : List Text) → list_any (same_text p) (filter_map (below root) ks) ≡ (is_relative_path p && list_any (same_text (full root p)) ks)
-any_below root p [] = by (is_relative_path p) where
-  by : (b : Bool) → false ≡ (b && false)
-  by true = refl
-  by false = refl
+any_below root p [] = sym (and-false (is_relative_path p))
 any_below root p (k ∷ ks) = at (below root k) refl (any_below root p ks) where
   none : (r s : Bool) → is_relative_path p ≡ r → same_text (full root p) k ≡ s → None ≡ below root k → (rest : Bool) → (r && rest) ≡ (r && (s || rest))
   none false s is e h rest = refl

@@ -61,7 +61,9 @@ impl<T: Drop> From<AllocFailed<T>> for FolderFault {
 /// A file to start with: its full path and its bytes.
 #[derive(Debug, Drop)]
 pub struct GenFile {
+    /// Its full path: a root, `/` and a relative path.
     pub path: Text,
+    /// The whole of its bytes.
     pub content: Text,
 }
 

@@ -1,17 +1,17 @@
 -- The generated names are short, and their paths are relative.
-use Rattle.std.proofs.Common.{◌≡◌, ℕ, zero, suc, ◌+◌, ◌%◌, ◌^◌, ◌<◌, ◌≤◌, true, false, not, ne_eqb, List, [], ◌∷◌, ◌++◌, length, length-append, map, refl, ap, ◌∙◌, arith}
+use Rattle.std.proofs.Common.{◌≡◌, ℕ, zero, suc, ◌+◌, ◌%◌, ◌^◌, ◌<◌, ◌≤◌, true, not, ne_eqb, List, [], ◌∷◌, ◌++◌, length, length-append, map, refl, ap, ◌∙◌, arith}
 use Rattle.std.specs.Prelude.{◌==◌, codes, decimal}
-use Rattle.std.specs.List.{All, list_all, range_with_len}
+use Rattle.std.specs.List.{list_all, range_with_len}
 use Rattle.std.specs.Int.Digits.{digits_of}
-use Rattle.std.proofs.lemmas.Bool.{and_parts, and_from, not-true, eq-eqb}
+use Rattle.std.proofs.lemmas.Bool.{and_from, eq-eqb}
 use Rattle.std.proofs.lemmas.Fmt.{decimal_digit, decimal-digits_of, length-decimal-le}
 use Rattle.std.proofs.lemmas.List.{append_assoc}
-use Rattle.std.proofs.lemmas.List.Elements.{All-nil, All-cons}
 use Rattle.std.proofs.lemmas.List.Folds.{list_all-append}
 use Rattle.std.proofs.lemmas.List.Splits.{slice_split_none, slice_split_at}
 use Rattle.std.proofs.lemmas.List.FromFn.{map-range_with_len_more}
 use Rattle.desk_base.specs.Names.{Text, slash, is_whole}
 use Rattle.desk_base.specs.Paths.{is_segment, is_relative_path}
+use Rattle.desk_base.proofs.Separated.{none_is}
 use Rattle.desk_folders.specs.declared.folders.GenFile.{GenFile}
 use Rattle.desk_gen.specs.Names.{class_name, dotted_name, descriptor}
 use Rattle.desk_gen.specs.Application.{class_at, classes, generated, service_file}
@@ -31,15 +31,11 @@ decimal_whole (suc n) h = ap (is_whole slash) (decimal-digits_of (suc n) (omega 
 
 -- ---- relative paths
 
-none_is : (t : Text) → is_whole slash t ≡ true → All (λ b. (b == slash) ≡ false) t
-none_is [] h = All-nil (λ b. (b == slash) ≡ false)
-none_is (b ∷ t) h = All-cons (λ b. (b == slash) ≡ false) b t (not-true _ (and_parts _ _ h).0) (none_is t (and_parts _ _ h).1)
-
 relative_more : (s t : Text) → is_segment s ≡ true → is_whole slash s ≡ true → is_relative_path t ≡ true → is_relative_path (s ++ (slash ∷ t)) ≡ true
-relative_more s t e w f = ap (list_all is_segment) (slice_split_at (λ b. b == slash) s slash t (none_is s w) (eq-eqb slash slash refl)) ∙ and_from _ _ e f
+relative_more s t e w f = ap (list_all is_segment) (slice_split_at (λ b. b == slash) s slash t (none_is slash s w) (eq-eqb slash slash refl)) ∙ and_from _ _ e f
 
 relative_one : (s : Text) → is_segment s ≡ true → is_whole slash s ≡ true → is_relative_path s ≡ true
-relative_one s e w = ap (list_all is_segment) (slice_split_none (λ b. b == slash) s (none_is s w)) ∙ and_from _ _ e refl
+relative_one s e w = ap (list_all is_segment) (slice_split_none (λ b. b == slash) s (none_is slash s w)) ∙ and_from _ _ e refl
 
 file_whole : (i : ℕ) → i < 2 ^ 64 → is_whole slash (decimal i ++ codes ".class") ≡ true
 file_whole i h = list_all-append (λ b. not (b == slash)) (decimal i) (codes ".class") ∙ and_from _ _ (decimal_whole i h) refl

@@ -1,5 +1,5 @@
 -- What a graph is built of.
-use Rattle.std.proofs.Common.{◌≡◌, ℕ, zero, suc, ◌+◌, ◌<◌, ◌≤◌, ◌^◌, Bool, true, false, cond, List, [], ◌∷◌, map, length, get_or, Option, Some, None, option_map, IfSome, refl, sym, ap, ap₂, subst, ◌∙◌, arith, inl, inr}
+use Rattle.std.proofs.Common.{◌≡◌, ℕ, zero, suc, ◌+◌, ◌<◌, ◌≤◌, ◌^◌, Bool, true, false, cond, List, [], ◌∷◌, map, length, get_or, Option, Some, None, option_map, refl, sym, ap, ap₂, subst, ◌∙◌, arith, inl, inr}
 use Rattle.std.specs.List.{filter, list_any, Contains}
 use Rattle.std.specs.Str.{bytes_eq}
 use Rattle.std.proofs.lemmas.Cmp.{nat_list_cmp_total}
@@ -172,10 +172,6 @@ clash_found f ss o c defined other image is pair same d e i =
 pub stranding_found : (f : Text → Text) (ss : List Scanned) (o : Option Stranding) (s : Stranding) (path name : Text) → o ≡ Some s → option_map stranding_pair o ≡ stranded f ss → name_clash f ss ≡ None → path ≡ s.path.now → name ≡ s.name.now
     → (name_clash f ss ≡ None) × (stranded f ss ≡ Some (path, name))
 stranding_found f ss o s path name is pair none p n = (none, sym pair ∙ ap (option_map stranding_pair) is ∙ ap₂ (λ (x y : Text). Some (x, y)) (sym p) (sym n))
-
--- what holds of a value that is there
-pub of_some : {A : Type 0} (P : A → Type 0) (o : Option A) (x : A) → o ≡ Some x → IfSome o P → P x
-of_some P o x is h = subst (λ p. IfSome p P) is h
 
 -- ---- look-ups
 

@@ -1,5 +1,5 @@
 -- What a search for clashes finds.
-use Rattle.std.proofs.Common.{◌≡◌, ℕ, zero, suc, ◌+◌, ◌<◌, ◌≤◌, true, false, List, [], ◌∷◌, map, length, drop, get_or, Option, Some, None, option_map, is_some, refl, sym, ap, ap₂, ◌∙◌, arith}
+use Rattle.std.proofs.Common.{◌≡◌, ℕ, zero, suc, ◌+◌, ◌<◌, ◌≤◌, true, false, List, [], ◌∷◌, map, length, drop, get_or, Option, Some, None, option_map, is_some, refl, sym, ap, ap₂, ◌∙◌, arith, add-one}
 use Rattle.std.specs.List.{find}
 use Rattle.std.proofs.Math.Seq.{drop-cons}
 use Rattle.std.proofs.lemmas.List.{get_or_default}
@@ -12,9 +12,6 @@ use Rattle.desk_graph.proofs.Sets.{meets_mapped}
 use Rattle.desk_graph.specs.Nodes.{defined_of}
 use Rattle.desk_graph.proofs.Numbering.{first_at, firsts_long}
 use Rattle.desk_graph.proofs.Building.{image_at}
-
-next : (i : ℕ) → i + 1 ≡ suc i
-next i = omega arith
 
 some_mapped : (o : Option NameClash) → is_some (option_map clash_pair o) ≡ is_some o
 some_mapped None = refl
@@ -67,10 +64,10 @@ module _ (f : Text → Text) (known : List Pair) (nodes : List (Option ℕ)) (i 
   names_cut =
       drop-cons (named known) i [] (omega (arith, firsts_long known, h))
       ∙ ap (λ (t : Text). t ∷ drop (suc i) (named known)) (first_at known i ([], []))
-      ∙ ap (λ (n : ℕ). (get_or known i ([], [])).0 ∷ drop n (named known)) (sym (next i))
+      ∙ ap (λ (n : ℕ). (get_or known i ([], [])).0 ∷ drop n (named known)) (sym (add-one i))
 
   nodes_cut : drop i nodes ≡ get_or nodes i None ∷ drop (i + 1) nodes
-  nodes_cut = drop-cons nodes i None k ∙ ap (λ (n : ℕ). get_or nodes i None ∷ drop n nodes) (sym (next i))
+  nodes_cut = drop-cons nodes i None k ∙ ap (λ (n : ℕ). get_or nodes i None ∷ drop n nodes) (sym (add-one i))
 
   both_cut : defined_of (drop i (named known)) (drop i nodes) ≡ defined_of ((get_or known i ([], [])).0 ∷ drop (i + 1) (named known)) (get_or nodes i None ∷ drop (i + 1) nodes)
   both_cut = ap₂ (λ (ns : List Text) (os : List (Option ℕ)). defined_of ns os) names_cut nodes_cut

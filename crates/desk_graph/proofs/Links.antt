@@ -2,10 +2,10 @@
 use Rattle.std.proofs.Common.{◌≡◌, ◌^◌, ◌↔◌, ◌⊎◌, inl, inr, ℕ, zero, suc, ◌+◌, ◌<◌, ◌≤◌, List, [], ◌∷◌, ◌++◌, length, get_or, refl, sym, ap, ap₂, subst, ◌∙◌, arith, length-append}
 use Rattle.std.specs.List.{Contains}
 use Rattle.std.specs.List.Sorted.{IsStrictlyIncreasing}
-use Rattle.std.specs.declared.cmp.Ordering.TheVariants.{Less, Equal}
+use Rattle.std.specs.declared.cmp.Ordering.TheVariants.{Less}
 use Rattle.std.specs.Ordering.{nat_cmp}
 use Rattle.std.specs.Cmp.Lexicographic.{slice_cmp}
-use Rattle.std.proofs.lemmas.Cmp.{nat_list_cmp_total, tied_itself}
+use Rattle.std.proofs.lemmas.Cmp.{nat_list_cmp_total}
 use Rattle.std.proofs.lemmas.Bool.{cases_order}
 use Rattle.std.proofs.lemmas.List.{get_or_append_left, get_or_default}
 use Rattle.desk_base.specs.Names.{Text}
@@ -23,6 +23,7 @@ use Rattle.std.proofs.lemmas.Map.Keys.{sorted_from_strictly_increasing}
 use Rattle.std.proofs.lemmas.Cmp.{nat_cmp_total}
 use Rattle.std.proofs.lemmas.Bool.Decides.{nat_tests}
 use Rattle.std.proofs.Common.{Bool, true, false, cond}
+use Rattle.desk_graph.proofs.Numbering.{less_itself}
 
 -- of the first of these names, the places of those that are defined
 pub record Linked (defined names : List Text) (n : ℕ) (links : List ℕ) : Type 0 where
@@ -32,9 +33,6 @@ pub record Linked (defined names : List Text) (n : ℕ) (links : List ℕ) : Typ
 
 pub none_linked : (defined names : List Text) → Linked defined names 0 []
 none_linked defined names = record { from = λ k h. absurd h; all = λ j k l h e. absurd (omega arith); rise = λ k h. absurd (omega arith) }
-
-less_itself : (t : Text) → slice_cmp nat_cmp t t ≡ Less → ⊥
-less_itself t less = let tied : slice_cmp nat_cmp t t ≡ Equal = tied_itself nat_list_cmp_total t in cc (tied, less)
 
 last_or_before : (n i : ℕ) → i < n + 1 → (i < n) ⊎ (i ≡ n)
 last_or_before n i h = grind arith

@@ -1,5 +1,5 @@
 -- Names of an application in byte order.
-use Rattle.std.proofs.Common.{◌≡◌, inl, inr, ℕ, zero, suc, ◌+◌, ◌<◌, true, List, [], ◌∷◌, length, drop, get_or, sym, ap, ◌∙◌, arith}
+use Rattle.std.proofs.Common.{◌≡◌, inl, inr, ℕ, zero, suc, ◌+◌, ◌<◌, true, List, [], ◌∷◌, length, drop, get_or, sym, ap, ◌∙◌, arith, add-one}
 use Rattle.std.specs.List.{AllByRecursion, list_any}
 use Rattle.std.specs.Str.{bytes_eq}
 use Rattle.std.proofs.lemmas.Bool.{or_left, or_right, or_cases}
@@ -36,15 +36,12 @@ rises (x ∷ xs) s (suc i) (suc j) d lt h = rises xs s.1 i j d (omega arith) (om
 
 -- ---- a class in turn
 
-next : (i : ℕ) → i + 1 ≡ suc i
-next i = omega arith
-
 -- the names of one more class
 pub names_step : (classes : List Scanned) (i : ℕ) (item : Scanned) (ks ks' r : List Text) → i < length classes → item ≡ get_or classes i item → ks' ≡ put_all ks (names_in item) → put_all ks (names (drop i classes)) ≡ r
     → put_all ks' (names (drop (i + 1) classes)) ≡ r
 names_step classes i item ks ks' r h is put before =
     let cut : drop i classes ≡ item ∷ drop (suc i) classes = drop-cons classes i item h ∙ ap (λ (s : Scanned). s ∷ drop (suc i) classes) (sym is) in
-    ap (λ (n : ℕ). put_all ks' (names (drop n classes))) (next i)
+    ap (λ (n : ℕ). put_all ks' (names (drop n classes))) (add-one i)
     ∙ ap (λ (xs : List Text). put_all xs (names (drop (suc i) classes))) put
     ∙ sym (put_append ks (names_in item) (names (drop (suc i) classes)))
     ∙ ap (λ (xs : List Scanned). put_all ks (names xs)) (sym cut)

@@ -3,36 +3,30 @@ use Rattle.std.proofs.Common.{◌≡◌, ◌⊎◌, inl, inr, ℕ, zero, suc, �
 use Rattle.std.specs.List.{AllByRecursion, find, list_any, Contains, IsDistinct}
 use Rattle.std.specs.List.Sorted.{IsSorted, IsStrictlySortedBy, IsPermutation}
 use Rattle.std.specs.Str.{bytes_eq}
-use Rattle.std.specs.Ordering.{nat_cmp, is_lt, is_eq, eq_by_cmp, match_ordering, ordering_reverse}
+use Rattle.std.specs.Ordering.{nat_cmp, is_eq, eq_by_cmp, match_ordering}
 use Rattle.std.specs.Cmp.Lexicographic.{slice_cmp}
 use Rattle.std.specs.BTreeSet.{BTreeSet, Updates, insert_key}
 use Rattle.std.specs.declared.cmp.Ordering.{Ordering}
 use Rattle.std.specs.declared.cmp.Ordering.TheVariants.{Less, Equal, Greater}
-use Rattle.std.proofs.lemmas.Cmp.{nat_list_cmp_total}
+use Rattle.std.proofs.lemmas.Cmp.{nat_list_cmp_total, nat_list_eq_equiv}
 use Rattle.std.proofs.lemmas.List.Sorted.{Contains-permutation, IsPermutation-sym}
-use Rattle.std.proofs.lemmas.Map.Keys.{apart_from_distinct, sorted_from_all_adjacent, IsDistinct-IsPermutation, IsDistinct-from_sorted}
-use Rattle.std.proofs.lemmas.Map.Text.{is_eq-slice_cmp}
+use Rattle.std.proofs.lemmas.Map.Keys.{IsDistinct-IsPermutation, IsDistinct-from_sorted}
 use Rattle.std.proofs.lemmas.Slice.Eq.{bytes_eq-Decides}
-use Rattle.std.proofs.lemmas.Bool.{cases_order, and_parts, or_left, or_right}
+use Rattle.std.proofs.lemmas.Bool.{cases_order, and_parts, or_left, or_right, not-true, both_ways}
 use Rattle.desk_base.specs.Names.{Text}
+use Rattle.desk_base.proofs.Bools.{same_answer, cond_or}
 use Rattle.desk_packages.specs.Keys.{RiseBy}
 use Rattle.desk_packages.proofs.Picks.{In}
 use Rattle.desk_packages.proofs.Searched.{in_at, find_nothing}
+use Rattle.desk_rules.proofs.Ordered.{keys_rise}
 use Rattle.desk_graph.specs.Application.{Pair, with_image, meets}
 use Rattle.desk_graph.specs.Tables.{texts, holds, is_name, IsNowhere, IsPlaceOf, HoldsShared, IsKnownBy, meets_known}
 use Rattle.desk_class.specs.Held.{put_all, ascending}
 use Rattle.desk_class.specs.Marks.{marked_cmp}
-use Rattle.desk_class.specs.MarkOrder.{same_test, same_of_tie, marked_tie}
+use Rattle.desk_class.specs.MarkOrder.{same_of_tie, marked_tie}
 use Rattle.desk_class.proofs.Ascending.{same_sorted, in_front, in_back, in_either, put_append, in_ascending, from_ascending, ascending_sorted, from_contains, to_contains}
 use Rattle.desk_graph.proofs.Orders.{tested, from_tested}
 use Rattle.desk_graph.proofs.Numbering.{less_itself, nowhere_named}
-
-cond_or : (a b : Bool) → cond a true b ≡ (a || b)
-cond_or true b = refl
-cond_or false b = refl
-
-pub bytes_swap : (x y : Text) → bytes_eq x y ≡ bytes_eq y x
-bytes_swap x y = same_test (bytes_eq x y) (bytes_eq y x) (λ e. (bytes_eq-Decides y x).1 (sym ((bytes_eq-Decides x y).0 e))) (λ e. (bytes_eq-Decides x y).1 (sym ((bytes_eq-Decides y x).0 e)))
 
 -- ---- the texts of a set
 
@@ -70,7 +64,7 @@ inserted_all ks k q h = elim (in_either ks (k ∷ []) q h) [
 module _ (old new : BTreeSet Text) (t : Text) where
   -- a text was put into a set
   pub put_holds : (q : Text) → Updates marked_cmp old new t true → holds new q ≡ (bytes_eq q t || holds old q)
-  put_holds q u = u.0 q ∙ ap (λ (b : Bool). cond b true (holds old q)) (marked_tie t q ∙ bytes_swap t q) ∙ cond_or (bytes_eq q t) (holds old q)
+  put_holds q u = u.0 q ∙ ap (λ (b : Bool). cond b true (holds old q)) (marked_tie t q ∙ nat_list_eq_equiv.symm t q) ∙ cond_or (bytes_eq q t) (holds old q)
 
   -- one more text
   pub put_texts : new.keys ≡ insert_key marked_cmp old.keys t → texts new ≡ put_all (texts old) (t ∷ [])
@@ -90,7 +84,7 @@ any_tie (k ∷ ks) t = ap (λ (b : Bool). b || list_any (eq_by_cmp marked_cmp t)
 pub holds_is : (set : BTreeSet Text) (t : Text) → holds set t ≡ list_any (bytes_eq t) (texts set)
 holds_is set t =
     any_tie set.keys t
-    ∙ same_test (list_any (bytes_eq t) set.keys) (list_any (bytes_eq t) (ascending set.keys))
+    ∙ same_answer (list_any (bytes_eq t) set.keys) (list_any (bytes_eq t) (ascending set.keys))
     (λ e. tested (ascending set.keys) t (in_ascending set.keys t (from_tested set.keys t e)))
     (λ e. tested set.keys t (from_ascending set.keys t (from_tested (ascending set.keys) t e)))
 
@@ -109,36 +103,16 @@ keys_apart ks ordered = distinct_by (eq_by_cmp marked_cmp) bytes_eq marked_tie k
 
 -- ---- texts that were sorted
 
--- two texts that differ, of which the second is not less, rise
-less_of : (a b : Text) → is_lt (slice_cmp nat_cmp b a) ≡ false → bytes_eq a b ≡ false → slice_cmp nat_cmp a b ≡ Less
-less_of a b not_less apart =
-    elim (slice_cmp nat_cmp a b) as (λ (o : Ordering). slice_cmp nat_cmp a b ≡ o → slice_cmp nat_cmp a b ≡ Less) [
-      | Less ↦ λ e. e
-      | Equal ↦ λ e. absurd (both_ways (bytes_eq a b) (sym (is_eq-slice_cmp a b) ∙ ap is_eq e) apart)
-      | Greater ↦ λ e. absurd (both_ways (is_lt (slice_cmp nat_cmp b a)) (ap is_lt (nat_list_cmp_total.antisymm b a ∙ ap ordering_reverse e)) not_less)
-    ] refl
-  where
-    both_ways : (b : Bool) → b ≡ true → b ≡ false → ⊥
-    both_ways b h k = cc
-
--- texts of which none stands twice rise once they are sorted
-rise_sorted : (ks : List Text) → IsSorted (slice_cmp nat_cmp) ks → IsDistinct bytes_eq ks → IsStrictlySortedBy (slice_cmp nat_cmp) ks
-rise_sorted ks sorted apart = sorted_from_all_adjacent nat_list_cmp_total ks [] (λ k within.
-    less_of (get_or ks k []) (get_or ks (k + 1) []) (sorted k [] (omega arith) within) (apart_from_distinct bytes_eq ks k (k + 1) [] apart (omega arith) within))
-
 moved : (xs ys : List Text) (q : Text) → IsPermutation xs ys → In xs q → In ys q
 moved xs ys q p h = from_contains ys q (Contains-permutation xs ys q p (to_contains xs q h))
 
 pub sorted_texts : (ks xs : List Text) → IsDistinct bytes_eq ks → IsPermutation ks xs → IsSorted (slice_cmp nat_cmp) xs → xs ≡ ascending ks
 sorted_texts ks xs apart p sorted =
-    same_sorted (slice_cmp nat_cmp) nat_list_cmp_total xs (ascending ks) (rise_sorted xs sorted (IsDistinct-IsPermutation bytes_eq bytes_swap ks xs p apart)) (ascending_sorted ks)
+    same_sorted (slice_cmp nat_cmp) nat_list_cmp_total xs (ascending ks) (keys_rise xs sorted (IsDistinct-IsPermutation bytes_eq nat_list_eq_equiv.symm ks xs p apart)) (ascending_sorted ks)
     (λ q h. in_ascending ks q (moved xs ks q (IsPermutation-sym ks xs p) h))
     (λ q h. moved ks xs q p (from_ascending ks q h))
 
 -- ---- seen and shared
-
-both_ways : (b : Bool) → b ≡ true → b ≡ false → ⊥
-both_ways b h k = cc
 
 -- the image of a name is another text
 abbrev pub Changes : Pair → Type 0
@@ -187,7 +161,7 @@ module _ (known : List Pair) (n : ℕ) (one : Pair) (is : (d : Pair) → get_or 
   }
     where
       stays : (i : ℕ) (d : Pair) → i ≡ n → Changes (get_or known i d) → ⊥
-      stays i d last c = both_ways (bytes_eq one.1 one.0) same (ap (λ (p : Pair). bytes_eq p.1 p.0) (sym (at_last i d last)) ∙ c)
+      stays i d last c = both_ways (bytes_eq one.1 one.0) (ap (λ (p : Pair). bytes_eq p.1 p.0) (sym (at_last i d last)) ∙ c) same
 
   -- an image that was seen, or is a name
   pub again : (shared' : Text → Bool) → (seen one.1 || is_name known one.1) ≡ true → ((q : Text) → shared' q ≡ (bytes_eq q one.1 || shared q)) → Seen known (n + 1) seen shared'
@@ -215,19 +189,15 @@ module _ (known : List Pair) (n : ℕ) (one : Pair) (is : (d : Pair) → get_or 
     ];
     named = λ i d h c k. elim (last_or_before n i h) [
       | inl before ↦ s.named i d before c k
-      | inr last ↦ absurd (both_ways (seen one.1 || is_name known one.1) (or_right _ _ (ap (is_name known) (sym (image_last i d last)) ∙ k)) new)
+      | inr last ↦ absurd (both_ways (seen one.1 || is_name known one.1) new (or_right _ _ (ap (is_name known) (sym (image_last i d last)) ∙ k)))
     ];
     twice = λ i j d h k b c e. elim (last_or_before n j k) [
       | inl before ↦ s.twice i j d h before b c e
       | inr last ↦
           let here : (get_or known i d).1 ≡ one.1 = e ∙ image_last j d last in
-          absurd (both_ways (seen one.1 || is_name known one.1) (ap (λ (t : Text). seen t || is_name known t) (sym here) ∙ s.all i d (omega arith) b) new)
+          absurd (both_ways (seen one.1 || is_name known one.1) new (ap (λ (t : Text). seen t || is_name known t) (sym here) ∙ s.all i d (omega arith) b))
     ];
   }
-
-pub same_of : (b : Bool) → not b ≡ false → b ≡ true
-same_of true h = refl
-same_of false h = absurd cc
 
 -- a name of a table
 pub is_name_at : (known : List Pair) (j : ℕ) (d : Pair) (t : Text) → j < length known → (get_or known j d).0 ≡ t → is_name known t ≡ true
@@ -241,7 +211,7 @@ is_name_at known j d t h e = tested (map (λ (k : Pair). k.0) known) t (by known
 -- what a search for a name finds
 pub named_by : (known : List Pair) (name : Text) (o : Option ℕ) → MatchOption o (IsNowhere (λ (k : Pair). k.0) known name) (IsPlaceOf (λ (k : Pair). k.0) known name) → is_some o ≡ is_name known name
 named_by known name (Some k) at = sym (is_name_at known k ([], []) name at.0 (at.1 ([], [])))
-named_by known name None none = same_test false (is_name known name) (λ e. absurd cc) (λ e.
+named_by known name None none = same_answer false (is_name known name) (λ e. absurd cc) (λ e.
     let at = in_at (map (λ (k : Pair). k.0) known) name (from_tested (map (λ (k : Pair). k.0) known) name e) in
     absurd (nowhere_named known name none at.0 [] at.1 (at.2 [])))
 
@@ -269,10 +239,6 @@ all_shared known seen shared rise s i j d h k e =
 
 -- ---- what a test of shared images says
 
-not_of : (b : Bool) → not b ≡ true → b ≡ false
-not_of true h = absurd cc
-not_of false h = refl
-
 -- a name whose image is not shared meets no other
 pub unshared : (test : Text → Bool) (known : List Pair) (one : Pair) → HoldsShared test known → Contains known one → test one.1 ≡ false → find (meets_known one) known ≡ None
 unshared test known one shared there none = find_nothing (meets_known one) known (λ other is meets_it.
@@ -286,17 +252,17 @@ unshared test known one shared there none = find_nothing (meets_known one) known
       | inr less ↦ elim less [
         | inl lt ↦
             let h : test (get_or known at.0 one).1 ≡ true = shared there.0 at.0 one lt at.1 (ap (λ (p : Pair). p.1) one_at ∙ same ∙ ap (λ (p : Pair). p.1) (sym other_at)) in
-            both_ways (test one.1) (ap test (same ∙ ap (λ (p : Pair). p.1) (sym other_at)) ∙ h) none
+            both_ways (test one.1) none (ap test (same ∙ ap (λ (p : Pair). p.1) (sym other_at)) ∙ h)
         | inr gt ↦
             let h : test (get_or known there.0 one).1 ≡ true = shared at.0 there.0 one gt there.1 (ap (λ (p : Pair). p.1) other_at ∙ sym same ∙ ap (λ (p : Pair). p.1) (sym one_at)) in
-            both_ways (test one.1) (ap (λ (p : Pair). test p.1) (sym one_at) ∙ h) none
+            both_ways (test one.1) none (ap (λ (p : Pair). test p.1) (sym one_at) ∙ h)
       ]
     ])
   where
     apart : (other : Pair) (j : ℕ) → get_or known there.0 one ≡ one → get_or known j one ≡ other → there.0 ≡ j → not (bytes_eq one.0 other.0) ≡ true → ⊥
     apart other j a b e differs =
         let same_pair : one ≡ other = sym a ∙ ap (λ (k : ℕ). get_or known k one) e ∙ b in
-        both_ways (bytes_eq one.0 other.0) ((bytes_eq-Decides one.0 other.0).1 (ap (λ (p : Pair). p.0) same_pair)) (not_of (bytes_eq one.0 other.0) differs)
+        both_ways (bytes_eq one.0 other.0) (not-true (bytes_eq one.0 other.0) differs) ((bytes_eq-Decides one.0 other.0).1 (ap (λ (p : Pair). p.0) same_pair))
 
 -- names with their images are met as the names are
 pub meets_mapped : (f : Text → Text) (name : Text) (known : List Pair) → IsKnownBy f known → option_map (λ (k : Pair). k.0) (find (meets_known (with_image f name)) known) ≡ find (meets f name) (map (λ (k : Pair). k.0) known)

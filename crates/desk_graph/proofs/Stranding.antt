@@ -1,5 +1,5 @@
 -- What a search for stranded classes finds.
-use Rattle.std.proofs.Common.{◌≡◌, ℕ, suc, ◌+◌, ◌<◌, Bool, true, false, cond, not, ◌&&◌, List, [], ◌∷◌, ◌++◌, length, drop, get_or, Option, Some, None, is_some, MatchOption, refl, sym, ap, ap₂, ◌∙◌, arith}
+use Rattle.std.proofs.Common.{◌≡◌, ℕ, suc, ◌+◌, ◌<◌, Bool, true, false, cond, not, ◌&&◌, List, [], ◌∷◌, ◌++◌, length, drop, get_or, Option, Some, None, is_some, MatchOption, refl, sym, ap, ap₂, ◌∙◌, add-one}
 use Rattle.std.specs.List.{list_any}
 use Rattle.std.specs.Str.{bytes_eq}
 use Rattle.std.proofs.Math.Seq.{drop-cons}
@@ -36,9 +36,6 @@ pub strands_unknown : (f : Text → Text) (known : List Pair) (nodes : List (Opt
 strands_unknown f known nodes name table none =
     sym (ap (λ (x : Bool). x && not (bytes_eq (f name) name)) (is_among None (defined_of (firsts known) nodes) name (unknown known nodes table name none)))
 
-next : (i : ℕ) → i + 1 ≡ suc i
-next i = omega arith
-
 pub least_append : (best : Option Pair) (ps qs : List Pair) → least_onto best (ps ++ qs) ≡ least_onto (least_onto best ps) qs
 least_append best [] qs = refl
 least_append best (p ∷ ps) qs = least_append (earlier best p) ps qs
@@ -46,7 +43,7 @@ least_append best (p ∷ ps) qs = least_append (earlier best p) ps qs
 module _ (f : Text → Text) (defined : List Text) (path : Text) (held : List Text) (i : ℕ) (name : Text) (h : i < length held) (at : get_or held i [] ≡ name) (best best' r : Option Pair)
     (before : least_onto best (stranded_at f defined path (drop i held)) ≡ r) where
   held_cut : drop i held ≡ name ∷ drop (i + 1) held
-  held_cut = drop-cons held i [] h ∙ ap (λ (t : Text). t ∷ drop (suc i) held) at ∙ ap (λ (n : ℕ). name ∷ drop n held) (sym (next i))
+  held_cut = drop-cons held i [] h ∙ ap (λ (t : Text). t ∷ drop (suc i) held) at ∙ ap (λ (n : ℕ). name ∷ drop n held) (sym (add-one i))
 
   opened : (b : Bool) → strands f defined name ≡ b → least_onto best (cond b ((path, name) ∷ stranded_at f defined path (drop (i + 1) held)) (stranded_at f defined path (drop (i + 1) held))) ≡ r
   opened b e =
@@ -74,12 +71,12 @@ module _ (f : Text → Text) (defined : List Text) (classes : List Scanned) (i :
 
   pub selected_step : item.selected ≡ true → best' ≡ best → least_onto best' (stranded_among f defined (drop (i + 1) classes)) ≡ r
   selected_step e same =
-      ap (λ (n : ℕ). least_onto best' (stranded_among f defined (drop n classes))) (next i)
+      ap (λ (n : ℕ). least_onto best' (stranded_among f defined (drop n classes))) (add-one i)
       ∙ ap (λ (b : Option Pair). least_onto b (stranded_among f defined (drop (suc i) classes))) same
       ∙ whole true e
 
   pub unselected_step : item.selected ≡ false → best' ≡ least_onto best (stranded_at f defined item.path item.held) → least_onto best' (stranded_among f defined (drop (i + 1) classes)) ≡ r
   unselected_step e same =
-      ap (λ (n : ℕ). least_onto best' (stranded_among f defined (drop n classes))) (next i)
+      ap (λ (n : ℕ). least_onto best' (stranded_among f defined (drop n classes))) (add-one i)
       ∙ ap (λ (b : Option Pair). least_onto b (stranded_among f defined (drop (suc i) classes))) same
       ∙ whole false e

@@ -9,7 +9,7 @@ ghost use Rattle.desk_graph.specs.Tables.{holds, is_name, HoldsShared, IsKnownBy
 ghost use Rattle.desk_graph.specs.Nodes.{IsTable, firsts, defined_of};
 ghost use Rattle.desk_graph.specs.Clashes.{clash_pair};
 
-use crate::known::Known;
+use crate::known::NameAndImage;
 use crate::names::{holds, put};
 use crate::search::place_in;
 use desk_base::Memory;
@@ -18,7 +18,7 @@ use std::alloc::Global;
 use std::collections::BTreeSet;
 
 /// Whether an image was seen, or is itself a name of a table.
-fn is_met<'a>(known: &[Known], seen: &BTreeSet<Marked<'a>>, image: &'a [u8]) -> bool
+fn is_met<'a>(known: &[NameAndImage], seen: &BTreeSet<Marked<'a>>, image: &'a [u8]) -> bool
     requires { RiseBy (λ k. k.0) known.now }
     ensures { result ≡ (holds seen.now image.now || is_name known.now image.now) }
 {
@@ -27,7 +27,10 @@ fn is_met<'a>(known: &[Known], seen: &BTreeSet<Marked<'a>>, image: &'a [u8]) -> 
 
 /// The images that two names have, or more. A name that doesn't change is its own image, so that only those that change are
 /// looked at.
-fn shared_images<'a>(alloc: Global, known: &'a [Known]) -> Result<BTreeSet<Marked<'a>>, Memory>
+fn shared_images<'a>(
+    alloc: Global,
+    known: &'a [NameAndImage],
+) -> Result<BTreeSet<Marked<'a>>, Memory>
     requires { RiseBy (λ k. k.0) known.now }
     ensures { IfOk result (λ set. HoldsShared (holds set) known.now) }
 {
@@ -47,7 +50,7 @@ fn shared_images<'a>(alloc: Global, known: &'a [Known]) -> Result<BTreeSet<Marke
 }
 
 /// The first other name with the image of a name.
-fn first_other<'a>(known: &'a [Known], one: &Known) -> Option<&'a Known>
+fn first_other<'a>(known: &'a [NameAndImage], one: &NameAndImage) -> Option<&'a NameAndImage>
     ensures { option_copied result ≡ find (meets_known one.now) known.now }
 {
     known.iter().find(|other| one.name() != other.name() && one.image() == other.image())
@@ -56,15 +59,17 @@ fn first_other<'a>(known: &'a [Known], one: &Known) -> Option<&'a Known>
 /// A name that is defined, and another with its image.
 #[derive(Clone, Copy)]
 pub struct NameClash<'a> {
-    pub defined: &'a Known,
-    pub other: &'a Known,
+    /// The name that a class of the application defines.
+    pub defined: &'a NameAndImage,
+    /// The first other name with the same image.
+    pub other: &'a NameAndImage,
 }
 
 /// A name with the first other name that has its image.
 fn clash_of<'a>(
-    known: &'a [Known],
+    known: &'a [NameAndImage],
     shared: &BTreeSet<Marked<'a>>,
-    one: &'a Known,
+    one: &'a NameAndImage,
 ) -> Option<NameClash<'a>>
     requires shared { HoldsShared (holds shared.now) known.now }
     requires there { Contains known.now one.now }
@@ -87,7 +92,7 @@ fn clash_of<'a>(
 /// of memory. It takes the time of a few look-ups for each name.
 pub fn first_clash<'a>(
     alloc: Global,
-    known: &'a [Known],
+    known: &'a [NameAndImage],
     nodes: &[Option<u32>],
 ) -> Result<Option<NameClash<'a>>, Memory>
     requires { IsTable known.now nodes.now }

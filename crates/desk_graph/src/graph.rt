@@ -9,7 +9,7 @@ ghost use Rattle.desk_graph.specs.Refusals.{Refuses};
 ghost use Rattle.desk_graph.specs.declared.graph.GraphFault.TheVariants as graph_faults;
 
 use crate::clashes::first_clash;
-use crate::known::{Known, known_of};
+use crate::known::{NameAndImage, known_of};
 use crate::names::{all_names, held_in_order};
 use crate::nodes::{node_in, nodes_of};
 use crate::scanned::{Scanned, without_paths};
@@ -36,6 +36,7 @@ pub enum GraphFault {
         path: Text,
         name: Text,
     },
+    /// Memory ran out.
     Memory,
 }
 
@@ -52,7 +53,7 @@ impl From<Memory> for GraphFault {
 #[derive(Drop)]
 pub struct ClassGraph<'r> {
     rules: &'r RuleSet,
-    known: Vec<Known>,
+    known: Vec<NameAndImage>,
     nodes: Vec<Option<u32>>,
 }
 

@@ -15,12 +15,12 @@ use std::marker::Model;
 
 /// A class name with its image, which is kept only where it is another text. Contracts see both.
 #[derive(Debug, Drop)]
-pub struct Known {
+pub struct NameAndImage {
     name: Text,
     image: Option<Box<Text>>,
 }
 
-impl Model for Known {
+impl Model for NameAndImage {
     ghost use Rattle.std.specs.Prelude.{unwrap_or, option_map};
     ghost use Rattle.std.specs.Coded.{coded×};
     ghost use Rattle.desk_base.specs.Names.{Text as Bytes};
@@ -36,9 +36,9 @@ impl Model for Known {
     ghost invariant = { λ k. IsOther k.name (option_map (λ image. image.value) k.image) };
 }
 
-impl Known {
+impl NameAndImage {
     /// A name, which is copied, with its image. The only error is want of memory.
-    pub fn new(alloc: Global, rules: &RuleSet, name: &[u8]) -> Result<Known, Memory>
+    pub fn new(alloc: Global, rules: &RuleSet, name: &[u8]) -> Result<NameAndImage, Memory>
         ensures { IfOk result (λ known. known ≡ with_image (cls rules.now.renames) name.now) }
     {
         let image = match rename_class(alloc, rules, name)? {
@@ -46,17 +46,17 @@ impl Known {
             None => None,
         };
         let name = Text::from_bytes(alloc, name)?;
-        Ok(Known { name, image })
+        Ok(NameAndImage { name, image })
     }
 
-    /// The name.
+    /// The class name, with `/` between packages.
     pub fn name(&self) -> &[u8]
         ensures { result.now ≡ self.now.0 }
     {
         self.name.as_bytes()
     }
 
-    /// Its image.
+    /// The class name that it becomes; the name itself where no rule changes it.
     pub fn image(&self) -> &[u8]
         ensures { result.now ≡ self.now.1 }
     {
@@ -66,7 +66,7 @@ impl Known {
         }
     }
 
-    /// Whether the image is another text.
+    /// Whether a rule changes the name.
     pub fn changes(&self) -> bool
         ensures { result ≡ not (bytes_eq self.now.1 self.now.0) }
     {
@@ -74,7 +74,7 @@ impl Known {
     }
 }
 
-impl Named for Known {
+impl Named for NameAndImage {
     ghost name_of = { λ k. k.0 };
 
     fn bytes(&self) -> &[u8] {
@@ -83,12 +83,16 @@ impl Named for Known {
 }
 
 /// Names with their images. Each is copied once. The only error is want of memory.
-pub fn known_of(alloc: Global, rules: &RuleSet, names: Vec<Name<'_>>) -> Result<Vec<Known>, Memory>
+pub fn known_of(
+    alloc: Global,
+    rules: &RuleSet,
+    names: Vec<Name<'_>>,
+) -> Result<Vec<NameAndImage>, Memory>
     ensures { IfOk result (λ list. list.items ≡ map (with_image (cls rules.now.renames)) names.entry.items) }
 {
     let mut list = Vec::with_capacity(alloc, names.len())?;
     for name in names {
-        list.push(Known::new(alloc, rules, name.bytes())?)?;
+        list.push(NameAndImage::new(alloc, rules, name.bytes())?)?;
     }
     Ok(list)
 }

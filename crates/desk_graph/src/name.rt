@@ -32,7 +32,7 @@ impl<'a> Name<'a> {
         Name { bytes }
     }
 
-    /// The bytes.
+    /// The bytes of the name, with `/` between packages.
     pub fn bytes(&self) -> &'a [u8]
         ensures { result.now ≡ self.now }
     {

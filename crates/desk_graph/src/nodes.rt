@@ -4,7 +4,7 @@ ghost use Rattle.std.specs.Prelude.{◌≡◌, IfOk, MatchOption};
 ghost use Rattle.desk_graph.specs.Tables.{IsNowhere, IsPlaceOf, as_is, holds, is_defined};
 ghost use Rattle.desk_graph.specs.Nodes.{IsTable, firsts, defined_of, nodes_from};
 
-use crate::known::Known;
+use crate::known::NameAndImage;
 use crate::name::Name;
 use crate::names::{defined_in, holds};
 use crate::scanned::Scanned;
@@ -48,7 +48,7 @@ pub fn nodes_of<'a>(
 }
 
 /// Where a name stands among the defined names, if it is one.
-pub fn node_in(known: &[Known], nodes: &[Option<u32>], name: &[u8]) -> Option<u32>
+pub fn node_in(known: &[NameAndImage], nodes: &[Option<u32>], name: &[u8]) -> Option<u32>
     requires { IsTable known.now nodes.now }
     ensures { MatchOption result (IsNowhere as_is (defined_of (firsts known.now) nodes.now) name.now) (IsPlaceOf as_is (defined_of (firsts known.now) nodes.now) name.now) }
 {

@@ -12,9 +12,13 @@ use std::alloc::Global;
 /// A class of an application: where it stands, whether it is selected, its name, and the class names that it holds.
 #[derive(Debug, Drop)]
 pub struct Scanned {
+    /// The path of the class file, relative to the root of the source.
     pub path: Text,
+    /// Whether the rules select that path.
     pub selected: bool,
+    /// Its name, with `/` between packages, as `this_class` gives it (JVMS 4.1).
     pub name: Text,
+    /// Each class name that it holds, once, in the order in which they first stand in it.
     pub held: HeldNames,
 }
 

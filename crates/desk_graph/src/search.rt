@@ -7,7 +7,7 @@ ghost use Rattle.desk_graph.specs.Tables.{IsNowhere, IsPlaceOf};
 use desk_base::Text;
 use std::cmp::Ordering;
 
-/// What has a name.
+/// What is found in a table by its name.
 pub trait Named {
     ghost use Rattle.std.specs.Prelude.{ℕ, List};
 

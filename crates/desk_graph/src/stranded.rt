@@ -7,7 +7,7 @@ ghost use Rattle.desk_graph.specs.Strandings.{stranding_pair};
 ghost use Rattle.desk_graph.specs.Tables.{IsKnownBy};
 ghost use Rattle.desk_graph.specs.Nodes.{IsTable, firsts, defined_of};
 
-use crate::known::Known;
+use crate::known::NameAndImage;
 use crate::nodes::node_in;
 use crate::scanned::Scanned;
 use crate::search::place_in;
@@ -17,7 +17,9 @@ use std::cmp::Ordering;
 /// The path of an unselected class, and a defined name that it holds and that changes.
 #[derive(Clone, Copy)]
 pub struct Stranding<'a> {
+    /// The path of the class that isn't selected, relative to the root of the source.
     pub path: &'a Text,
+    /// The name that it holds and that would be renamed away from it, with `/` between packages.
     pub name: &'a [u8],
 }
 
@@ -49,7 +51,7 @@ fn earlier<'a>(best: Option<Stranding<'a>>, other: Stranding<'a>) -> Option<Stra
 }
 
 /// Whether a name is defined and changes.
-fn strands(known: &[Known], nodes: &[Option<u32>], name: &[u8]) -> bool
+fn strands(known: &[NameAndImage], nodes: &[Option<u32>], name: &[u8]) -> bool
     requires { IsTable known.now nodes.now }
     ensures { (f : TextOf → TextOf) → IsKnownBy f known.now → result ≡ strands f (defined_of (firsts known.now) nodes.now) name.now }
 {
@@ -61,7 +63,7 @@ fn strands(known: &[Known], nodes: &[Option<u32>], name: &[u8]) -> bool
 
 /// The earliest of what was found and of what an unselected class holds.
 fn earliest_at<'a>(
-    known: &[Known],
+    known: &[NameAndImage],
     nodes: &[Option<u32>],
     class: &'a Scanned,
     found: Option<Stranding<'a>>,
@@ -89,7 +91,7 @@ fn earliest_at<'a>(
 /// The first unselected class that holds a defined name that changes, and its first such name. It takes no memory, and the
 /// time of a look-up for each name that an unselected class holds.
 pub fn first_stranded<'a>(
-    known: &[Known],
+    known: &[NameAndImage],
     nodes: &[Option<u32>],
     classes: &'a [Scanned],
 ) -> Option<Stranding<'a>>

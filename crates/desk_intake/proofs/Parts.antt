@@ -4,7 +4,8 @@ use Rattle.std.specs.FinMap as fin
 use Rattle.std.specs.Prelude.{All, IfSome}
 use Rattle.std.proofs.lemmas.List.{map-append}
 use Rattle.desk_base.specs.Paths.{full}
-use Rattle.desk_readings.proofs.Fronts.{at_some, if_some, split_at}
+use Rattle.desk_base.proofs.Results.{at_some}
+use Rattle.desk_readings.proofs.Fronts.{if_some, split_at}
 use Rattle.desk_folders.specs.Contents.{Contents, file_at, files_below, paths_below}
 use Rattle.desk_intake.proofs.There.{AllThere, there_at, files_there}
 

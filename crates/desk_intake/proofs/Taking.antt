@@ -1,5 +1,5 @@
 -- Rule files that are taken in, one after another.
-use Rattle.std.proofs.Common.{◌≡◌, ◌≢◌, inl, inr, ℕ, zero, suc, ◌+◌, ◌<◌, ◌≤◌, true, false, List, [], ◌∷◌, ◌++◌, length, Option, Some, None, refl, sym, ap, ◌∙◌, subst, take, drop, get_or, map, arith, IfSome, IfErr, IfOk, Result, Ok, Err, append-nil, drop-cons, Box, Global}
+use Rattle.std.proofs.Common.{◌≡◌, ◌≢◌, inl, inr, ℕ, zero, suc, ◌+◌, ◌<◌, ◌≤◌, true, false, List, [], ◌∷◌, ◌++◌, length, Option, Some, None, refl, sym, ap, ◌∙◌, subst, take, drop, get_or, map, arith, IfSome, IfErr, IfOk, Result, Ok, Err, append-nil, drop-cons, Box, Global, take_all}
 use Rattle.std.specs.Prelude.{if◌then◌else◌, nat_lt}
 use Rattle.std.specs.Cmp.Lexicographic.{slice_cmp}
 use Rattle.std.specs.FinMap as fin
@@ -9,12 +9,14 @@ use Rattle.std.specs.List.Sorted.{IsStrictlySortedBy}
 use Rattle.std.specs.Ordering.{nat_cmp, is_eq}
 use Rattle.std.specs.declared.cmp.Ordering.TheVariants.{Less}
 use Rattle.std.proofs.lemmas.Grind.{flat_map-append}
-use Rattle.std.proofs.lemmas.List.{length-map, map-append, take_more}
+use Rattle.std.proofs.lemmas.List.{length-map, map-append, take_more, drop_all}
 use Rattle.std.proofs.lemmas.Map.Text.{is_eq-slice_cmp}
 use Rattle.std.proofs.lemmas.Slice.Eq.{bytes_eq-Decides}
+use Rattle.std.proofs.lemmas.Bool.{le-ltb}
 use Rattle.desk_base.specs.Names.{Text}
 use Rattle.desk_folders.specs.Contents.{Contents, File, IsListing, file_at, files_below, paths_below}
 use Rattle.desk_base.specs.Counts.{Rose-earlier}
+use Rattle.desk_base.proofs.Results.{at_some}
 use Rattle.desk_ledger.specs.Digests.{HasTaken}
 use Rattle.desk_report.specs.declared.status.Status.{Status}
 use Rattle.desk_report.specs.declared.status.LimitKind.TheVariants.{RuleFiles}
@@ -31,8 +33,8 @@ use Rattle.desk_intake.specs.Rulings.{adding_files, named_files, digest_entry, w
 use Rattle.desk_intake.specs.RuleFolders.{Takes, HasTakenAll, Free}
 use Rattle.desk_intake.specs.Apart.{AllApart, Misses}
 use Rattle.desk_intake.specs.Halts.{HaltsTakingOne, HaltsTaking, HaltsAtRules, HaltsBuilding}
-use Rattle.desk_readings.proofs.Fronts.{at_some, if_some, dropped_all, taken_all}
-use Rattle.desk_intake.proofs.Sizes.{rule_fits, not_more}
+use Rattle.desk_readings.proofs.Fronts.{if_some}
+use Rattle.desk_intake.proofs.Sizes.{rule_fits}
 
 -- names in order differ
 less_differs : (x y : Text) → slice_cmp nat_cmp x y ≡ Less → x ≢ y
@@ -118,7 +120,7 @@ halts_taking root names i name told now f f1 f' (halt.Answer status) le same lt 
 ruled_taken : (root : Text) (m : Contents) (taken : Taken) → HasTakenAll root m taken → length (paths_below root m) ≤ most_rule_files
     → ruled root (files_below root m) ≡ with_digest (flat_map digest_entry (files_below root m)) (rules_of_files taken.files)
 ruled_taken root m taken t few =
-    let count : nat_lt most_rule_files (length (files_below root m)) ≡ false = not_more most_rule_files _ (subst (λ n. n ≤ most_rule_files) (sym (length-map (paths_below root m) (file_at root m))) few) in
+    let count : nat_lt most_rule_files (length (files_below root m)) ≡ false = le-ltb most_rule_files _ (subst (λ n. n ≤ most_rule_files) (sym (length-map (paths_below root m) (file_at root m))) few) in
     ap (λ o. ruled_by o (files_below root m)) (ap (λ b. if b then Some (Limit RuleFiles root) else rule_size_answer (files_below root m)) count ∙ t.small)
     ∙ ap (λ f. with_digest (flat_map digest_entry (files_below root m)) (rules_of_files f)) (sym t.files)
 
@@ -186,10 +188,10 @@ pub all_taken : (root : Text) (told : Option Contents) (names : List Text) (i : 
     → ((m : Contents) → told ≡ Some m → rule_size_answer (map (file_at root m) (drop i names)) ≡ rule_size_answer (files_below root m))
     → IfSome told (λ m. HasTakenAll root m taken)
 all_taken root told names i taken end listed files digest small = if_some _ told (λ m t.
-    let none = dropped_all names i end in
+    let none = drop_all i names end in
     record {
       small = sym (small m t) ∙ ap (λ ns. rule_size_answer (map (file_at root m) ns)) none;
       files = sym (ap (λ ns. adding_files taken.files (map (file_at root m) ns)) none) ∙ files m t;
       digest = subst (λ ns. HasTaken taken.digester (flat_map digest_entry (map (file_at root m) ns)))
-          (taken_all names i end ∙ at_some (λ m. names ≡ paths_below root m) told m t listed) (digest m t);
+          (take_all i names end ∙ at_some (λ m. names ≡ paths_below root m) told m t listed) (digest m t);
     })

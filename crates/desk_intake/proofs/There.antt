@@ -1,5 +1,5 @@
 -- The files below a root are there.
-use Rattle.std.proofs.Common.{◌≡◌, List, [], ◌∷◌, ◌++◌, Option, Some, None, refl, sym, ap, ◌∙◌, true, false, Bool, cond, unwrap_or, append_assoc, is_some, map, eqb, arith}
+use Rattle.std.proofs.Common.{◌≡◌, List, [], ◌∷◌, ◌++◌, Option, Some, None, refl, sym, ap, ◌∙◌, true, false, Bool, unwrap_or, append_assoc, is_some, map, arith}
 use Rattle.std.specs.Prelude.{option_and_then, if◌then◌else◌}
 use Rattle.std.specs.FinMap as fin
 use Rattle.std.specs.Ordering.{nat_cmp, eq_by_cmp}
@@ -7,10 +7,10 @@ use Rattle.std.specs.Cmp.{eq_by_cmp_equiv}
 use Rattle.std.specs.Cmp.Lexicographic.{slice_cmp}
 use Rattle.std.proofs.lemmas.Cmp.{nat_list_cmp_total}
 use Rattle.std.specs.List.{filter_map, list_any}
-use Rattle.std.proofs.lemmas.Bool.Decides.{Decides-eqb}
 use Rattle.desk_base.specs.Names.{Text}
 use Rattle.desk_base.specs.Paths.{full, folder, is_relative_path}
 use Rattle.desk_folders.specs.Contents.{Contents, File, behind, below, relative, file_at, files_below}
+use Rattle.desk_folders.proofs.Below.{behind-is}
 
 -- the files are there with these bytes, at relative paths
 pub record IsThere (root : Text) (m : Contents) (file : File) : Type 0 where
@@ -24,14 +24,6 @@ AllThere root m (file ∷ files) = IsThere root m file × AllThere root m files
 pub there_at : (root : Text) (m : Contents) (a : List File) (file : File) (b : List File) → AllThere root m (a ++ file ∷ b) → IsThere root m file
 there_at root m [] file b h = h.0
 there_at root m (x ∷ a) file b h = there_at root m a file b h.1
-
-behind_is : (front text rest : Text) → behind front text ≡ Some rest → front ++ rest ≡ text
-behind_is [] text rest e = cc
-behind_is (b ∷ front) [] rest e = cc
-behind_is (b ∷ front) (c ∷ text) rest e = at (eqb b c) refl (behind_is front text rest) e where
-  at : (same : Bool) → eqb b c ≡ same → (behind front text ≡ Some rest → front ++ rest ≡ text) → cond same (behind front text) None ≡ Some rest → b ∷ (front ++ rest) ≡ c ∷ text
-  at true s more e = let h = (Decides-eqb b c).0 s in let t = more e in cc
-  at false s more e = cc
 
 -- a relative path below a root, of a full path
 record IsBelow (root path p : Text) : Type 0 where
@@ -48,7 +40,7 @@ below_is root path p e = by (behind (folder root) path) refl e where
   by None f g = cc
   by (Some q) f g =
       let r = relative_is q (is_relative_path q) refl g in
-      record { is = ap (full root) (sym r.0) ∙ behind_is (folder root) path q f; relative = ap is_relative_path (sym r.0) ∙ r.1 }
+      record { is = ap (full root) (sym r.0) ∙ sym (behind-is (folder root) path q f); relative = ap is_relative_path (sym r.0) ∙ r.1 }
 
 -- each of these paths is in the map
 abbrev Held' : Contents → List Text → Type 0

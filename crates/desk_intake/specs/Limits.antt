@@ -1,6 +1,6 @@
 -- What a run takes no more of, and what stands against files that pass it.
 use Rattle.std.specs.Prelude.{ℕ, ◌&&◌, nat_lt, nat_le, List, [], ◌∷◌, length, Option, Some, None, Bool, cond, if◌then◌else◌}
-use Rattle.desk_base.specs.Limits.{file_size}
+use Rattle.desk_base.specs.Limits.{file_size, rule_size}
 use Rattle.desk_base.specs.Names.{Text}
 use Rattle.desk_readings.specs.Sizes.{large_size}
 use Rattle.desk_folders.specs.Contents.{File}
@@ -19,10 +19,6 @@ path_length = 1024
 -- how many files the rule folder may have
 abbrev pub most_rule_files : ℕ
 most_rule_files = 1000
-
--- how many bytes a rule file may have
-abbrev pub rule_size : ℕ
-rule_size = 1048576
 
 abbrev pub is_short : Text → Bool
 is_short text = nat_le (length text) path_length

@@ -6,7 +6,8 @@ use Rattle.desk_base.specs.Names.{Text}
 use Rattle.desk_folders.specs.Contents.{Contents, File, files_below}
 use Rattle.desk_ledger.specs.Digests.{HasTaken}
 use Rattle.desk_rules.specs.Files.{Files}
-use Rattle.desk_intake.specs.Limits.{rule_size, rule_size_answer}
+use Rattle.desk_base.specs.Limits.{rule_size}
+use Rattle.desk_intake.specs.Limits.{rule_size_answer}
 use Rattle.desk_intake.specs.declared.rules.Taken.{Taken}
 use Rattle.desk_intake.specs.Rulings.{digest_entry, named_files}
 

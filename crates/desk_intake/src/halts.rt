@@ -14,11 +14,11 @@ use std::alloc::{AllocError, AllocFailed};
 /// Why a run stops before its first file is written.
 #[derive(Debug, Drop)]
 pub enum Halt {
-    /// Memory ran out.
+    /// Memory ran out (status 10).
     Memory,
-    /// The folders failed.
+    /// A call on the folders failed (status 11).
     Folders,
-    /// The ledger failed.
+    /// A call on the ledger failed (status 12).
     Ledger,
     /// The folders or the ledger stand against the run.
     Answer(Status),

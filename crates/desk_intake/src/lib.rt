@@ -18,14 +18,11 @@ pub use halts::Halt;
 pub use listing::list_routes;
 pub use rules::{Ruled, read_rules};
 
-/// How many files of the source a run takes.
-pub const FILES: u32 = 200_000;
+/// How many files of the source a run takes at most.
+pub const MAX_FILES: u32 = 200_000;
 
-/// How many bytes a relative path or its target may have.
-pub const LENGTH: usize = 1024;
+/// How many bytes a path, relative to its root, may have at most; the same for its target.
+pub const MAX_PATH_LENGTH: usize = 1024;
 
-/// How many files the rule folder may have.
-pub const RULE_FILES: u32 = 1000;
-
-/// How many bytes a rule file may have.
-pub const RULE_SIZE: usize = 1_048_576;
+/// How many files the rule folder may have at most.
+pub const MAX_RULE_FILES: u32 = 1000;

@@ -11,7 +11,7 @@ ghost use Rattle.desk_intake.specs.Routes.{IsRelativeRoute};
 ghost use Rattle.desk_intake.specs.Limits.{first_long, is_short, most_files, paths_answer};
 
 use crate::halts::{Halt, limit};
-use crate::{FILES, LENGTH};
+use crate::{MAX_FILES, MAX_PATH_LENGTH};
 use desk_base::Text;
 use desk_file::{Route, route_of};
 use desk_folders::Folders;
@@ -23,7 +23,7 @@ use std::alloc::Global;
 fn is_short(path: &Text) -> bool
     ensures { result ≡ is_short path.now }
 {
-    path.as_bytes().len() <= LENGTH
+    path.as_bytes().len() <= MAX_PATH_LENGTH
 }
 
 /// The routes of paths, or the first path that is too long.
@@ -65,8 +65,8 @@ pub fn list_routes<F: Folders>(
     ensures err { IfErr result (HaltsWith (λ m. paths_answer from.now (target rules.now) (paths_below from.now m)) (F.told folders.old) (F.faults folders.old) (F.faults folders.new)) }
     ensures counts { F.faults folders.old ≤ F.faults folders.new }
 {
-    let paths = folders.list(from, FILES)?;
-    if paths.len() > FILES as usize {
+    let paths = folders.list(from, MAX_FILES)?;
+    if paths.len() > MAX_FILES as usize {
         return Err(limit(LimitKind::Files, from.clone()?));
     }
     route_all(alloc, rules, paths.into_vec())

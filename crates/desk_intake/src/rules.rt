@@ -14,10 +14,10 @@ ghost use Rattle.desk_intake.specs.Rulings.{digest_entry, ruled, with_digest};
 ghost use Rattle.desk_intake.specs.RuleFolders.{HasTakenAll, Takes};
 ghost use Rattle.desk_second.specs.Second.{AreRules};
 
+use crate::MAX_RULE_FILES;
 use crate::halts::{Halt, limit};
 use crate::sources::read_below;
-use crate::{RULE_FILES, RULE_SIZE};
-use desk_base::Text;
+use desk_base::{MAX_RULE_FILE_SIZE, Text};
 use desk_folders::Folders;
 use desk_ledger::{Digest, Digester};
 use desk_report::{LimitKind, Status};
@@ -85,7 +85,7 @@ fn take_file<F: Folders>(
     ensures counts { F.faults folders.old ≤ F.faults folders.new }
 {
     let name = Text::from_bytes(alloc, path.as_bytes())?;
-    let Some(content) = read_below(alloc, folders, root, path, RULE_SIZE)? else {
+    let Some(content) = read_below(alloc, folders, root, path, MAX_RULE_FILE_SIZE)? else {
         return Err(limit(LimitKind::RuleSize, name));
     };
     digest_file(&mut taken.digester, path, content.as_bytes());
@@ -132,8 +132,8 @@ pub fn read_rules<F: Folders>(
     ensures counts { F.faults folders.old ≤ F.faults folders.new }
     ensures are { IfOk result (λ ruled. AreRules ruled.value.rules) }
 {
-    let paths = folders.list(root, RULE_FILES)?;
-    if paths.len() > RULE_FILES as usize {
+    let paths = folders.list(root, MAX_RULE_FILES)?;
+    if paths.len() > MAX_RULE_FILES as usize {
         return Err(limit(LimitKind::RuleFiles, root.clone()?));
     }
     build(alloc, take_all(alloc, folders, root, paths.as_slice())?)

@@ -59,7 +59,7 @@ fn taken_over(row: OldRow) -> Row
 }
 
 impl Contents {
-    /// No header, and no rows. It takes no memory.
+    /// What a ledger that was just made holds: no header, and no rows. It takes no memory.
     pub fn new(alloc: Global) -> Contents
         ensures { result ≡ record { header = None; rows = fin.empty } }
     {
@@ -94,7 +94,7 @@ impl Contents {
         Ok(self.header.clone()?)
     }
 
-    /// Makes this the header. It takes no memory.
+    /// Sets the header, in place of the one that was there. It takes no memory.
     pub fn set_header(&mut self, header: Header)
         ensures { self.new ≡ with_header header self.old }
     {

@@ -10,7 +10,7 @@ use std::marker::Model;
 #[derive(Clone, Copy, Debug, PartialEq, Eq)]
 pub struct Digest(pub [u8; 32]);
 
-/// The digest of bytes. It takes no memory.
+/// The SHA-256 of bytes that are there at once. It takes no memory.
 pub fn digest_of(bytes: &[u8]) -> Digest
     ensures { result ≡ digest bytes.now }
 {
@@ -32,7 +32,7 @@ impl Model for Digester {
 }
 
 impl Digester {
-    /// A digester that took nothing yet.
+    /// A digester to begin with: it took no byte.
     pub fn new() -> Digester
         ensures { HasTaken result [] }
     {
@@ -41,14 +41,14 @@ impl Digester {
         }
     }
 
-    /// Takes the next part.
+    /// Takes bytes behind those that were taken.
     pub fn update(&mut self, part: &[u8])
         ensures { (taken : List ℕ) → HasTaken self.old taken → HasTaken self.new (taken ++ part.now) }
     {
         self.hasher.update(part);
     }
 
-    /// The digest of the parts joined.
+    /// The SHA-256 of all bytes that were taken, in their order.
     pub fn finish(self) -> Digest
         ensures { (taken : List ℕ) → HasTaken self taken → result ≡ digest taken }
     {

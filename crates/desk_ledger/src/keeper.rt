@@ -46,8 +46,11 @@ impl From<AllocError> for KeeperFault {
 /// Which run a ledger belongs to: the written roots of source and target, and the digest of the rules.
 #[derive(Clone, Debug, Drop)]
 pub struct Header {
+    /// The root of the source, as it is written.
     pub from: Text,
+    /// The root of the target, as it is written.
     pub to: Text,
+    /// The SHA-256 of the rule files.
     pub rules: Digest,
 }
 
@@ -55,17 +58,24 @@ pub struct Header {
 /// the bytes that were written, which a row that was taken over from format 1 lacks.
 #[derive(Clone, Debug, Drop)]
 pub struct Row {
+    /// The path of the target, relative to the root of the target: the row's key.
     pub target: Text,
+    /// The path of the source, relative to the root of the source.
     pub source: Text,
+    /// The SHA-256 of the source's bytes.
     pub digest: Digest,
+    /// The SHA-256 of the bytes that were written; none in a row that was taken over from format 1.
     pub output: Option<Digest>,
 }
 
 /// A row of format 1, the ledger's first: it doesn't say which bytes were written.
 #[derive(Clone, Debug, Drop)]
 pub struct OldRow {
+    /// The path of the target, relative to the root of the target: the row's key.
     pub target: Text,
+    /// The path of the source, relative to the root of the source.
     pub source: Text,
+    /// The SHA-256 of the source's bytes.
     pub digest: Digest,
 }
 
@@ -73,8 +83,11 @@ pub struct OldRow {
 /// the written bytes where it is known.
 #[derive(Clone, Debug, Drop)]
 pub struct Held {
+    /// The path of the source, relative to the root of the source.
     pub source: Text,
+    /// The SHA-256 of the source's bytes.
     pub digest: Digest,
+    /// The SHA-256 of the bytes that were written; none in a row that was taken over from format 1.
     pub output: Option<Digest>,
 }
 

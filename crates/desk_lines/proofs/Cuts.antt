@@ -45,11 +45,6 @@ onward-append p (b ∷ x) y h g =
     ap (λ (c : Bool). cond c (b ∷ (x ++ y)) (onward p (x ++ y))) (not-true (p b) (and_parts _ _ h).0)
     ∙ onward-append p x y (and_parts _ _ h).1 g
 
--- a property of bytes that one of another implies
-pub all_weaker : (p q : ℕ → Bool) → ((b : ℕ) → p b ≡ true → q b ≡ true) → (t : Text) → list_all p t ≡ true → list_all q t ≡ true
-all_weaker p q w [] h = refl
-all_weaker p q w (b ∷ t) h = and_from _ _ (w b (and_parts _ _ h).0) (all_weaker p q w t (and_parts _ _ h).1)
-
 -- the first byte that passes ends what stands before it
 pub until_length : (p : ℕ → Bool) (t : Text) (i : ℕ) → i ≤ length t → ((k : ℕ) → k < i → p (get_or t k 0) ≡ false) → (i < length t → p (get_or t i 0) ≡ true) → i ≡ length (until p t)
 until_length p [] i within before at = omega arith

@@ -1,5 +1,5 @@
 -- The first line of a text, by the first byte that is CR or LF.
-use Rattle.std.proofs.Common.{◌≡◌, ℕ, zero, suc, ◌+◌, ◌<◌, ◌≤◌, Bool, true, false, cond, not, ◌&&◌, ◌||◌, ◌==◌, [], ◌∷◌, ◌++◌, length, take, drop, slice_index, refl, ap, sym, ◌∙◌, arith, take-append-drop, drop_of_length-le, le_refl}
+use Rattle.std.proofs.Common.{◌≡◌, ℕ, zero, suc, ◌+◌, ◌<◌, ◌≤◌, Bool, true, false, cond, not, ◌&&◌, ◌||◌, ◌==◌, [], ◌∷◌, ◌++◌, length, take, drop, slice_index, refl, ap, sym, ◌∙◌, arith, take-append-drop, drop_of_length-le, le_refl, add-zero}
 use Rattle.std.proofs.lemmas.List.{drop_more}
 use Rattle.std.proofs.Math.Seq.{take-length}
 use Rattle.std.proofs.lemmas.Bool.{and_from, and_parts, both_ways, eqb-true}
@@ -74,9 +74,6 @@ first_cr t i h f e g = first_cr_at t i (omega (arith, h)) f e (ap begins_10 (dro
 pub first_cr_last : (t : Text) (i : ℕ) → i < length t → length t ≤ i + 1 → is_one_line (take i t) ≡ true → slice_index t i ≡ 13 → IsFirstEnd t i ends.Cr
 first_cr_last t i h k f e = first_cr_at t i h f e (ap begins_10 (drop_of_length-le t k))
 
-plus_none : (n : ℕ) → n + 0 ≡ n
-plus_none n = omega arith
-
 pub first_open : (t : Text) → 0 < length t → is_one_line (take (length t) t) ≡ true → IsFirstEnd t (length t) ends.EndOfText
 first_open [] h f = absurd (omega (arith, h))
 first_open (b ∷ t) h f = record {
@@ -85,7 +82,7 @@ first_open (b ∷ t) h f = record {
   same = lines_unended b t (ap is_one_line (sym (take-length (b ∷ t))) ∙ f)
       ∙ ap (λ (s : Text). line s ends.EndOfText ∷ []) (sym (take-length (b ∷ t)))
       ∙ ap (λ (s : Text). line (take (length (b ∷ t)) (b ∷ t)) ends.EndOfText ∷ lines s) (sym (drop_of_length-le (b ∷ t) (le_refl (length (b ∷ t)))))
-      ∙ ap (λ (n : ℕ). line (take (length (b ∷ t)) (b ∷ t)) ends.EndOfText ∷ lines (drop n (b ∷ t))) (sym (plus_none (length (b ∷ t))));
+      ∙ ap (λ (n : ℕ). line (take (length (b ∷ t)) (b ∷ t)) ends.EndOfText ∷ lines (drop n (b ∷ t))) (sym (add-zero (length (b ∷ t))));
 }
 
 pub lf_from : (b : ℕ) → is_byte2 10 13 b ≡ true → (b == 13) ≡ false → b ≡ 10

@@ -1,12 +1,13 @@
 -- Blanks at the ends of texts.
 use Rattle.std.proofs.Common.{◌≡◌, ◌<◌, ◌≤◌, ◌+◌, ◌-◌, ℕ, zero, suc, Bool, true, false, cond, not, ◌&&◌, ◌||◌, [], ◌∷◌, ◌++◌, length, take, get_or, refl, ap, sym, ◌∙◌, arith, length-append}
 use Rattle.std.specs.List.{list_all, list_any}
-use Rattle.std.proofs.lemmas.Bool.{and_parts, and_from, not-true, not-false}
+use Rattle.std.proofs.lemmas.Bool.{and_parts, and_from, not-true, not-false, and_right}
 use Rattle.std.proofs.lemmas.List.{take_more}
 use Rattle.desk_base.specs.Names.{Text, is_empty}
+use Rattle.desk_base.proofs.Lists.{all_weaker}
 use Rattle.desk_lines.specs.Cuts.{onward, stops}
 use Rattle.desk_lines.specs.Blanks.{is_blank, not_blank, trimmed_end, trailing_blanks, leading_blanks, trimmed, IsTrimmed}
-use Rattle.desk_lines.proofs.Cuts.{until-onward, fails-until, stops-onward, all_weaker}
+use Rattle.desk_lines.proofs.Cuts.{until-onward, fails-until, stops-onward}
 
 pub trimmed-trailing : (t : Text) → trimmed_end t ++ trailing_blanks t ≡ t
 trimmed-trailing [] = refl
@@ -55,10 +56,6 @@ pub trimmed_blank_end : (t : Text) (b : ℕ) → is_blank b ≡ true → trimmed
 trimmed_blank_end [] b h = ap (λ (c : Bool). cond c [] (b ∷ [])) (and_from _ _ h refl)
 trimmed_blank_end (a ∷ t) b h = ap (λ (s : Text). cond (is_blank a && is_empty s) [] (a ∷ s)) (trimmed_blank_end t b h)
 
-and_false : (c d : Bool) → d ≡ false → (c && d) ≡ false
-and_false true d h = h
-and_false false d h = refl
-
 filled_end : (t : Text) (b : ℕ) → is_empty (t ++ b ∷ []) ≡ false
 filled_end [] b = refl
 filled_end (a ∷ t) b = refl
@@ -68,7 +65,7 @@ pub trimmed_other_end : (t : Text) (b : ℕ) → is_blank b ≡ false → trimme
 trimmed_other_end [] b h = ap (λ (c : Bool). cond c [] (b ∷ [])) (ap (λ (c : Bool). c && true) h)
 trimmed_other_end (a ∷ t) b h =
     ap (λ (s : Text). cond (is_blank a && is_empty s) [] (a ∷ s)) (trimmed_other_end t b h)
-    ∙ ap (λ (c : Bool). cond c [] (a ∷ (t ++ b ∷ []))) (and_false (is_blank a) _ (filled_end t b))
+    ∙ ap (λ (c : Bool). cond c [] (a ∷ (t ++ b ∷ []))) (and_right (is_blank a) _ (filled_end t b))
 
 end_of : (text : Text) (end : ℕ) → 0 < end → end ≤ length text → take end text ≡ take (end - 1) text ++ get_or text (end - 1) 0 ∷ []
 end_of text zero some within = absurd (omega arith)
@@ -90,8 +87,8 @@ trim_none text (suc n) none so_far = absurd (omega arith)
 
 -- ---- trimmed texts
 
-not_not : (b : ℕ) → not (not_blank b) ≡ true → is_blank b ≡ true
-not_not b h = not-false _ (not-true _ h)
+pub blank_from_not : (b : ℕ) → not (not_blank b) ≡ true → is_blank b ≡ true
+blank_from_not b h = not-false _ (not-true _ h)
 
 begins_same : (t : Text) → stops not_blank t ≡ true → stops not_blank (trimmed_end t) ≡ true
 begins_same [] h = refl
@@ -110,7 +107,7 @@ is_trimmed t = record {
   front = leading_blanks t;
   back = trailing_blanks (onward not_blank t);
   whole = ap (λ (s : Text). leading_blanks t ++ s) (trimmed-trailing (onward not_blank t)) ∙ until-onward not_blank t;
-  front_blank = all_weaker (λ b. not (not_blank b)) is_blank not_not (leading_blanks t) (fails-until not_blank t);
+  front_blank = all_weaker (λ b. not (not_blank b)) is_blank blank_from_not (leading_blanks t) (fails-until not_blank t);
   back_blank = all_blank (onward not_blank t);
   begins = begins_same (onward not_blank t) (stops-onward not_blank t);
   ends = trimmed_again (onward not_blank t);

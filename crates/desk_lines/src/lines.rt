@@ -19,17 +19,17 @@ pub enum LineEnd {
     CrLf,
 }
 
-/// A line of a text.
+/// A line of a text, with the bytes that end it.
 #[derive(Clone, Copy, Debug, PartialEq, Eq)]
 pub struct Line<'a> {
     /// The bytes before its end. None of them is CR or LF.
     pub content: &'a [u8],
-    /// How it ends.
+    /// Which bytes end it.
     pub end: LineEnd,
 }
 
 impl LineEnd {
-    /// The bytes of the end.
+    /// The bytes that stand at the end of such a line; none at the end of the text.
     pub fn as_bytes(self) -> &'static [u8]
         ensures { result.now ≡ end_bytes self }
     {

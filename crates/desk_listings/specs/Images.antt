@@ -2,11 +2,12 @@
 use Rattle.std.specs.Prelude.{ℕ, Bool, true, false, cond, not, ◌&&◌, ◌||◌, ◌==◌, List, [], ◌∷◌, ◌++◌, map, length, take, drop, Option, Some, None, codes, ◌-◌}
 use Rattle.std.specs.List.{slice_split, ends_with}
 use Rattle.std.specs.Str.{bytes_eq}
-use Rattle.desk_base.specs.Names.{Text, segments, written, dot, is_dotted, is_empty}
+use Rattle.desk_base.specs.Names.{Text, dot, is_dotted, is_empty}
 use Rattle.desk_lines.specs.Blanks.{trimmed}
-use Rattle.desk_packages.specs.Renames.{Renaming, pkg}
+use Rattle.desk_packages.specs.Renames.{Renaming}
 use Rattle.desk_rules.specs.Rules.{Rules, Update, Versions, TextMap}
 use Rattle.desk_rules.specs.RuleSets.{version_of, changing_update}
+use Rattle.desk_rules.specs.Images.{package_written}
 use Rattle.desk_clauses.specs.Quotes.{with_marks}
 use Rattle.desk_clauses.specs.Grammar.{clauses, value_text, is_parameter, argument, is_attribute, is_directive, between_blanks, with_argument, is_in_grammar, first_path, is_quoted, unquoted, quoted}
 use Rattle.desk_listings.specs.declared.listings.Listing.{Listing}
@@ -16,7 +17,7 @@ use Rattle.desk_listings.specs.declared.listings.Listing.TheVariants.{Imports, E
 
 -- a package that is written with dots
 abbrev pub package_image : List Renaming → Text → Text
-package_image renames name = written dot (pkg renames (segments dot name))
+package_image = package_written dot
 
 -- how many bytes of a path are its package: a dotted name is one, and so is what stands before `.*` where that is a dotted name
 abbrev pub package_length : Text → Option ℕ

@@ -13,7 +13,7 @@ use desk_lines::trim_blanks;
 use desk_rules::RuleSet;
 use std::alloc::Global;
 
-/// What a header lists.
+/// What a header of a bundle lists (OSGi Core 3.2.1), by which its paths and versions are renamed.
 #[derive(Clone, Copy, Debug, PartialEq, Eq)]
 pub enum Listing {
     /// Packages that a bundle needs: Import-Package, DynamicImport-Package.

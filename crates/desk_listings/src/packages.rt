@@ -1,48 +1,19 @@
 //! Packages that are written with dots, alone or in lists, and their new versions.
 
-ghost use Rattle.std.specs.Prelude.{◌≡◌, ◌++◌, ◌==◌, ◌≤◌, IfOk, OnOk, length, IfSome, [], ◌∷◌};
+ghost use Rattle.std.specs.Prelude.{◌≡◌, ◌==◌, ◌≤◌, IfOk, length, IfSome, [], ◌∷◌};
 ghost use Rattle.std.specs.Option.{option_copied};
 ghost use Rattle.std.specs.List.{slice_split};
-ghost use Rattle.desk_base.specs.Names.{written, dot};
 ghost use Rattle.desk_rules.specs.Images.{IsImage};
 ghost use Rattle.desk_rules.specs.Sides.{exports};
-ghost use Rattle.desk_listings.specs.Images.{package_image, package_length, package_path, package_version, changed_version, item_image, list_image, uses_image};
+ghost use Rattle.desk_listings.specs.Images.{package_length, package_path, package_version, changed_version, item_image, list_image, uses_image};
 
 use desk_base::{Memory, Text};
 use desk_clauses::{Edits, between_blanks, image_or_none, is_quoted, quoted, split_first_item};
 use desk_lines::trim_blanks;
 use desk_names::is_dotted;
-use desk_packages::Separator;
+use desk_rename::rename_dotted_package;
 use desk_rules::{RuleSet, Side};
 use std::alloc::Global;
-
-/// Appends a package with a dot between its segments. The only error is want of memory; a part may have been appended then.
-fn append_segments(out: &mut Text, segments: &[Text]) -> Result<(), Memory>
-    ensures { OnOk result (out.new ≡ out.old ++ written dot segments.now) }
-{
-    for (i, segment) in segments.iter().enumerate() {
-        if i > 0 {
-            out.push(b'.')?;
-        }
-        out.append(segment.as_bytes())?;
-    }
-    Ok(())
-}
-
-/// The image of a package; none exactly where it is the package itself. The only error is want of memory.
-fn rename_package(alloc: Global, rules: &RuleSet, package: &[u8]) -> Result<Option<Text>, Memory>
-    ensures { IfOk result (IsImage «package».now (package_image rules.now.renames «package».now)) }
-{
-    match rules.package(package, Separator::Dot) {
-        None => Ok(None),
-        Some(front) => {
-            let mut image = Text::empty(alloc);
-            append_segments(&mut image, front.segments.as_slice())?;
-            image.append(&package[front.taken..])?;
-            Ok(Some(image))
-        }
-    }
-}
 
 /// How many bytes of a path are its package: a dotted name is one, and so is what stands before `.*`.
 fn package_length(path: &[u8]) -> Option<usize>
@@ -69,7 +40,7 @@ pub(crate) fn rename_package_path(
 {
     match package_length(path) {
         None => Ok(None),
-        Some(n) => match rename_package(alloc, rules, &path[..n])? {
+        Some(n) => match rename_dotted_package(alloc, rules, &path[..n])? {
             None => Ok(None),
             Some(mut image) => {
                 image.append(&path[n..])?;
@@ -88,7 +59,7 @@ fn changed_version<'r>(
 ) -> Result<Option<&'r [u8]>, Memory>
     ensures { IfOk result (λ version. option_copied version ≡ changed_version rules.now (exports side) «package».now) }
 {
-    match rename_package(alloc, rules, package)? {
+    match rename_dotted_package(alloc, rules, package)? {
         None => Ok(None),
         Some(image) => Ok(rules.version(image.as_bytes(), side)),
     }
@@ -117,7 +88,7 @@ fn rename_item(alloc: Global, rules: &RuleSet, item: &[u8]) -> Result<Option<Tex
     if !is_dotted(name) {
         return Ok(None);
     }
-    match rename_package(alloc, rules, name)? {
+    match rename_dotted_package(alloc, rules, name)? {
         None => Ok(None),
         Some(image) => {
             let image = between_blanks(alloc, item, image.as_bytes())?;

@@ -86,7 +86,7 @@ struct Paths {
 
 /// A file of a long name, and whether it was made.
 #[derive(Drop)]
-struct Found {
+struct FoundFile {
     file: File,
     is_new: bool,
 }
@@ -94,21 +94,21 @@ struct Found {
 impl Paths {
     /// Opens the file where it stands: under its own name, under the short one, where a killed process left it there, or
     /// nowhere, so that it is made.
-    fn find(&self, rt: &HostRuntime, has_log: bool) -> Result<Found, Refusal> {
+    fn find(&self, rt: &HostRuntime, has_log: bool) -> Result<FoundFile, Refusal> {
         if let Some(file) = open_found(rt, self.own.as_str(), has_log)? {
-            return Ok(Found {
+            return Ok(FoundFile {
                 file,
                 is_new: false,
             });
         }
         if let Some(file) = open_found(rt, self.short.as_str(), has_log)? {
-            return Ok(Found {
+            return Ok(FoundFile {
                 file,
                 is_new: false,
             });
         }
         let file = make(rt, self.short.as_str())?;
-        Ok(Found { file, is_new: true })
+        Ok(FoundFile { file, is_new: true })
     }
 
     /// Gives a file that is locked its short name alone, and answers whether it had that alone before. Where it has
@@ -173,7 +173,7 @@ impl Shortened {
         ensures { IfOk result (λ file. file ≡ string_bytes short) }
     {
         let paths = Paths { own, short };
-        let Found { file, is_new } = paths.find(rt, has_log)?;
+        let FoundFile { file, is_new } = paths.find(rt, has_log)?;
         lock(&file)?;
         match paths.shorten(rt, &file) {
             Ok(had_short) => Ok(Shortened {

@@ -1,4 +1,5 @@
 -- A header's lines, as they are grouped, counted and joined.
+use mathlib.Core.Bool.{and-false}
 use Rattle.std.proofs.Common.{◌≡◌, ◌≤◌, ◌+◌, ℕ, Bool, true, false, cond, not, ◌&&◌, List, [], ◌∷◌, ◌++◌, length, drop, Option, Some, None, refl, sym, ap, ap₂, ◌∙◌, arith, append_assoc, append-nil, length-append}
 use Rattle.std.specs.List.{list_all}
 use Rattle.std.proofs.lemmas.Bool.{and_parts, and_from, not-true}
@@ -8,14 +9,7 @@ use Rattle.desk_lines.specs.Lines.{Line, line, end_bytes, joined}
 use Rattle.desk_sections.specs.Sections.{is_continuation, is_header_line, Item, section_end, header, Grouped, put, grouped, item_lines, is_bad_line, first_bad_line, last_end}
 use Rattle.desk_sections.specs.Folding.{further_lines, folded_lines, folded_bytes}
 use Rattle.desk_sections.specs.Reading.{begins_anew, end_behind}
-
-filled : (content : Text) → is_continuation content ≡ true → is_empty content ≡ false
-filled [] h = absurd cc
-filled (b ∷ t) h = refl
-
-filled_header : (content : Text) → is_header_line content ≡ true → is_empty content ≡ false
-filled_header [] h = absurd cc
-filled_header (b ∷ t) h = refl
+use Rattle.desk_manifest_laws.proofs.Grouping.{filled_header, filled_further}
 
 no_further : (content : Text) → is_header_line content ≡ true → is_continuation content ≡ false
 no_further content h = not-true _ (and_parts _ _ h).0
@@ -23,7 +17,7 @@ no_further content h = not-true _ (and_parts _ _ h).0
 -- a line that continues
 pub put_further : (l : Line) (g : Grouped) → is_continuation l.content ≡ true → put l g ≡ record { further = l ∷ g.further; items = g.items }
 put_further l g h =
-    ap (λ (b : Bool). cond b (record { further = []; items = section_end l.end ∷ g.items }) (cond (is_continuation l.content) (record { further = l ∷ g.further; items = g.items }) (record { further = []; items = header (l ∷ g.further) ∷ g.items }))) (filled l.content h)
+    ap (λ (b : Bool). cond b (record { further = []; items = section_end l.end ∷ g.items }) (cond (is_continuation l.content) (record { further = l ∷ g.further; items = g.items }) (record { further = []; items = header (l ∷ g.further) ∷ g.items }))) (filled_further l.content h)
     ∙ ap (λ (b : Bool). cond b (record { further = l ∷ g.further; items = g.items }) (record { further = []; items = header (l ∷ g.further) ∷ g.items })) h
 
 -- an empty line
@@ -58,7 +52,7 @@ pub bad_further : (at : ℕ) (f ls : List Line) → list_all (λ l. is_continuat
 bad_further at [] ls h = let e : at + 0 ≡ at = omega arith in ap (λ (n : ℕ). first_bad_line true n ls) (sym e)
 bad_further at (l ∷ f) ls h =
     let c : is_continuation l.content ≡ true = (and_parts _ _ h).0 in
-    let e : is_empty l.content ≡ false = filled l.content c in
+    let e : is_empty l.content ≡ false = filled_further l.content c in
     let here : is_bad_line true l.content ≡ false = ap₂ (λ (x y : Bool). not x && not (cond y true (is_header_line l.content))) e c in
     let size : length (l.content ++ (end_bytes l.end ++ joined f)) ≡ length (l.content ++ end_bytes l.end) + length (joined f) =
     ap length (sym (append_assoc l.content (end_bytes l.end) (joined f))) ∙ length-append (l.content ++ end_bytes l.end) (joined f) in
@@ -78,12 +72,8 @@ bad_anew at (l ∷ ls) h = ap (λ (b : Bool). cond b (Some at) (first_bad_line (
 pub bad_header : (at : ℕ) (l : Line) (ls : List Line) → is_header_line l.content ≡ true → first_bad_line false at (l ∷ ls) ≡ first_bad_line true (at + length (l.content ++ end_bytes l.end)) ls
 bad_header at l ls h =
     let e : is_empty l.content ≡ false = filled_header l.content h in
-    let here : is_bad_line false l.content ≡ false = ap₂ (λ (x y : Bool). not (is_empty l.content) && not (cond x false y)) (no_further l.content h) h ∙ and_none (not (is_empty l.content)) in
+    let here : is_bad_line false l.content ≡ false = ap₂ (λ (x y : Bool). not (is_empty l.content) && not (cond x false y)) (no_further l.content h) h ∙ and-false (not (is_empty l.content)) in
     ap₂ (λ (x y : Bool). cond x (Some at) (first_bad_line (not y) (at + length (l.content ++ end_bytes l.end)) ls)) here e
-  where
-    and_none : (b : Bool) → (b && false) ≡ false
-    and_none true = refl
-    and_none false = refl
 
 pub bad_empty : (at : ℕ) (l : Line) (ls : List Line) → is_empty l.content ≡ true → first_bad_line false at (l ∷ ls) ≡ first_bad_line false (at + length (l.content ++ end_bytes l.end)) ls
 bad_empty at l ls h = ap (λ (b : Bool). cond (not b && not (cond (is_continuation l.content) false (is_header_line l.content))) (Some at) (first_bad_line (not b) (at + length (l.content ++ end_bytes l.end)) ls)) h

@@ -7,10 +7,10 @@ use Rattle.std.specs.Char.{to_ascii_lowercase}
 use Rattle.std.proofs.lemmas.Slice.Eq.{bytes_eq-Decides}
 use Rattle.std.proofs.lemmas.Bool.{cases_Bool, or_cases, both_ways}
 use Rattle.desk_base.specs.Names.{Text, is_dotted}
+use Rattle.desk_base.proofs.Lists.{all_weaker}
 use Rattle.desk_lines.specs.Lines.{is_one_line}
 use Rattle.desk_lines.specs.Cuts.{stops}
 use Rattle.desk_lines.specs.Blanks.{not_blank, trimmed_end, trimmed}
-use Rattle.desk_lines.proofs.Cuts.{all_weaker}
 use Rattle.desk_lines.proofs.Trimming.{is_trimmed}
 use Rattle.desk_sections.specs.Folding.{begins_character}
 use Rattle.desk_sections.specs.Sections.{Item, section_end, header, name_of, value_of}
@@ -26,7 +26,7 @@ use Rattle.desk_manifest_laws.proofs.Trimmed.{trimmed-between, between_again, un
 use Rattle.desk_manifest_laws.proofs.Plain.{is_plain, plain_unblank}
 use Rattle.desk_manifest_laws.proofs.PathImages.{dotted_plain, new_version_formed}
 use Rattle.desk_manifest_laws.proofs.Listings.{listing_again, identity_quiet}
-use Rattle.desk_manifest_laws.proofs.Spaced.{listing_spaced, identity_spaced}
+use Rattle.desk_manifest_laws.proofs.Spaced.{listing_spaced, identity_spaced, cond_onto}
 use Rattle.desk_manifest_laws.proofs.Flat.{listing_flat, flat_between, flat_trimmed, version_flat}
 use Rattle.desk_manifest_laws.proofs.SpacedPaths.{path_again, path_flat, path_spaced, dotted_flat}
 use Rattle.desk_manifest.specs.declared.kinds.HeaderKind.{HeaderKind}
@@ -61,11 +61,7 @@ module _ (rules : Rules) (is : IsRuleSet rules) where
       either false x y e = e
 
   class_spaced : (value : Text) → class_value rules (32 ∷ value) ≡ 32 ∷ class_value rules value
-  class_spaced value = onto (has_tab value) value (between_blanks (dotted rules.renames (trimmed value)) value)
-    where
-      onto : (c : Bool) (x y : Text) → cond c (32 ∷ x) (32 ∷ y) ≡ 32 ∷ cond c x y
-      onto true x y = refl
-      onto false x y = refl
+  class_spaced value = cond_onto (has_tab value) value (between_blanks (dotted rules.renames (trimmed value)) value)
 
   class_flat : (value : Text) → is_one_line value ≡ true → is_one_line (class_value rules value) ≡ true
   class_flat value h = elim (has_tab value) as (λ (c : Bool). is_one_line (cond c value (between_blanks (dotted rules.renames (trimmed value)) value)) ≡ true) [

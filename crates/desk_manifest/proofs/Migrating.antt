@@ -6,6 +6,7 @@ use Rattle.std.proofs.lemmas.List.{take_at, drop_at, drop-drop}
 use Rattle.std.proofs.lemmas.Bool.{and_parts, not-true, false_from_ne_true}
 use Rattle.desk_base.specs.Names.{Text, is_empty}
 use Rattle.desk_base.specs.declared.Changed.{Changed}
+use Rattle.desk_base.proofs.Lists.{empty_is, added_on}
 use Rattle.desk_rules.specs.Rules.{Rules}
 use Rattle.desk_lines.specs.declared.lines.LineEnd.{LineEnd}
 use Rattle.desk_lines.specs.Lines.{Line, line, lines, end_bytes, joined}
@@ -17,6 +18,7 @@ use Rattle.desk_sections.specs.Sections.{is_colon, is_continuation, is_header_li
 use Rattle.desk_sections.specs.Folding.{folded_lines}
 use Rattle.desk_sections.specs.Reading.{begins_anew, end_behind, IsContinued}
 use Rattle.desk_sections.proofs.Headed.{joined_append}
+use Rattle.desk_manifest_laws.proofs.Grouping.{filled_header}
 use Rattle.desk_manifest.specs.Manifests.{bundle_version, fold_end, Images, images_of, is_changed, header_image, refolded, images, count_changed, migrated, manifest_by, manifest}
 use Rattle.desk_manifest.specs.Reading.{header_bytes}
 use Rattle.desk_manifest.proofs.Grouped.{put_empty, put_header, grouped_further, bad_further, bad_anew, bad_header, bad_empty, bad_other, last_is, joined_folded}
@@ -82,7 +84,7 @@ passed text rest front more inside ahead whole =
 pub empty_line : (image : Images) (fold : LineEnd) (text rest : Text) (edits : Edits) (changed : ℕ) (main : Bool) → IsMigratedTo image fold text rest edits changed main
     → (content : Text) (end : LineEnd) (more : Text) → lines rest ≡ line content end ∷ lines more → rest ≡ content ++ (end_bytes end ++ more) → is_empty content ≡ true → IsMigratedTo image fold text more edits changed false
 empty_line image fold text rest edits changed main k content end more same whole none =
-    let no : content ≡ [] = no_bytes content none in
+    let no : content ≡ [] = empty_is content none in
     let p = passed text rest (end_bytes end) more k.inside k.ahead (whole ∙ ap (λ (t : Text). t ++ (end_bytes end ++ more)) no) in
     let items : items_of rest ≡ section_end end ∷ items_of more = ap (λ (ls : List Line). (grouped ls).items) same ∙ ap (λ (g : Grouped). g.items) (put_empty (line content end) (grouped (lines more)) none) in
     let stay = kept text edits (length text - length rest) (length text - length more) k.copied (omega (arith, p.at_is)) in
@@ -102,10 +104,6 @@ empty_line image fold text rest edits changed main k content end more same whole
           let next : at + length (content ++ end_bytes end) ≡ length text - length more = omega (arith, size, p.at_is) in
           sym (ap (first_bad_line false at) same ∙ bad_empty at (line content end) (lines more) none ∙ ap (λ (n : ℕ). first_bad_line false n (lines more)) next) ∙ k.good;
     }
-  where
-    no_bytes : (t : Text) → is_empty t ≡ true → t ≡ []
-    no_bytes [] h = refl
-    no_bytes (b ∷ t) h = absurd cc
 
 -- a header's lines, at the front of the rest
 pub record AtHeader (rest content : Text) (end : LineEnd) (more : Text) (last : LineEnd) (behind : Text) : Type 0 where
@@ -113,10 +111,6 @@ pub record AtHeader (rest content : Text) (end : LineEnd) (more : Text) (last : 
   pub whole : rest ≡ content ++ (end_bytes end ++ more)
   pub is_header : is_header_line content ≡ true
   pub continued : IsContinued more end last behind
-
-filled_header : (content : Text) → is_header_line content ≡ true → is_empty content ≡ false
-filled_header [] h = absurd cc
-filled_header (b ∷ t) h = refl
 
 record HeaderFront (text rest content : Text) (end : LineEnd) (more : Text) (last : LineEnd) (behind : Text) (k : AtHeader rest content end more last behind) : Type 0 where
   front : Passed text rest (joined (line content end ∷ k.continued.further)) behind
@@ -180,7 +174,7 @@ one_header image fold text rest edits changed main so_far content end more last 
           ∙ ap (λ (is : List Item). edited text edits at ++ image_bytes image fold main is) (sym h.items)
           ∙ so_far.bytes_are;
       changed_are =
-          sums changed n (count_changed image main (items_of behind)) count (count_changed image main (items_of rest)) (count_changed image true (items_of text)) count_is
+          added_on changed n (count_changed image main (items_of behind)) count (count_changed image main (items_of rest)) (count_changed image true (items_of text)) count_is
           (ap (count_changed image main) h.items ∙ ap (λ (m : ℕ). m + count_changed image main (items_of behind)) (sym n_is)) so_far.changed_are;
       good = sym h.good ∙ so_far.good;
     }
@@ -188,9 +182,6 @@ one_header image fold text rest edits changed main so_far content end more last 
     some_bytes : (t : Text) → is_empty t ≡ false → 1 ≤ length t
     some_bytes [] h = absurd cc
     some_bytes (b ∷ t) h = omega arith
-
-    sums : (a b c d e f : ℕ) → d ≡ a + b → e ≡ b + c → a + e ≡ f → d + c ≡ f
-    sums a b c d e f h k l = omega arith
 
 -- a header whose value stays
 pub header_stays : (image : Images) (fold : LineEnd) (text rest : Text) (edits : Edits) (changed : ℕ) (main : Bool) → IsMigratedTo image fold text rest edits changed main

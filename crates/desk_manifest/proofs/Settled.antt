@@ -1,10 +1,9 @@
 -- A manifest's image is its own image, and nothing of it is changed.
-use Rattle.std.proofs.Common.{◌≡◌, ℕ, ◌+◌, ◌≤◌, Bool, true, false, cond, not, ◌&&◌, ◌==◌, List, [], ◌∷◌, ◌++◌, length, take, drop, Option, None, refl, ap, ap₂, sym, subst, ◌∙◌, ◌⊎◌, inl, inr, take-append-drop}
+use Rattle.std.proofs.Common.{◌≡◌, ℕ, ◌+◌, ◌≤◌, Bool, true, false, cond, not, ◌&&◌, List, [], ◌∷◌, ◌++◌, length, take, drop, Option, None, refl, ap, ap₂, sym, subst, ◌∙◌, ◌⊎◌, inl, inr, take-append-drop}
 use Rattle.std.specs.List.{list_all}
 use Rattle.std.specs.Str.{bytes_eq}
 use Rattle.std.proofs.lemmas.Slice.Eq.{bytes_eq-Decides}
 use Rattle.std.proofs.lemmas.Bool.{and_parts, and_from}
-use Rattle.std.proofs.lemmas.List.Folds.{list_all-append}
 use Rattle.desk_base.specs.Names.{Text, is_empty}
 use Rattle.desk_lines.specs.declared.lines.LineEnd.{LineEnd}
 use Rattle.desk_lines.specs.declared.lines.LineEnd.TheVariants as ends
@@ -16,6 +15,7 @@ use Rattle.desk_sections.specs.Folding.{begins_character, pieces, folded_lines}
 use Rattle.desk_sections.specs.Sections.{is_colon, is_colon_and_space, is_header_line, Item, section_end, header, Grouped, grouped, item_lines, first_bad_line, name_of, unfolded, value_of, last_end}
 use Rattle.desk_manifest_laws.proofs.Folding.{is_header, is_proper, Read, read-folded, pieces_flat, is_ended, ends_other, formed_folded}
 use Rattle.desk_manifest_laws.proofs.Grouping.{is_good, GroupedWell, grouped_well, filled_header, grouped-items, good_none}
+use Rattle.desk_manifest_laws.proofs.Flat.{flat_parts, flat_both}
 use Rattle.desk_manifest.specs.Manifests.{or_cr_lf, fold_end, Images, is_changed, refolded, header_image, images, count_changed, migrated}
 
 -- images that later images keep
@@ -31,12 +31,6 @@ lines_flat = list_all (λ l. is_one_line l.content)
 flat_lines : (ls more : List Line) → are_well_ended (ls ++ more) ≡ true → lines_flat ls ≡ true
 flat_lines [] more h = refl
 flat_lines (l ∷ ls) more h = and_from _ _ (and_parts _ _ h).0 (flat_lines ls more (and_parts _ _ (and_parts _ _ h).1).1)
-
-flat_parts : (x y : Text) → is_one_line (x ++ y) ≡ true → (is_one_line x ≡ true) × (is_one_line y ≡ true)
-flat_parts x y h = and_parts _ _ (sym (list_all-append (λ b. not (b == 10) && not (b == 13)) x y) ∙ h)
-
-flat_both : (x y : Text) → is_one_line x ≡ true → is_one_line y ≡ true → is_one_line (x ++ y) ≡ true
-flat_both x y h g = list_all-append (λ b. not (b == 10) && not (b == 13)) x y ∙ and_from _ _ h g
 
 flat_drop : (k : ℕ) (t : Text) → is_one_line t ≡ true → is_one_line (drop k t) ≡ true
 flat_drop k t h = (flat_parts (take k t) (drop k t) (ap is_one_line (take-append-drop k t) ∙ h)).1

@@ -18,13 +18,15 @@ use std::alloc::Global;
 
 /// A header: its first line, cut, and the continuation lines behind it.
 #[derive(Clone, Copy)]
-pub(crate) struct Header<'a> {
+pub(crate) struct ManifestHeader<'a> {
+    /// The line that names the header.
     pub(crate) first: HeaderLine<'a>,
+    /// The continuation lines with their line ends, as they stand in the file; empty where there are none.
     pub(crate) further: &'a [u8],
 }
 
 /// The value of a header that has continuation lines. The only error is want of memory.
-pub(crate) fn unfolded_value(alloc: Global, header: Header<'_>) -> Result<Text, Memory>
+pub(crate) fn unfolded_value(alloc: Global, header: ManifestHeader<'_>) -> Result<Text, Memory>
     ensures { IfOk result (λ value. value ≡ header.entry.first.value.now ++ unfolded (lines header.entry.further.now)) }
 {
     let mut value = Text::from_bytes(alloc, header.first.value)?;
@@ -38,7 +40,7 @@ fn rename_unfolded(
     rules: &RuleSet,
     version: Option<&[u8]>,
     kind: HeaderKind,
-    header: Header<'_>,
+    header: ManifestHeader<'_>,
 ) -> Result<Option<Text>, Memory>
     ensures { IfOk result (IsImage (header.entry.first.value.now ++ unfolded (lines header.entry.further.now))
         (value_image rules.now (option_copied version.entry) kind (header.entry.first.value.now ++ unfolded (lines header.entry.further.now)))) }
@@ -62,7 +64,7 @@ pub(crate) fn rename_header(
     rules: &RuleSet,
     version: Option<&[u8]>,
     main: bool,
-    header: Header<'_>,
+    header: ManifestHeader<'_>,
     between: LineEnd,
     last: LineEnd,
 ) -> Result<Option<Text>, Memory>

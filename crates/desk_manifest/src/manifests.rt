@@ -11,13 +11,13 @@ ghost use Rattle.desk_manifest.specs.Reading.{begins_identity};
 ghost use Rattle.desk_manifest.specs.Manifests.{manifest, bundle_version, fold_end, ManifestStays};
 ghost use Rattle.desk_manifest.specs.Faults.{IsManifestFault};
 
-use crate::headers::{Header, rename_header, unfolded_value};
+use crate::ManifestFault;
+use crate::headers::{ManifestHeader, rename_header, unfolded_value};
 use crate::kinds::is_named;
 use desk_base::{Changed, Memory};
 use desk_clauses::Edits;
 use desk_lines::{LineEnd, split_first_line};
 use desk_listings::identity_version;
-use desk_metainf::MetaFault;
 use desk_rules::RuleSet;
 use desk_sections::{cut_header_line, is_continuation, is_header_line, skip_continuations};
 use std::alloc::Global;
@@ -54,7 +54,7 @@ fn version_of_identity<'r>(
         identity_version rules.now (drop 2 (onward is_colon content.now) ++ unfolded (grouped (lines more.now)).further)) }
 {
     let behind = skip_continuations(more, LineEnd::EndOfText);
-    let header = Header {
+    let header = ManifestHeader {
         first: cut_header_line(content),
         further: &more[..more.len() - behind.rest.len()],
     };
@@ -91,7 +91,11 @@ fn bundle_version<'r>(
 /// another image is written as its name, `: ` and that image, in lines of at most 72 bytes, cut between characters, with the line
 /// end of the file's first line, or CR LF where it has none, between them; all other bytes stay. The only other error is want of
 /// memory. The image is its own image, without a changed header.
-pub fn migrate_manifest(alloc: Global, rules: &RuleSet, text: &[u8]) -> Result<Changed, MetaFault>
+pub fn migrate_manifest(
+    alloc: Global,
+    rules: &RuleSet,
+    text: &[u8],
+) -> Result<Changed, ManifestFault>
     requires { length text.now ≤ file_size }
     ensures image { IfOk result (λ new. manifest rules.now text.now ≡ Ok new) }
     ensures refused { IfErr result (IsManifestFault rules.now text.now) }
@@ -112,7 +116,7 @@ pub fn migrate_manifest(alloc: Global, rules: &RuleSet, text: &[u8]) -> Result<C
         } else if is_header_line(line.content) {
             let behind = skip_continuations(more, line.end);
             let to = text.len() - behind.rest.len();
-            let header = Header {
+            let header = ManifestHeader {
                 first: cut_header_line(line.content),
                 further: &more[..more.len() - behind.rest.len()],
             };
@@ -124,7 +128,7 @@ pub fn migrate_manifest(alloc: Global, rules: &RuleSet, text: &[u8]) -> Result<C
             }
             rest = behind.rest;
         } else {
-            return Err(MetaFault::BadLine { at: from as u32 });
+            return Err(ManifestFault::BadLine { at: from as u32 });
         }
     }
     let bytes = edits.into_text(text)?;

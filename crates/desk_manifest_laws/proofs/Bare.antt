@@ -6,7 +6,9 @@ use Rattle.desk_base.specs.Names.{Text, is_empty}
 use Rattle.desk_clauses.specs.Quotes.{next, is_outside, is_closed, onto_first, cut, before_mark, from_mark, with_marks}
 use Rattle.desk_clauses.specs.Grammar.{parts, clauses, clause_text, value_text}
 use Rattle.desk_clauses.specs.declared.quotes.Quoting.{Quoting}
-use Rattle.desk_clauses.specs.declared.quotes.Quoting.TheVariants.{Outside, Quoted, Escaped}
+use Rattle.desk_clauses.specs.declared.quotes.Quoting.TheVariants.{Outside, Quoted}
+use Rattle.desk_clauses.proofs.Walked.{cut_filled}
+use Rattle.desk_clauses.proofs.Firsts.{outside_is}
 
 -- how a reader stands behind a text
 abbrev pub after : Quoting → Text → Quoting
@@ -35,11 +37,6 @@ bare_parts mark at (b ∷ x) y h =
 pub closed_after : (at : Quoting) (t : Text) → is_closed at t ≡ is_outside (after at t)
 closed_after at [] = refl
 closed_after at (b ∷ t) = closed_after (next at b) t
-
-pub outside_is : (at : Quoting) → is_outside at ≡ true → at ≡ Outside
-outside_is Outside h = refl
-outside_is Quoted h = absurd cc
-outside_is Escaped h = absurd cc
 
 -- a text without such a mark, behind which no quote is open
 abbrev pub stands : ℕ → Quoting → Text → Bool
@@ -102,17 +99,6 @@ pub marks_onto : (mark b : ℕ) (ps : List Text) → with_marks mark (onto_first
 marks_onto mark b [] = refl
 marks_onto mark b (p ∷ []) = refl
 marks_onto mark b (p ∷ q ∷ ps) = refl
-
-onto_filled : (b : ℕ) (ps : List Text) → is_empty (onto_first b ps) ≡ false
-onto_filled b [] = refl
-onto_filled b (p ∷ ps) = refl
-
-pub cut_filled : (mark : ℕ) (at : Quoting) (t : Text) → is_empty (cut mark at t) ≡ false
-cut_filled mark at [] = refl
-cut_filled mark at (b ∷ t) = elim (is_outside at && b == mark) as (λ (c : Bool). is_empty (cond c ([] ∷ cut mark at t) (onto_first b (cut mark (next at b) t))) ≡ false) [
-  | true ↦ refl
-  | false ↦ onto_filled b (cut mark (next at b) t)
-]
 
 marked : (mark : ℕ) (at : Quoting) (more : Text) → is_outside at ≡ true → cut mark at (mark ∷ more) ≡ [] ∷ cut mark at more
 marked mark at more h = ap (λ (c : Bool). cond c ([] ∷ cut mark at more) (onto_first mark (cut mark (next at mark) more))) (and_from _ _ h (eq-eqb mark mark refl))

@@ -6,10 +6,10 @@ use Rattle.std.specs.Str.{bytes_eq}
 use Rattle.std.proofs.lemmas.Bool.{and_parts, and_from}
 use Rattle.std.proofs.lemmas.List.Folds.{list_all-append}
 use Rattle.desk_base.specs.Names.{Text, is_dotted}
+use Rattle.desk_base.proofs.Lists.{all_weaker}
 use Rattle.desk_lines.specs.Lines.{rest, is_one_line}
 use Rattle.desk_lines.specs.Cuts.{onward}
 use Rattle.desk_lines.specs.Blanks.{is_blank, not_blank, leading_blanks, trailing_blanks, trimmed}
-use Rattle.desk_lines.proofs.Cuts.{all_weaker}
 use Rattle.desk_lines.proofs.Trimming.{all_blank}
 use Rattle.desk_entries.specs.Forms.{is_version, is_version_byte}
 use Rattle.desk_rules.specs.Rules.{Rules}

@@ -1,5 +1,5 @@
 -- What a folded header says when it is read.
-use Rattle.std.proofs.Common.{◌≡◌, ℕ, zero, suc, ◌+◌, ◌-◌, ◌≤◌, Bool, true, false, cond, not, ◌&&◌, ◌==◌, nat_le, List, [], ◌∷◌, ◌++◌, length, take, drop, refl, ap, sym, subst, ◌∙◌, append-nil, ◌⊎◌, inl, inr, arith, take-append-drop, replicate}
+use Rattle.std.proofs.Common.{◌≡◌, ℕ, zero, suc, ◌+◌, ◌-◌, ◌≤◌, Bool, true, false, cond, not, ◌&&◌, ◌==◌, nat_le, List, [], ◌∷◌, ◌++◌, length, take, drop, refl, ap, sym, subst, ◌∙◌, append-nil, ◌⊎◌, inl, inr, arith, take-append-drop, replicate, add-one}
 use Rattle.std.specs.List.{list_all}
 use Rattle.std.proofs.Math.Seq.{take-append-add, drop-append-add}
 use Rattle.std.proofs.lemmas.Bool.{and_parts, and_from, not-true, both_ways, cases_lt}
@@ -123,10 +123,7 @@ value_place n v e = ap begins_character (ap (λ (i : ℕ). drop i (n ++ (58 ∷ 
 
 -- the colon is followed by a space, at which a character begins
 colon_place : (n v : Text) → begins_character (drop (suc (length n)) (n ++ (58 ∷ 32 ∷ v))) ≡ true
-colon_place n v = ap begins_character (ap (λ (i : ℕ). drop i (n ++ (58 ∷ 32 ∷ v))) (one_more (length n)) ∙ drop-append-add n (58 ∷ 32 ∷ v) 1)
-  where
-    one_more : (m : ℕ) → suc m ≡ m + 1
-    one_more m = omega arith
+colon_place n v = ap begins_character (ap (λ (i : ℕ). drop i (n ++ (58 ∷ 32 ∷ v))) (sym (add-one (length n))) ∙ drop-append-add n (58 ∷ 32 ∷ v) 1)
 
 abbrev pub is_header : List Line → Bool
 is_header [] = false

@@ -1,8 +1,9 @@
 -- Lines none of which is bad, as items and back.
-use Rattle.std.proofs.Common.{◌≡◌, ℕ, ◌+◌, Bool, true, false, cond, not, ◌&&◌, List, [], ◌∷◌, ◌++◌, length, Option, Some, None, refl, ap, ap₂, sym, ◌∙◌, append-nil}
+use Rattle.std.proofs.Common.{◌≡◌, ℕ, ◌+◌, Bool, true, false, cond, not, ◌&&◌, List, [], ◌∷◌, ◌++◌, length, Some, None, refl, ap, ap₂, sym, ◌∙◌, append-nil}
 use Rattle.std.specs.List.{list_all}
 use Rattle.std.proofs.lemmas.Bool.{and_parts, and_from, not-true, not-false, both_ways}
 use Rattle.desk_base.specs.Names.{Text, is_empty}
+use Rattle.desk_base.proofs.Bools.{none_parts}
 use Rattle.desk_lines.specs.declared.lines.LineEnd.{LineEnd}
 use Rattle.desk_lines.specs.Lines.{Line, line, end_bytes}
 use Rattle.desk_sections.specs.Sections.{is_continuation, is_header_line, Item, section_end, header, Grouped, put, grouped, item_lines, is_bad_line, first_bad_line}
@@ -24,10 +25,6 @@ pub record GroupedWell (inside : Bool) (ls : List Line) (g : Grouped) : Type 0 w
   pub further : all_further g.further ≡ true
   pub outside : inside ≡ false → g.further ≡ []
   pub same : g.further ++ item_lines g.items ≡ ls
-
-good_here : (bad : Bool) (at : ℕ) (more : Option ℕ) → cond bad (Some at) more ≡ None → (bad ≡ false) × (more ≡ None)
-good_here true at more h = absurd cc
-good_here false at more h = (refl, h)
 
 put_empty : (inside : Bool) (content : Text) (end : LineEnd) (ls : List Line) (g : Grouped) → is_empty content ≡ true → GroupedWell false ls g → GroupedWell inside (line content end ∷ ls) (record { further = []; items = section_end end ∷ g.items })
 put_empty inside [] end ls g h w = record {
@@ -67,10 +64,10 @@ put_well inside l ls g h w = elim (is_empty l.content) as (λ (t : Bool). is_emp
 pub grouped_well : (inside : Bool) (at : ℕ) (ls : List Line) → first_bad_line inside at ls ≡ None → GroupedWell inside ls (grouped ls)
 grouped_well inside at [] h = record { good = refl; further = refl; outside = λ e. refl; same = refl }
 grouped_well inside at (l ∷ ls) h =
-    let k : (is_bad_line inside l.content ≡ false) × (first_bad_line (not (is_empty l.content)) (at + length (l.content ++ end_bytes l.end)) ls ≡ None) = good_here (is_bad_line inside l.content) at (first_bad_line (not (is_empty l.content)) (at + length (l.content ++ end_bytes l.end)) ls) h in
+    let k : (is_bad_line inside l.content ≡ false) × (first_bad_line (not (is_empty l.content)) (at + length (l.content ++ end_bytes l.end)) ls ≡ None) = none_parts (is_bad_line inside l.content) at (first_bad_line (not (is_empty l.content)) (at + length (l.content ++ end_bytes l.end)) ls) h in
     put_well inside l ls (grouped ls) k.0 (grouped_well (not (is_empty l.content)) (at + length (l.content ++ end_bytes l.end)) ls k.1)
 
-filled_further : (content : Text) → is_continuation content ≡ true → is_empty content ≡ false
+pub filled_further : (content : Text) → is_continuation content ≡ true → is_empty content ≡ false
 filled_further [] h = absurd cc
 filled_further (b ∷ content) h = refl
 

@@ -6,10 +6,10 @@ use Rattle.std.specs.Str.{bytes_eq}
 use Rattle.std.proofs.lemmas.Bool.{cases_Bool, and_parts, and_from, not-true, eqb-true, both_ways}
 use Rattle.std.proofs.lemmas.List.Folds.{list_all-append}
 use Rattle.desk_base.specs.Names.{Text, is_empty}
+use Rattle.desk_base.proofs.Lists.{all_weaker}
 use Rattle.desk_lines.specs.Lines.{rest}
 use Rattle.desk_lines.specs.Cuts.{onward}
 use Rattle.desk_lines.specs.Blanks.{is_blank, not_blank, leading_blanks, trailing_blanks, trimmed}
-use Rattle.desk_lines.proofs.Cuts.{all_weaker}
 use Rattle.desk_lines.proofs.Trimming.{all_blank, is_trimmed}
 use Rattle.desk_entries.specs.Forms.{is_version, is_version_byte}
 use Rattle.desk_rules.specs.Rules.{Rules}
@@ -19,9 +19,10 @@ use Rattle.desk_clauses.specs.Grammar.{is_parameter, key, argument, ends_in_colo
 use Rattle.desk_clauses.specs.declared.quotes.Quoting.{Quoting}
 use Rattle.desk_clauses.specs.declared.quotes.Quoting.TheVariants.{Outside, Quoted, Escaped}
 use Rattle.desk_clauses.proofs.Between.{between_own}
+use Rattle.desk_clauses.proofs.Firsts.{before_from, outside_is}
 use Rattle.desk_listings.specs.Images.{uses_image, is_export, path_image, path_version, version_name, versioned, parameter_image, part_image}
 use Rattle.desk_listings.specs.declared.listings.Listing.{Listing}
-use Rattle.desk_manifest_laws.proofs.Bare.{after, bare, after-append, bare_both, bare_parts, outside_is, is_inner, before_bare, none_bare, bare_before, outside_before}
+use Rattle.desk_manifest_laws.proofs.Bare.{after, bare, after-append, bare_both, bare_parts, is_inner, before_bare, none_bare, bare_before, outside_before}
 use Rattle.desk_manifest_laws.proofs.Trimmed.{trimmed-between, between_again, unblank_trimmed, leading_blank}
 use Rattle.desk_manifest_laws.proofs.Plain.{is_mild, is_plain, is_quotable, version_quotable, blank_mild, plain_mild, plain_unblank, after_mild, bare_mild, after_quoted, bare_quoted, IsMark, comma, semicolon, equals}
 use Rattle.desk_manifest_laws.proofs.PathImages.{kept_same, made_plain, PathKept, path_kept}
@@ -111,13 +112,6 @@ version_all v h = all_weaker is_version_byte is_quotable version_quotable v (and
 
 -- ---- parameters
 
-mark_whole : (mark : ℕ) (at : Quoting) (t : Text) → before_mark mark at t ++ from_mark mark at t ≡ t
-mark_whole mark at [] = refl
-mark_whole mark at (b ∷ t) = elim (is_outside at && b == mark) as (λ (c : Bool). cond c [] (b ∷ before_mark mark (next at b) t) ++ cond c (b ∷ t) (from_mark mark (next at b) t) ≡ b ∷ t) [
-  | true ↦ refl
-  | false ↦ ap (λ (s : Text). b ∷ s) (mark_whole mark (next at b) t)
-]
-
 equals_first : (at : Quoting) (t : Text) → is_empty (from_mark 61 at t) ≡ false → from_mark 61 at t ≡ 61 ∷ rest (from_mark 61 at t)
 equals_first at [] h = absurd cc
 equals_first at (b ∷ t) h = elim (is_outside at && b == 61) as (λ (c : Bool). (is_outside at && b == 61) ≡ c → is_empty (cond c (b ∷ t) (from_mark 61 (next at b) t)) ≡ false → cond c (b ∷ t) (from_mark 61 (next at b) t) ≡ 61 ∷ rest (cond c (b ∷ t) (from_mark 61 (next at b) t))) [
@@ -147,7 +141,7 @@ read_argument part a h =
 
 -- a parameter is its front, `=` and its argument
 pub own_argument : (part : Text) → is_parameter part ≡ true → with_argument (argument part) part ≡ part
-own_argument part h = ap (λ (t : Text). front_of part ++ t) (sym (equals_first Outside part (not-true _ h))) ∙ mark_whole 61 Outside part
+own_argument part h = ap (λ (t : Text). front_of part ++ t) (sym (equals_first Outside part (not-true _ h))) ∙ before_from 61 Outside part
 
 equals_bare : (mark : ℕ) → IsCutMark mark → (a : Text) → bare mark Outside (61 ∷ a) ≡ bare mark Outside a
 equals_bare mark between_clauses a = refl

@@ -10,10 +10,10 @@ use Rattle.std.proofs.lemmas.List.Folds.{list_all-append}
 use Rattle.std.proofs.lemmas.Slice.Eq.{bytes_eq-Decides, ends_is}
 use Rattle.std.proofs.lemmas.Bool.Decides.{Decides-eqb}
 use Rattle.desk_base.specs.Names.{Text, Package, segments, written, dot, is_dotted, is_empty, is_identifier, is_identifier_byte}
-use Rattle.desk_packages.specs.Renames.{Renaming, pkg, pick, renamed_by, in_scope, is_rename}
-use Rattle.desk_packages.proofs.Picks.{Found, pick_Some, all_In}
+use Rattle.desk_base.proofs.Lists.{all_weaker}
+use Rattle.desk_packages.specs.Renames.{Renaming, pkg}
 use Rattle.desk_packages.proofs.Cuts.{segments_written}
-use Rattle.desk_packages.proofs.Bytes.{each_byte}
+use Rattle.desk_packages.proofs.FilledImages.{pkg_filled}
 use Rattle.desk_entries.specs.Forms.{is_symbolic_name, is_symbolic_byte}
 use Rattle.desk_rules.specs.Rules.{Rules, Update, Versions}
 use Rattle.desk_rules.specs.RuleSets.{IsRuleSet, AreVersions, IsVersionOrNone, IsUpdate, version_of, changing_update, only_other_name}
@@ -26,19 +26,6 @@ use Rattle.desk_listings.specs.declared.listings.Listing.TheVariants.{Imports, E
 use Rattle.desk_manifest_laws.proofs.Plain.{is_plain, identifier_plain, symbolic_plain, no_byte}
 
 -- ---- packages
-
-pkg_filled : (rs : List Renaming) → list_all is_rename rs ≡ true → (p : Package) → not (is_empty p) ≡ true → not (is_empty (pkg rs p)) ≡ true
-pkg_filled rs formed p h =
-    elim (pick rs p) as (λ (o : Option Renaming). pick rs p ≡ o → not (is_empty (renamed_by o p)) ≡ true) [
-      | None ↦ λ q. h
-      | Some r ↦ λ q.
-          let f : Found (λ (r : Renaming). in_scope r p) rs r = pick_Some rs p r q in
-          joined_filled r.target (drop (length r.source) p) (and_parts _ _ (and_parts _ _ (all_In is_rename rs r formed f.there)).1).0
-    ] refl
-  where
-    joined_filled : (xs ys : Package) → not (is_empty xs) ≡ true → not (is_empty (xs ++ ys)) ≡ true
-    joined_filled [] ys k = absurd cc
-    joined_filled (x ∷ xs) ys k = refl
 
 -- the image of a dotted name, as a package
 pub record PackageImage (renames : List Renaming) (name : Text) : Type 0 where
@@ -190,7 +177,7 @@ filled_name : (t : Text) → is_symbolic_name t ≡ true → is_empty t ≡ fals
 filled_name t h = not-true (is_empty t) (and_parts _ _ h).0
 
 symbolic_all : (t : Text) → is_symbolic_name t ≡ true → list_all is_plain t ≡ true
-symbolic_all t h = each_byte is_symbolic_byte is_plain symbolic_plain t (and_parts _ _ h).1
+symbolic_all t h = all_weaker is_symbolic_byte is_plain symbolic_plain t (and_parts _ _ h).1
 
 -- what becomes of a bundle's name
 abbrev pub new_name : Rules → Text → Text

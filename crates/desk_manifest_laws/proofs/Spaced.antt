@@ -14,7 +14,7 @@ use Rattle.desk_listings.specs.Images.{uses_image, is_export, path_image, versio
 use Rattle.desk_listings.specs.declared.listings.Listing.{Listing}
 use Rattle.desk_manifest_laws.proofs.Bare.{marks_onto, cut_first}
 
-cond_onto : (c : Bool) (x y : Text) → cond c (32 ∷ x) (32 ∷ y) ≡ 32 ∷ cond c x y
+pub cond_onto : (c : Bool) (x y : Text) → cond c (32 ∷ x) (32 ∷ y) ≡ 32 ∷ cond c x y
 cond_onto true x y = refl
 cond_onto false x y = refl
 

@@ -8,20 +8,22 @@ use Rattle.std.proofs.lemmas.List.Splits.{join_with_byte-slice_split}
 use Rattle.std.proofs.lemmas.Slice.Eq.{bytes_eq-Decides, ends_is}
 use Rattle.std.proofs.lemmas.Bool.Decides.{Decides-eqb}
 use Rattle.desk_base.specs.Names.{Text, Package, written, slash, front, simple, is_empty, is_identifier, is_identifier_byte, is_dotted}
+use Rattle.desk_base.proofs.Lists.{all_weaker}
+use Rattle.desk_base.proofs.Separated.{split_filled}
+use Rattle.desk_base.proofs.Bools.{same_answer}
 use Rattle.desk_lines.specs.Lines.{rest, is_one_line}
 use Rattle.desk_sections.specs.Folding.{is_inner, begins_character}
 use Rattle.desk_packages.specs.Renames.{Renaming, pkg, pick, renamed_by, in_scope, is_rename}
 use Rattle.desk_packages.proofs.Same.{covers_is}
 use Rattle.desk_packages.proofs.Picks.{Found, pick_Some, all_In}
 use Rattle.desk_packages.proofs.Cuts.{front_simple}
-use Rattle.desk_packages.proofs.Bytes.{each_byte}
 use Rattle.desk_rules.specs.Rules.{Rules}
 use Rattle.desk_rules.specs.RuleSets.{IsRuleSet}
 use Rattle.desk_rules.specs.Images.{dotted}
 use Rattle.desk_rules.proofs.Laws.{packages_stay, dotted_stay, dotted_keep_form}
 use Rattle.desk_rules.proofs.Forms.{pkg_all, front_all}
 use Rattle.desk_paths.specs.Paths.{parts, folders, is_archive, has_classes, is_number, ends_root, root_count, root_length, Cut, cut, path_of, is_service, moved, renamed_path}
-use Rattle.desk_paths.proofs.Stays.{split_filled, renamed_stays}
+use Rattle.desk_paths.proofs.Stays.{renamed_stays}
 use Rattle.desk_manifest_laws.proofs.Plain.{is_plain, no_byte, identifier_plain}
 use Rattle.desk_manifest_laws.proofs.PathImages.{dotted_plain}
 use Rattle.desk_manifest_laws.proofs.Flat.{is_flat, flat_both, plain_flat}
@@ -56,7 +58,7 @@ all_parts n xs h = and_parts _ _ (sym (list_all-append is_one_line (take n xs) (
 
 identifier_flat : (t : Text) → is_identifier t ≡ true → is_one_line t ≡ true
 identifier_flat [] h = refl
-identifier_flat (b ∷ t) h = plain_flat (b ∷ t) (each_byte is_identifier_byte is_plain identifier_plain (b ∷ t) (and_parts _ _ h).1)
+identifier_flat (b ∷ t) h = plain_flat (b ∷ t) (all_weaker is_identifier_byte is_plain identifier_plain (b ∷ t) (and_parts _ _ h).1)
 
 pub dotted_flat : (rules : Rules) → IsRuleSet rules → (t : Text) → is_one_line t ≡ true → is_one_line (dotted rules.renames t) ≡ true
 dotted_flat rules is t h = elim (cases_Bool (is_dotted t)) [
@@ -127,13 +129,8 @@ count_same b d (f ∷ fs) q r =
     (ap₂ (λ (m n : Bool). is_archive f || (bytes_eq f (codes "classes") && m) || (is_number f && n && bytes_eq [] (codes "META-INF"))) (q.classes ∙ sym r.classes) (q.versions ∙ sym r.versions))
 
 spaced_end : (x : Text) (c : ℕ) (s : Text) → (c == 32) ≡ false → ends_with ◌==◌ (32 ∷ x) (c ∷ s) ≡ ends_with ◌==◌ x (c ∷ s)
-spaced_end x c s odd = both_same (ends_with ◌==◌ (32 ∷ x) (c ∷ s)) (ends_with ◌==◌ x (c ∷ s)) there back
+spaced_end x c s odd = same_answer (ends_with ◌==◌ (32 ∷ x) (c ∷ s)) (ends_with ◌==◌ x (c ∷ s)) there back
   where
-    both_same : (u v : Bool) → (u ≡ true → v ≡ true) → (v ≡ true → u ≡ true) → u ≡ v
-    both_same true v h g = sym (h refl)
-    both_same false true h g = g refl
-    both_same false false h g = refl
-
     shorter : (front : Text) → 32 ∷ x ≡ front ++ c ∷ s → ends_with ◌==◌ x (c ∷ s) ≡ true
     shorter [] e = let first : 32 ≡ c = cc in absurd (both_ways (c == 32) odd (ap (λ (k : ℕ). k == 32) (sym first)))
     shorter (b ∷ front) e = (ends_is Decides-eqb x (c ∷ s) (ends_with ◌==◌ x (c ∷ s)) refl).1 front (ap rest e)

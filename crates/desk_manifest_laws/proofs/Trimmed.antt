@@ -1,20 +1,18 @@
 -- A text between the blanks of another.
-use Rattle.std.proofs.Common.{◌≡◌, ℕ, Bool, true, cond, not, ◌&&◌, [], ◌∷◌, ◌++◌, refl, sym, ap, ◌∙◌}
+use Rattle.std.proofs.Common.{◌≡◌, Bool, true, cond, not, ◌&&◌, [], ◌∷◌, ◌++◌, refl, sym, ap, ◌∙◌}
 use Rattle.std.specs.List.{list_all}
-use Rattle.std.proofs.lemmas.Bool.{and_parts, not-true, not-false}
+use Rattle.std.proofs.lemmas.Bool.{and_parts, not-true}
 use Rattle.desk_base.specs.Names.{Text, is_empty}
+use Rattle.desk_base.proofs.Lists.{all_weaker}
 use Rattle.desk_lines.specs.Cuts.{onward, stops}
 use Rattle.desk_lines.specs.Blanks.{is_blank, not_blank, leading_blanks, trailing_blanks, trimmed_end, trimmed}
-use Rattle.desk_lines.proofs.Cuts.{fails-until, all_weaker}
-use Rattle.desk_lines.proofs.Trimming.{all_blank, trimmed_end-append}
+use Rattle.desk_lines.proofs.Cuts.{fails-until}
+use Rattle.desk_lines.proofs.Trimming.{all_blank, trimmed_end-append, blank_from_not}
 use Rattle.desk_clauses.specs.Grammar.{between_blanks}
 use Rattle.desk_clauses.proofs.Between.{between_own}
 
-not_not : (b : ℕ) → not (not_blank b) ≡ true → is_blank b ≡ true
-not_not b h = not-false _ (not-true _ h)
-
 pub leading_blank : (t : Text) → list_all is_blank (leading_blanks t) ≡ true
-leading_blank t = all_weaker (λ b. not (not_blank b)) is_blank not_not (leading_blanks t) (fails-until not_blank t)
+leading_blank t = all_weaker (λ b. not (not_blank b)) is_blank blank_from_not (leading_blanks t) (fails-until not_blank t)
 
 onward_behind : (w t : Text) → list_all is_blank w ≡ true → onward not_blank (w ++ t) ≡ onward not_blank t
 onward_behind [] t h = refl

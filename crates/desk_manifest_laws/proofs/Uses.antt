@@ -5,15 +5,14 @@ use Rattle.std.proofs.lemmas.Bool.{cases_Bool, and_parts, and_from, both_ways, f
 use Rattle.std.proofs.lemmas.List.Folds.{list_all-append}
 use Rattle.std.proofs.lemmas.List.Splits.{join_with_byte-slice_split}
 use Rattle.desk_base.specs.Names.{Text, is_dotted, is_empty, is_whole}
+use Rattle.desk_base.proofs.Lists.{all_weaker}
+use Rattle.desk_base.proofs.Separated.{split_whole, split_filled}
 use Rattle.desk_lines.specs.Lines.{rest}
 use Rattle.desk_lines.specs.Cuts.{onward, stops}
 use Rattle.desk_lines.specs.Blanks.{is_blank, not_blank, leading_blanks, trailing_blanks, trimmed_end, trimmed}
-use Rattle.desk_lines.proofs.Cuts.{all_weaker}
 use Rattle.desk_lines.proofs.Trimming.{all_blank}
 use Rattle.desk_packages.specs.Renames.{Renaming}
 use Rattle.desk_packages.proofs.Cuts.{split_written}
-use Rattle.desk_packages.proofs.Segments.{split_whole}
-use Rattle.desk_paths.proofs.Stays.{split_filled}
 use Rattle.desk_rules.specs.Rules.{Rules}
 use Rattle.desk_rules.specs.RuleSets.{IsRuleSet}
 use Rattle.desk_rules.proofs.DottedBytes.{dotted_filled}

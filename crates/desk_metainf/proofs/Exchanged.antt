@@ -5,6 +5,7 @@ use Rattle.std.proofs.lemmas.Bool.{false_from_ne_true}
 use Rattle.std.proofs.lemmas.Slice.Eq.{bytes_eq-Decides}
 use Rattle.std.proofs.lemmas.List.{take_at, drop_at, drop-drop}
 use Rattle.desk_base.specs.Names.{Text, is_empty}
+use Rattle.desk_base.proofs.Lists.{empty_is}
 use Rattle.desk_lines.specs.Cuts.{until, onward}
 use Rattle.desk_lines.specs.Blanks.{not_blank, trailing_blanks, leading_blanks}
 use Rattle.desk_metainf.specs.Services.{is_hash, provider, with_provider, line_image, is_changed}
@@ -59,10 +60,6 @@ line_cut content from to place =
       name_is = ap (λ (t : Text). take (to - from) (drop from t)) parts ∙ cut.name_is;
       more_is = ap (drop to) parts ∙ cut.more_is;
     }
-
-empty_is : (t : Text) → is_empty t ≡ true → t ≡ []
-empty_is [] h = refl
-empty_is (b ∷ t) h = absurd cc
 
 -- also a line without a provider has the image of nothing in its place
 line_image_with : (image : Text → Text) → image [] ≡ [] → (content : Text) → line_image image content ≡ with_provider (image (provider content)) content

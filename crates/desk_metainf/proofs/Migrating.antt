@@ -4,6 +4,7 @@ use Rattle.std.specs.List.{list_all, list_any}
 use Rattle.std.proofs.lemmas.Bool.{and_from, eqb-true, both_ways, cases_Bool, not_from_false, not-true, false_from_ne_true, cases_lt}
 use Rattle.desk_base.specs.Names.{Text, is_dotted, is_identifier_byte}
 use Rattle.desk_base.specs.declared.Changed.{Changed}
+use Rattle.desk_base.proofs.Lists.{added_on}
 use Rattle.desk_rules.specs.Rules.{Rules}
 use Rattle.desk_rules.specs.Images.{dotted}
 use Rattle.desk_rules.specs.RuleSets.{IsRuleSet}
@@ -115,7 +116,7 @@ one_line rules text rest bytes changed so_far content more end from to reads cle
           ∙ so_far.bytes_are;
       changed_are =
           let one : count ≡ changed + cond (is_changed image content) 1 0 = count_is ∙ ap (λ (b : Bool). changed + cond b 1 0) flag_is in
-          sums changed (cond (is_changed image content) 1 0) (count_changed image (lines more)) count (count_changed image (lines rest)) (count_changed image (lines text)) one (ap (count_changed image) reads.same) so_far.changed_are;
+          added_on changed (cond (is_changed image content) 1 0) (count_changed image (lines more)) count (count_changed image (lines rest)) (count_changed image (lines text)) one (ap (count_changed image) reads.same) so_far.changed_are;
       good = sym (ap (first_bad at) reads.same
           ∙ ap (λ (b : Bool). cond b (Some at) (first_bad (at + length (content ++ end_bytes end)) (lines more))) good
           ∙ ap (λ (n : ℕ). first_bad n (lines more)) next)
@@ -126,9 +127,6 @@ one_line rules text rest bytes changed so_far content more end from to reads cle
     at_most_one : (b : Bool) → cond b 1 0 ≤ 1
     at_most_one true = omega arith
     at_most_one false = omega arith
-
-    sums : (a b c d e f : ℕ) → d ≡ a + b → e ≡ b + c → a + e ≡ f → d + c ≡ f
-    sums a b c d e f h k l = omega arith
 
 pub all_migrated : (rules : Rules) (text rest bytes : Text) (changed : ℕ) → IsMigratedTo rules text rest bytes changed → rest ≡ [] → service rules text ≡ Ok (record { bytes = bytes; changed = changed })
 all_migrated rules text rest bytes changed so_far none =

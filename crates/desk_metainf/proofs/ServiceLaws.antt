@@ -13,9 +13,11 @@ use Rattle.desk_lines.specs.Cuts.{until, onward, stops}
 use Rattle.desk_lines.specs.Blanks.{is_blank, not_blank, trimmed_end, trailing_blanks, leading_blanks}
 use Rattle.desk_metainf.specs.Services.{is_hash, provider, with_provider, line_image, is_bad, first_bad, is_changed, count_changed, on_contents, migrated, service_by, service_of, is_name_byte, is_provider_name}
 use Rattle.desk_base.specs.declared.Changed.{Changed}
+use Rattle.desk_base.proofs.Bools.{none_parts}
+use Rattle.desk_base.proofs.Lists.{all_weaker}
 use Rattle.desk_lines.proofs.LineLaws.{formed-lines, lines-joined}
-use Rattle.desk_lines.proofs.Cuts.{fails, until-onward, fails-until, stops-onward, until-append, onward-append, all_weaker}
-use Rattle.desk_lines.proofs.Trimming.{trimmed-trailing, all_blank, trimmed_end-append, trailing-append}
+use Rattle.desk_lines.proofs.Cuts.{fails, until-onward, fails-until, stops-onward, until-append, onward-append}
+use Rattle.desk_lines.proofs.Trimming.{trimmed-trailing, all_blank, trimmed_end-append, trailing-append, blank_from_not}
 
 abbrev pub built : Text → Text → Text → Text → Text
 built front name back comment = front ++ (name ++ (back ++ comment))
@@ -28,9 +30,6 @@ blank_no_hash b h = elim (or_cases _ _ h) [
 
 blank_not_inked : (b : ℕ) → is_blank b ≡ true → not (not_blank b) ≡ true
 blank_not_inked b h = ap (λ (c : Bool). not (not c)) h
-
-not_not : (b : ℕ) → not (not_blank b) ≡ true → is_blank b ≡ true
-not_not b h = not-false _ (not-true _ h)
 
 name_inked : (b : ℕ) → is_name_byte b ≡ true → not_blank b ≡ true
 name_inked b h = (and_parts _ _ h).0
@@ -140,7 +139,7 @@ provider_named c h g e =
 
 content_parts : (c : Text) (name : Text) → is_provider_name name ≡ true → Parts (leading_blanks (until is_hash c)) name (trailing_blanks (onward not_blank (until is_hash c))) (onward is_hash c)
 content_parts c name h = record {
-  front_blank = all_weaker (λ b. not (not_blank b)) is_blank not_not (leading_blanks (until is_hash c)) (fails-until not_blank (until is_hash c));
+  front_blank = all_weaker (λ b. not (not_blank b)) is_blank blank_from_not (leading_blanks (until is_hash c)) (fails-until not_blank (until is_hash c));
   named = h;
   back_blank = all_blank (onward not_blank (until is_hash c));
   behind = stops-onward is_hash c;
@@ -213,14 +212,10 @@ ends_kept old new ends.Lf before after e b n h = refl
 ends_kept old new ends.Cr before after e b n h = ap not b ∙ h
 ends_kept old new ends.CrLf before after e b n h = refl
 
-good_parts : (bad : Bool) (at : ℕ) (more : Option ℕ) → cond bad (Some at) more ≡ None → (bad ≡ false) × (more ≡ None)
-good_parts true at more h = absurd cc
-good_parts false at more h = (refl, h)
-
 all_kept : (image : Text → Text) (ls : List Line) (at other : ℕ) → IsImage image → are_well_ended ls ≡ true → first_bad at ls ≡ None → AllKept image other ls (on_contents (line_image image) ls)
 all_kept image [] at other i h g = record { formed = refl; starts = refl; ends = refl; good = refl; stays = refl; uncounted = refl }
 all_kept image (l ∷ ls) at other i h g =
-    let here : (is_bad l.content ≡ false) × (first_bad (at + length (l.content ++ end_bytes l.end)) ls ≡ None) = good_parts (is_bad l.content) at (first_bad (at + length (l.content ++ end_bytes l.end)) ls) g in
+    let here : (is_bad l.content ≡ false) × (first_bad (at + length (l.content ++ end_bytes l.end)) ls ≡ None) = none_parts (is_bad l.content) at (first_bad (at + length (l.content ++ end_bytes l.end)) ls) g in
     let k : Kept image l.content (line_image image l.content) = kept image l.content i (and_parts _ _ h).0 here.0 in
     let more : AllKept image (other + length (line_image image l.content ++ end_bytes l.end)) ls (on_contents (line_image image) ls) =
     all_kept image ls (at + length (l.content ++ end_bytes l.end)) (other + length (line_image image l.content ++ end_bytes l.end)) i (and_parts _ _ (and_parts _ _ h).1).1 here.1 in

@@ -12,22 +12,22 @@ mod services;
 use desk_base::Memory;
 pub use services::migrate_service;
 
-/// Why a file has no image.
+/// Why a service file has no image.
 #[derive(Clone, Copy, Debug, PartialEq, Eq)]
-pub enum MetaFault {
+pub enum ServiceFault {
     /// A line that isn't of the file's form; `at` is the offset of its first byte from the start.
     BadLine { at: u32 },
     /// Memory ran out.
     Memory,
 }
 
-impl From<Memory> for MetaFault {
+impl From<Memory> for ServiceFault {
     ghost use Rattle.std.specs.Prelude.{◌≡◌};
-    ghost use Rattle.desk_metainf.specs.declared.MetaFault.TheVariants.{Memory as WantOfMemory};
+    ghost use Rattle.desk_metainf.specs.declared.ServiceFault.TheVariants.{Memory as WantOfMemory};
 
     ghost from_gives = { λ _ fault. fault ≡ WantOfMemory };
 
-    fn from(_: Memory) -> MetaFault {
-        MetaFault::Memory
+    fn from(_: Memory) -> ServiceFault {
+        ServiceFault::Memory
     }
 }

@@ -11,7 +11,9 @@ use memchr::memchr;
 /// Where a provider name stands in the content of its line: from one place up to another.
 #[derive(Clone, Copy)]
 pub struct Provider {
+    /// The offset of its first byte, from the start of the line.
     pub from: usize,
+    /// The offset behind its last byte; `from` where there is no name.
     pub to: usize,
 }
 

@@ -9,7 +9,7 @@ ghost use Rattle.desk_metainf.specs.Services.{service, ServiceStays};
 ghost use Rattle.desk_metainf.specs.Reading.{exchanged, is_exchanged};
 ghost use Rattle.desk_metainf.specs.Faults.{IsServiceFault};
 
-use crate::MetaFault;
+use crate::ServiceFault;
 use crate::providers::{Provider, provider_in};
 use desk_base::{Changed, Memory, Text};
 use desk_lines::{Line, has_blank, split_first_line};
@@ -76,7 +76,7 @@ fn append_line(
 /// empty; it is exchanged as a dotted name, and all other bytes stay. `BadLine` comes exactly where
 /// a provider name holds a space or a tab, with the offset of the first byte of the first such line.
 /// The only other error is want of memory. The image is its own image, without a changed name.
-pub fn migrate_service(alloc: Global, rules: &RuleSet, text: &[u8]) -> Result<Changed, MetaFault>
+pub fn migrate_service(alloc: Global, rules: &RuleSet, text: &[u8]) -> Result<Changed, ServiceFault>
     requires { length text.now ≤ file_size }
     ensures image { IfOk result (λ new. service rules.now text.now ≡ Ok new) }
     ensures refused { IfErr result (IsServiceFault rules.now text.now) }
@@ -88,7 +88,7 @@ pub fn migrate_service(alloc: Global, rules: &RuleSet, text: &[u8]) -> Result<Ch
     while let Some((line, more)) = split_first_line(rest) {
         let provider = provider_in(line.content);
         if has_blank(&line.content[provider.from..provider.to]) {
-            return Err(MetaFault::BadLine {
+            return Err(ServiceFault::BadLine {
                 at: (text.len() - rest.len()) as u32,
             });
         }

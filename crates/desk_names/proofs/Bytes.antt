@@ -1,13 +1,10 @@
 -- Names read byte by byte.
+use mathlib.Core.Bool.{and_assoc}
 use Rattle.std.proofs.Common.{◌≡◌, ℕ, Bool, true, false, not, ◌&&◌, ◌==◌, cond, List, [], ◌∷◌, refl, sym, ap, ◌∙◌}
 use Rattle.std.specs.Prelude.{if◌then◌else◌}
 use Rattle.std.specs.List.{list_all, slice_split, onto_first}
 use Rattle.desk_base.specs.Names.{Text, is_empty, is_name, is_part, is_reserved, is_class_name, is_identifier, is_identifier_byte, is_digit, is_dotted}
 use Rattle.desk_base.specs.Signatures.{is_mark, is_signature_identifier, is_signature_name}
-
-and_assoc : (a b c : Bool) → ((a && b) && c) ≡ (a && (b && c))
-and_assoc true b c = refl
-and_assoc false b c = refl
 
 and_true : (a : Bool) → (a && true) ≡ ((a && true) && true)
 and_true true = refl

@@ -1,9 +1,10 @@
 -- Each class name among parts is cut at its last `/`.
-use Rattle.std.proofs.Common.{◌≡◌, ℕ, Bool, true, false, not, ◌==◌, cond, List, [], ◌∷◌, ◌++◌, refl, ap}
+use Rattle.std.proofs.Common.{◌≡◌, ℕ, Bool, true, false, ◌==◌, List, [], ◌∷◌, ◌++◌, refl}
 use Rattle.std.specs.Prelude.{if◌then◌else◌}
-use Rattle.std.specs.List.{list_all, slice_split, onto_first}
-use Rattle.std.proofs.lemmas.Bool.{and_parts, and_from}
+use Rattle.std.specs.List.{list_all, slice_split}
+use Rattle.std.proofs.lemmas.Bool.{and_parts}
 use Rattle.desk_base.specs.Names.{Text, is_whole, simple, slash}
+use Rattle.desk_base.proofs.Separated.{split_whole}
 use Rattle.desk_names.specs.declared.signatures.SigState.{SigState}
 use Rattle.desk_names.specs.ClassNames.{package_of, simple_of}
 use Rattle.desk_names.specs.Pieces.{Piece, IsCut, AreCut, class_piece, last_piece, cut}
@@ -14,28 +15,16 @@ use Rattle.desk_names.proofs.LastPart.{package_whole, simple_whole, package_behi
 abbrev parts : Text → List Text
 parts t = slice_split (λ b. b == 47) t
 
-onto_whole : (b : ℕ) (ps : List Text) → (b == 47) ≡ false → list_all (is_whole slash) ps ≡ true → list_all (is_whole slash) (onto_first b ps) ≡ true
-onto_whole b [] e h = and_from _ _ (and_from _ _ (ap not e) refl) refl
-onto_whole b (p ∷ ps) e h = and_from _ _ (and_from _ _ (ap not e) (and_parts _ _ h).0) (and_parts _ _ h).1
-
-whole_by : (b : ℕ) (t : Text) (c : Bool) → (b == 47) ≡ c → list_all (is_whole slash) (parts t) ≡ true → list_all (is_whole slash) (cond c ([] ∷ parts t) (onto_first b (parts t))) ≡ true
-whole_by b t true e h = h
-whole_by b t false e h = onto_whole b (parts t) e h
-
--- no part holds a `/`
-parts_are_whole : (t : Text) → list_all (is_whole slash) (parts t) ≡ true
-parts_are_whole [] = refl
-parts_are_whole (b ∷ t) = whole_by b t (b == 47) refl (parts_are_whole t)
-
-last_whole : (ps : List Text) → list_all (is_whole slash) ps ≡ true → is_whole slash (simple ps) ≡ true
-last_whole [] h = refl
-last_whole (x ∷ []) h = (and_parts _ _ h).0
-last_whole (x ∷ y ∷ ps) h = last_whole (y ∷ ps) (and_parts _ _ h).1
+-- the last of parts without a `/` holds none
+pub last_part_whole : (ps : List Text) → list_all (is_whole slash) ps ≡ true → is_whole slash (simple ps) ≡ true
+last_part_whole [] h = refl
+last_part_whole (x ∷ []) h = (and_parts _ _ h).0
+last_part_whole (x ∷ y ∷ ps) h = last_part_whole (y ∷ ps) (and_parts _ _ h).1
 
 simple_is_whole : (n : Text) → is_whole slash (simple_of n) ≡ true
 unfolding simple_of
 simple_is_whole [] = refl
-simple_is_whole (b ∷ n) = last_whole (parts (b ∷ n)) (parts_are_whole (b ∷ n))
+simple_is_whole (b ∷ n) = last_part_whole (parts (b ∷ n)) (split_whole slash (b ∷ n))
 
 cut_at_last : (p s : Text) → is_whole slash s ≡ true → IsCut p s
 cut_at_last [] s h = record { package_is = package_whole s h; simple_is = simple_whole s h }

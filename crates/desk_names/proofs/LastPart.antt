@@ -4,6 +4,7 @@ use Rattle.std.specs.List.{list_all, slice_split, onto_first}
 use Rattle.std.proofs.lemmas.Bool.{and_parts, not-true, both_ways}
 use Rattle.std.proofs.lemmas.List.Splits.{join_with_byte-slice_split}
 use Rattle.desk_base.specs.Names.{Text, is_empty, segments, written, is_name, is_whole, front, simple, slash}
+use Rattle.desk_base.proofs.Separated.{front-push, simple-push}
 use Rattle.desk_names.specs.ClassNames.{package_of, simple_of, class_name}
 
 abbrev parts : Text → List Text
@@ -39,16 +40,6 @@ parts_behind : (p s : Text) → is_whole slash s ≡ true → parts (p ++ 47 ∷
 parts_behind [] s h = ap (λ (l : List Text). [] ∷ l) (parts_whole s h)
 parts_behind (b ∷ p) s h = parts_by b p s (b == 47) (parts_behind p s h)
 
-front_of : (ps : List Text) (s : Text) → front (ps ++ s ∷ []) ≡ ps
-front_of [] s = refl
-front_of (x ∷ []) s = refl
-front_of (x ∷ y ∷ ps) s = ap (λ (l : List Text). x ∷ l) (front_of (y ∷ ps) s)
-
-last_of : (ps : List Text) (s : Text) → simple (ps ++ s ∷ []) ≡ s
-last_of [] s = refl
-last_of (x ∷ []) s = refl
-last_of (x ∷ y ∷ ps) s = last_of (y ∷ ps) s
-
 segments_behind : (p s : Text) → segments slash (p ++ 47 ∷ s) ≡ parts (p ++ 47 ∷ s)
 segments_behind [] s = refl
 segments_behind (b ∷ p) s = refl
@@ -65,11 +56,11 @@ simple_whole (b ∷ t) h = ap simple (parts_whole (b ∷ t) h)
 
 pub package_behind : (p s : Text) → is_whole slash s ≡ true → package_of (p ++ 47 ∷ s) ≡ p
 unfolding package_of
-package_behind p s h = ap (λ (l : List Text). written slash (front l)) (segments_behind p s ∙ parts_behind p s h) ∙ ap (written slash) (front_of (parts p) s) ∙ join_with_byte-slice_split 47 p
+package_behind p s h = ap (λ (l : List Text). written slash (front l)) (segments_behind p s ∙ parts_behind p s h) ∙ ap (written slash) (front-push (parts p) s) ∙ join_with_byte-slice_split 47 p
 
 pub simple_behind : (p s : Text) → is_whole slash s ≡ true → simple_of (p ++ 47 ∷ s) ≡ s
 unfolding simple_of
-simple_behind p s h = ap simple (segments_behind p s ∙ parts_behind p s h) ∙ last_of (parts p) s
+simple_behind p s h = ap simple (segments_behind p s ∙ parts_behind p s h) ∙ simple-push (parts p) s
 
 -- a text about a byte
 around : (t : Text) (n : ℕ) → n < length t → t ≡ take n t ++ get_or t n 0 ∷ drop (suc n) t

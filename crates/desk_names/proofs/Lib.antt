@@ -18,3 +18,4 @@ pub mod SigPlaces
 pub mod Skips
 pub mod CutNames
 pub mod SignatureNames
+pub mod FieldDescriptors

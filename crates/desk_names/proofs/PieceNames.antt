@@ -2,7 +2,7 @@
 use Rattle.std.proofs.Common.{◌≡◌, ℕ, ◌-◌, Bool, true, false, ◌==◌, List, [], ◌∷◌, ◌++◌, refl, sym, ap, ◌∙◌, append_assoc, append-nil}
 use Rattle.std.specs.Prelude.{if◌then◌else◌}
 use Rattle.std.specs.List.{list_all}
-use Rattle.std.proofs.lemmas.Bool.{and_parts}
+use Rattle.std.proofs.lemmas.Bool.{and_parts, ne_eqb}
 use Rattle.desk_base.specs.Names.{Text, is_reserved, is_class_name, is_part}
 use Rattle.desk_base.specs.Descriptors.{FieldType, Returned, Descriptor, DescriptorKind, IsDescriptor, type_text, types_text, returned_text, text_with, as_is, print, type_names, types_names, returned_names, names_of, is_base, is_type, is_returned, is_formed}
 use Rattle.desk_names.specs.ClassNames.{package_of, simple_of, class_name}
@@ -11,7 +11,6 @@ use Rattle.desk_names.proofs.Bytes.{name_from, class_name_is}
 use Rattle.desk_names.proofs.Cuts.{goes}
 use Rattle.desk_names.proofs.LastPart.{rejoined}
 use Rattle.desk_names.proofs.Takes.{other}
-use Rattle.desk_names.proofs.Pieces.{apart}
 
 named : Text → Text → List Text
 named seen t = names_in (cut false seen t)
@@ -39,7 +38,7 @@ unfolding named cut names_in again
 name_on i seen [] t h = ap (λ (l : List Text). again seen ∷ l) (unseen (59 ∷ []) t) ∙ ap (λ (l : Text). again l ∷ named [] t) (sym (append-nil seen))
 name_on i seen (b ∷ n) t h =
     let g = goes is_reserved i b n h in
-    let other_byte : (b == 59) ≡ false = apart as_is b 59 (g.on 59 refl refl) in
+    let other_byte : (b == 59) ≡ false = ne_eqb b 59 (g.on 59 refl refl) in
     ap (λ (w : Bool). names_in (if w then class_piece seen ∷ cut false (b ∷ []) (n ++ 59 ∷ t) else cut true (seen ++ b ∷ []) (n ++ 59 ∷ t))) other_byte
     ∙ name_on g.inside (seen ++ b ∷ []) n t g.more
     ∙ ap (λ (l : Text). again l ∷ named [] t) (append_assoc seen (b ∷ []) n)

@@ -2,7 +2,7 @@
 use Rattle.std.proofs.Common.{◌≡◌, ℕ, ◌+◌, ◌-◌, nat_le, Bool, true, false, ◌==◌, List, [], ◌∷◌, ◌++◌, refl, sym, ap, ◌∙◌, append_assoc, append-nil}
 use Rattle.std.specs.Prelude.{if◌then◌else◌}
 use Rattle.std.specs.List.{list_all}
-use Rattle.std.proofs.lemmas.Bool.{and_parts, and_from, eqb-true}
+use Rattle.std.proofs.lemmas.Bool.{and_parts, and_from, ne_eqb}
 use Rattle.desk_base.specs.Names.{Text, is_reserved, is_class_name}
 use Rattle.desk_names.proofs.Bytes.{name_from, class_name_is}
 use Rattle.desk_base.specs.Descriptors.{FieldType, Returned, Descriptor, type_text, types_text, returned_text, text_with, as_is, print, map_type, map_types, map_returned, renamed, is_base, is_type, units, units_of, is_returned, is_formed, kind_of, DescriptorKind, IsDescriptor}
@@ -33,13 +33,6 @@ module _ (f : Text → Text) where
   unfolding spelled cut joined
   plain c t h = ap (λ (w : Bool). joined f (if w then Piece.other (c ∷ []) ∷ cut true [] t else cut false (c ∷ []) t)) h ∙ seen_first (c ∷ []) t
 
-  pub apart : (b x : ℕ) → (b ≡ x → ⊥) → (b == x) ≡ false
-  apart b x h = go (b == x) refl
-    where
-      go : (c : Bool) → (b == x) ≡ c → c ≡ false
-      go true e = absurd (h (eqb-true b x e))
-      go false e = refl
-
   again : Text → Text
   again n = class_name (package_of n) (simple_of n)
 
@@ -48,7 +41,7 @@ module _ (f : Text → Text) where
   name_on i seen [] t h = ap (λ (l : Text). f (again seen) ++ l) (seen_first (59 ∷ []) t) ∙ ap (λ (l : Text). f (again l) ++ 59 ∷ spelled [] t) (sym (append-nil seen))
   name_on i seen (b ∷ n) t h =
       let g = goes is_reserved i b n h in
-      let no : (b == 59) ≡ false = apart b 59 (g.on 59 refl refl) in
+      let no : (b == 59) ≡ false = ne_eqb b 59 (g.on 59 refl refl) in
       ap (λ (w : Bool). joined f (if w then class_piece seen ∷ cut false (b ∷ []) (n ++ 59 ∷ t) else cut true (seen ++ b ∷ []) (n ++ 59 ∷ t))) no
       ∙ name_on g.inside (seen ++ b ∷ []) n t g.more
       ∙ ap (λ (l : Text). f (again l) ++ 59 ∷ spelled [] t) (append_assoc seen (b ∷ []) n)

@@ -1,4 +1,5 @@
 -- The parts of a signature are what its tree prints, and the scan takes what a tree prints.
+use mathlib.Core.Bool.{and-false}
 use Rattle.std.proofs.Common.{◌≡◌, ℕ, Bool, true, false, not, ◌&&◌, ◌==◌, List, [], ◌∷◌, ◌++◌, refl, sym, ap, ◌∙◌, append_assoc, append-nil}
 use Rattle.std.specs.Prelude.{if◌then◌else◌}
 use Rattle.std.proofs.lemmas.Bool.{and_parts, not-true, eqb-true}
@@ -12,13 +13,13 @@ use Rattle.desk_names.specs.declared.signatures.SigState.TheVariants as sig_stat
 use Rattle.desk_base.specs.Names.{Text}
 use Rattle.desk_base.specs.Descriptors.{as_is}
 use Rattle.desk_base.specs.Signatures.{Signature, SignatureKind, IsSignature, kind_of, is_mark, is_signature, is_signature_identifier, is_signature_name, signature_text, signature_names, print_signature}
+use Rattle.desk_base.proofs.Lists.{none_behind}
 use Rattle.desk_names.specs.ClassNames.{package_of, simple_of, class_name}
 use Rattle.desk_names.specs.Pieces.{Piece, class_piece, last_piece, joined, names_in}
 use Rattle.desk_names.specs.SignatureScan.{ref_step, in_class, at_place, sig_step, sig_run, sig_start, may_end, is_sound_signature}
 use Rattle.desk_names.specs.SignaturePieces.{is_naming, ends_name, named, sig_cut, sig_pieces}
 use Rattle.desk_names.proofs.Bytes.{name_from, signature_name_is}
 use Rattle.desk_names.proofs.LastPart.{rejoined}
-use Rattle.desk_names.proofs.Cuts.{tail_is}
 use Rattle.desk_names.proofs.OneSignature.{stopped}
 use Rattle.desk_names.proofs.Emitted.{puts, emit_signature, put_byte, put_name, puts_text, puts_names, text_signature, skip, keep, names_signature}
 use Rattle.desk_names.proofs.Walked.{walked}
@@ -30,11 +31,7 @@ pub record Goes (b : ℕ) (n : Text) : Type 0 where
   pub more : name_from is_mark inside n ≡ true
 
 goes_by : (i : Bool) (b : ℕ) (n : Text) (c : Bool) → (b == 47) ≡ c → (if c then i && name_from is_mark false n else not (is_mark b) && name_from is_mark true n) ≡ true → Goes b n
-goes_by i b n true e h = record { stays = ap (λ (c : Bool). is_mark b && not c) e ∙ never (is_mark b); inside = false; more = (and_parts _ _ h).1 }
-  where
-    never : (c : Bool) → (c && false) ≡ false
-    never true = refl
-    never false = refl
+goes_by i b n true e h = record { stays = ap (λ (c : Bool). is_mark b && not c) e ∙ and-false (is_mark b); inside = false; more = (and_parts _ _ h).1 }
 goes_by i b n false e h = record { stays = ap (λ (c : Bool). c && not (b == 47)) (not-true _ (and_parts _ _ h).0); inside = true; more = (and_parts _ _ h).1 }
 
 goes_on : (i : Bool) (b : ℕ) (n : Text) → name_from is_mark i (b ∷ n) ≡ true → Goes b n
@@ -158,7 +155,7 @@ joined_class : (f : Text → Text) (n : Text) (ps : List Piece) → is_signature
 unfolding joined
 joined_class f n ps h = ap (λ (m : Text). f m ++ joined f ps) (again_is n h)
 
-joined_none : (f : Text → Text) → joined f [] ≡ []
+pub joined_none : (f : Text → Text) → joined f [] ≡ []
 unfolding joined
 joined_none f = refl
 
@@ -240,10 +237,6 @@ marked_end : (st : SigState) → may_end st ≡ true → marked st [] ≡ []
 unfolding marked sig_run mark
 marked_end st h = ap (λ (c : Bool). if c then [] else 0 ∷ []) h
 
-no_more : (t m : Text) → t ++ m ≡ t → m ≡ []
-no_more [] m h = h
-no_more (b ∷ t) m h = no_more t m (tail_is b b (t ++ m) t h)
-
 unmarked : (c : Bool) (m : Text) → m ≡ (if c then [] else 0 ∷ []) → m ≡ [] → c ≡ true
 unmarked true m h k = refl
 unmarked false m h k = absurd cc
@@ -254,4 +247,4 @@ sig_taken kind text s r =
     let e : marked (sig_start (kind_of s)) (print_signature s) ≡ print_signature s = walked Text put_byte (put_name as_is) [] marked marked_plain marked_name marked_end s r.formed ∙ text_signature as_is s in
     ap (λ (k : SignatureKind). may_end (sig_run (sig_start k) text)) (sym r.kind)
     ∙ ap (λ (t : Text). may_end (sig_run (sig_start (kind_of s)) t)) (sym r.prints)
-    ∙ unmarked (may_end (sig_run (sig_start (kind_of s)) (print_signature s))) _ refl (no_more (print_signature s) _ e)
+    ∙ unmarked (may_end (sig_run (sig_start (kind_of s)) (print_signature s))) _ refl (none_behind (print_signature s) _ e)

@@ -1,8 +1,8 @@
 -- Names are passed whole.
 use Rattle.std.proofs.Common.{◌≡◌, ℕ, suc, ◌+◌, ◌-◌, ◌<◌, ◌≤◌, Bool, true, false, not, ◌==◌, get_or, [], ◌∷◌, ◌++◌, length, take, drop, refl, sym, ap, ◌∙◌, arith, append_assoc, append-nil, add-one}
 use Rattle.std.specs.Prelude.{if◌then◌else◌}
-use Rattle.std.proofs.lemmas.List.{length-drop, drop_all, take_all}
-use Rattle.std.proofs.Math.Seq.{drop-cons, drop-drop, take-add}
+use Rattle.std.proofs.lemmas.List.{length-drop, drop_all, take_all, drop_more}
+use Rattle.std.proofs.Math.Seq.{drop-drop, take-add}
 use Rattle.desk_names.specs.declared.signatures.Spot.TheVariants as spots
 use Rattle.desk_names.specs.declared.signatures.RefState.TheVariants as ref_states
 use Rattle.desk_names.specs.declared.signatures.SigState.{SigState}
@@ -69,14 +69,11 @@ mark_front : (b : ℕ) (t : Text) (c : Bool) → is_mark b ≡ c → mark_place 
 unfolding mark_place
 mark_front b t c e = ap (λ (m : Bool). if m then 0 else suc (mark_place t)) e
 
-at_front : (t : Text) (n : ℕ) → n < length t → drop n t ≡ get_or t n 0 ∷ drop (n + 1) t
-at_front t n h = drop-cons t n 0 h ∙ ap (λ (m : ℕ). get_or t n 0 ∷ drop m t) (sym (add-one n))
-
 pub mark_here : (t : Text) (n : ℕ) → n < length t → is_mark (get_or t n 0) ≡ true → mark_place (drop n t) ≡ 0
-mark_here t n h e = ap mark_place (at_front t n h) ∙ mark_front (get_or t n 0) (drop (n + 1) t) true e
+mark_here t n h e = ap mark_place (drop_more t n 0 h) ∙ mark_front (get_or t n 0) (drop (n + 1) t) true e
 
 pub mark_more : (t : Text) (n : ℕ) → n < length t → is_mark (get_or t n 0) ≡ false → mark_place (drop n t) ≡ mark_place (drop (n + 1) t) + 1
-mark_more t n h e = ap mark_place (at_front t n h) ∙ mark_front (get_or t n 0) (drop (n + 1) t) false e ∙ sym (add-one (mark_place (drop (n + 1) t)))
+mark_more t n h e = ap mark_place (drop_more t n 0 h) ∙ mark_front (get_or t n 0) (drop (n + 1) t) false e ∙ sym (add-one (mark_place (drop (n + 1) t)))
 
 -- one byte further, with the state as the code gets it
 run_front : (st : SigState) (b : ℕ) (t : Text) → sig_run st (b ∷ t) ≡ sig_run (sig_step st b t) t
@@ -86,4 +83,4 @@ run_front st b t = refl
 pub run_more : (st r : SigState) (text : Text) (at : ℕ) → at < length text → r ≡ sig_step st (get_or text at 0) (take (length text - (at + 1)) (drop (at + 1) text)) → sig_run r (drop (at + 1) text) ≡ sig_run st (drop at text)
 run_more st r text at h e =
     let same : r ≡ sig_step st (get_or text at 0) (drop (at + 1) text) = e ∙ ap (sig_step st (get_or text at 0)) (take_all (length text - (at + 1)) (drop (at + 1) text) (omega (arith, length-drop (at + 1) text))) in
-    ap (λ (s : SigState). sig_run s (drop (at + 1) text)) same ∙ sym (ap (sig_run st) (at_front text at h) ∙ run_front st (get_or text at 0) (drop (at + 1) text))
+    ap (λ (s : SigState). sig_run s (drop (at + 1) text)) same ∙ sym (ap (sig_run st) (drop_more text at 0 h) ∙ run_front st (get_or text at 0) (drop (at + 1) text))

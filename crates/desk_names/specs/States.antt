@@ -1,6 +1,6 @@
 -- The states in which a descriptor is read, and its kinds, as the code has them.
-use Rattle.desk_names.specs.declared.descriptors.Place.{Place}
-use Rattle.desk_names.specs.declared.descriptors.Place.TheVariants as places
+use Rattle.desk_names.specs.declared.descriptors.TypePosition.{TypePosition}
+use Rattle.desk_names.specs.declared.descriptors.TypePosition.TheVariants as places
 use Rattle.desk_names.specs.declared.descriptors.State.{State}
 use Rattle.desk_names.specs.declared.descriptors.State.TheVariants as states
 use Rattle.desk_names.specs.declared.descriptors.Want.{Want}
@@ -13,7 +13,7 @@ wanted_kind wants.Field = DescriptorKind.field
 wanted_kind wants.Method = DescriptorKind.method
 wanted_kind wants.Return = DescriptorKind.return
 
-abbrev pub position_of : Place → Position
+abbrev pub position_of : TypePosition → Position
 position_of places.Alone = Position.alone
 position_of (places.Parameter units) = Position.parameter units
 position_of places.Outcome = Position.result

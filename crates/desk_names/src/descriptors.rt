@@ -19,9 +19,12 @@ pub enum Want {
 
 /// Where a type stands: alone, as a parameter behind others of so many units, or as what a method returns.
 #[derive(Clone, Copy)]
-pub enum Place {
+pub enum TypePosition {
+    /// Alone: a field's type.
     Alone,
+    /// As a parameter, behind others of so many units: two of a `long` or a `double`, one of any other type.
     Parameter(u32),
+    /// As what a method returns.
     Outcome,
 }
 
@@ -29,10 +32,15 @@ pub enum Place {
 /// has begun or not.
 #[derive(Clone, Copy)]
 pub enum State {
+    /// A method's `(`.
     Opening,
-    Type(Place, u32),
-    Name(Place, bool),
+    /// A type at this place, behind so many `[`.
+    Type(TypePosition, u32),
+    /// The rest of the class name of a type at this place; whether a part of it has begun.
+    Name(TypePosition, bool),
+    /// Nothing: the descriptor is whole.
     Over,
+    /// Nothing: what was read begins no descriptor.
     Wrong,
 }
 
@@ -61,28 +69,28 @@ fn start(want: Want) -> State
     ensures { awaited_of result ≡ start (wanted_kind want) }
 {
     match want {
-        Want::Field => State::Type(Place::Alone, 0),
+        Want::Field => State::Type(TypePosition::Alone, 0),
         Want::Method => State::Opening,
-        Want::Return => State::Type(Place::Outcome, 0),
+        Want::Return => State::Type(TypePosition::Outcome, 0),
     }
 }
 
 /// The state behind a type.
-fn behind(place: Place, wide: bool) -> State
+fn behind(place: TypePosition, wide: bool) -> State
     ensures { awaited_of result ≡ behind (position_of place) wide }
 {
     match place {
-        Place::Alone | Place::Outcome => State::Over,
-        Place::Parameter(units) => {
+        TypePosition::Alone | TypePosition::Outcome => State::Over,
+        TypePosition::Parameter(units) => {
             if wide {
                 if units < 254 {
-                    State::Type(Place::Parameter(units + 2), 0)
+                    State::Type(TypePosition::Parameter(units + 2), 0)
                 } else {
                     State::Wrong
                 }
             } else {
                 if units < 255 {
-                    State::Type(Place::Parameter(units + 1), 0)
+                    State::Type(TypePosition::Parameter(units + 1), 0)
                 } else {
                     State::Wrong
                 }
@@ -92,21 +100,21 @@ fn behind(place: Place, wide: bool) -> State
 }
 
 /// The state behind a byte that begins no type.
-fn ends(place: Place, byte: u8) -> State
+fn ends(place: TypePosition, byte: u8) -> State
     ensures { awaited_of result ≡ ends (position_of place) byte }
 {
     match place {
-        Place::Alone => State::Wrong,
-        Place::Outcome => {
+        TypePosition::Alone => State::Wrong,
+        TypePosition::Outcome => {
             if byte == b'V' {
                 State::Over
             } else {
                 State::Wrong
             }
         }
-        Place::Parameter(_) => {
+        TypePosition::Parameter(_) => {
             if byte == b')' {
-                State::Type(Place::Outcome, 0)
+                State::Type(TypePosition::Outcome, 0)
             } else {
                 State::Wrong
             }
@@ -116,7 +124,7 @@ fn ends(place: Place, byte: u8) -> State
 
 /// The state behind a byte that stands in a class name, where a part of it has begun or not.
 #[tactic(auto, unfolding(desk_base::specs::Descriptors::step))]
-fn name_step(place: Place, inside: bool, byte: u8) -> State
+fn name_step(place: TypePosition, inside: bool, byte: u8) -> State
     ensures { awaited_of result ≡ step (awaited_of (State.Name place inside)) byte }
 {
     if byte == b';' {
@@ -146,7 +154,7 @@ fn step(state: State, byte: u8) -> State
     match state {
         State::Opening => {
             if byte == b'(' {
-                State::Type(Place::Parameter(0), 0)
+                State::Type(TypePosition::Parameter(0), 0)
             } else {
                 State::Wrong
             }

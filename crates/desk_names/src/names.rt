@@ -10,7 +10,7 @@ ghost use Rattle.desk_names.specs.ClassNames.{package_of, simple_of};
 pub struct ClassName<'a> {
     /// All parts but the last, with a `/` between each two.
     pub package: &'a [u8],
-    /// The last part.
+    /// The part behind the last `/`; the whole name where there is none.
     pub simple: &'a [u8],
 }
 
@@ -124,7 +124,7 @@ fn simple_at(name: &[u8]) -> usize
     0
 }
 
-/// A text cut at its last `/`.
+/// A class name in internal form, cut at its last `/`.
 pub fn cut_name(name: &[u8]) -> ClassName<'_>
     ensures package { result.package.now ≡ package_of name.now }
     ensures simple { result.simple.now ≡ simple_of name.now }

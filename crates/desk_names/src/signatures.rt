@@ -17,10 +17,12 @@ pub enum Which {
     Field,
 }
 
-/// What may have type parameters.
+/// What declares type parameters, and decides what stands behind them.
 #[derive(Clone, Copy, Debug)]
 pub enum Owner {
+    /// A class or an interface.
     Class,
+    /// A method or a constructor.
     Method,
 }
 
@@ -28,19 +30,28 @@ pub enum Owner {
 /// parameter, its result, or what it throws.
 #[derive(Clone, Copy, Debug)]
 pub enum RefPlace {
+    /// Alone: the type of a field, a local variable or a record component.
     Alone,
+    /// As a bound of a type parameter of a class or a method.
     Bound(Owner),
+    /// As the super class of a class, or as one of its interfaces.
     Super,
+    /// As a parameter of a method.
     Parameter,
+    /// As what a method returns.
     Outcome,
+    /// As what a method throws, behind `^`.
     Thrown,
 }
 
 /// Where a class type stands: in its class name, in a simple name behind a `.`, or behind its arguments.
 #[derive(Clone, Copy, Debug)]
 pub enum Spot {
+    /// In its class name, with the packages before it; whether a part of it has begun.
     Package(bool),
+    /// In a simple name behind a `.`; whether it has begun.
     Inner(bool),
+    /// Behind the `>` of its arguments.
     Closed,
 }
 
@@ -48,11 +59,17 @@ pub enum Spot {
 /// type, a type variable, or an argument (or the `>`).
 #[derive(Clone, Copy, Debug)]
 pub enum RefState {
+    /// A reference in so many open argument lists; whether a base type may stand for it, as behind `[`.
     Ref(u32, bool),
+    /// A class type in so many open argument lists, at this spot of it.
     Class(u32, Spot),
+    /// The name of a type variable in so many open argument lists; whether it has begun.
     Variable(u32, bool),
+    /// An argument of so many open lists, or the `>`; whether the innermost list has one already.
     Args(u32, bool),
+    /// Nothing: the reference is whole.
     Over,
+    /// Nothing: what was read begins no reference.
     Wrong,
 }
 
@@ -61,17 +78,29 @@ pub enum RefState {
 /// stands behind that; or a reference.
 #[derive(Clone, Copy, Debug)]
 pub enum SigState {
+    /// The `<` of type parameters, or what stands behind them.
     Opening(Owner),
+    /// The name of a type parameter; whether it has begun.
     ParamName(Owner, bool),
+    /// Further bounds of a type parameter, the next one's name, or the `>`.
     Bounds(Owner),
+    /// What stands behind type parameters.
     Body(Owner),
+    /// A further interface of a class, or the end.
     Supers,
+    /// A parameter of a method, or the `)`.
     Parameters,
+    /// What a method returns.
     Outcome,
+    /// A `^`, or the end.
     Throws,
+    /// What a method throws, behind a `^`.
     Thrown,
+    /// A reference at this place.
     In(RefPlace, RefState),
+    /// Nothing: the signature is whole.
     Over,
+    /// Nothing: what was read begins no signature.
     Wrong,
 }
 

@@ -16,7 +16,7 @@ mod overheard;
 mod rules;
 
 pub use keys::{Slip, slip_of};
-pub use lines::{Said, is_archive, is_signature, read_line, unshown};
+pub use lines::{Said, is_archive_file, is_signature, read_line, unshown};
 pub use names::Names;
 pub use notes::{Notes, Refusals};
 pub use overheard::Overheard;

@@ -45,7 +45,7 @@ fn ends_as(text: &[u8], end: &[u8]) -> bool {
 }
 
 /// Whether a path is that of an archive: `.jar`, `.war`, `.ear`, `.rar` or `.zip` at its end.
-pub fn is_archive(path: &[u8]) -> bool {
+pub fn is_archive_file(path: &[u8]) -> bool {
     [b".jar", b".war", b".ear", b".rar", b".zip"]
         .iter()
         .any(|end| ends_as(path, end.as_slice()))

@@ -11,12 +11,14 @@ const MOST: usize = 10;
 /// Names, of which the first ten are kept, and how many they are.
 #[derive(Debug, Drop)]
 pub struct Names {
+    /// The first of them, ten at most.
     pub first: TextList,
+    /// How many there are, those that aren't kept included.
     pub count: u32,
 }
 
 impl Names {
-    /// No names. It takes no memory.
+    /// A collection to begin with, of no names. It takes no memory.
     pub fn new(alloc: Global) -> Names
         ensures first { length result.first ≡ 0 }
         ensures count { result.count ≡ 0 }

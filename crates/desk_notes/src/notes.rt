@@ -1,6 +1,6 @@
 //! What is noted of a report.
 
-use crate::lines::{Said, is_archive, is_signature, read_line};
+use crate::lines::{Said, is_archive_file, is_signature, read_line};
 use crate::names::Names;
 use desk_base::{Memory, Text};
 use itoa::Buffer;
@@ -12,13 +12,21 @@ const LINE: usize = 8192;
 /// How many files were refused, by their reason.
 #[derive(Clone, Copy, Debug, PartialEq, Eq)]
 pub struct Refusals {
+    /// Files refused as `malformed version`.
     pub version: u32,
+    /// Files refused as `malformed` of any other kind.
     pub malformed: u32,
+    /// Files refused as `overlong`.
     pub overlong: u32,
+    /// Files refused as `pool-full`.
     pub pool_full: u32,
+    /// Files refused as `twins`.
     pub twins: u32,
+    /// Files refused as `bad-line`.
     pub bad_line: u32,
+    /// Files refused as `unsettled`.
     pub unsettled: u32,
+    /// Files refused for any other reason.
     pub other: u32,
 }
 
@@ -82,12 +90,14 @@ pub struct Notes {
     pub signatures: Names,
     /// Classes of a release that isn't read, by their paths as they are shown.
     pub versions: Names,
+    /// How many files were refused, by their reason.
     pub refusals: Refusals,
+    /// How many files were kept from an earlier run.
     pub kept: u32,
 }
 
 impl Notes {
-    /// No notes. It takes no memory.
+    /// What is noted of a report whose first byte is still to come. It takes no memory.
     pub fn new(alloc: Global) -> Notes {
         Notes {
             alloc,
@@ -100,9 +110,9 @@ impl Notes {
         }
     }
 
-    /// Takes a file that was copied.
+    /// Notes a file that was copied, where it is an archive or a signature file.
     fn copied(&mut self, path: &[u8]) -> Result<(), Memory> {
-        if is_archive(path) {
+        if is_archive_file(path) {
             self.archives.take(self.alloc, path)
         } else if is_signature(path) {
             self.signatures.take(self.alloc, path)
@@ -111,7 +121,7 @@ impl Notes {
         }
     }
 
-    /// Takes a file that was refused.
+    /// Counts a file that was refused, and notes a class whose release isn't read.
     fn refused(&mut self, path: &[u8], reason: &[u8], kind: &[u8]) -> Result<(), Memory> {
         let count = self.refusals.of(reason, kind);
         *count = count.saturating_add(1);
@@ -135,7 +145,7 @@ impl Notes {
         };
     }
 
-    /// Takes a byte of the report.
+    /// Takes a byte of the report: it ends a line, which is read, or is kept for it.
     fn take_byte(&mut self, byte: u8) {
         if byte == b'\n' {
             let line = std::mem::replace(&mut self.line, Text::empty(self.alloc));

@@ -12,7 +12,9 @@ use std::io::{IsTerminal, Write};
 pub struct Overheard<'r, O> {
     rt: &'r HostRuntime,
     is_begun: bool,
+    /// The sink that the bytes go on to.
     pub out: O,
+    /// What is noted of them.
     pub notes: Notes,
 }
 

@@ -2,7 +2,7 @@
 
 use crate::keys::{Slip, slip_of};
 use crate::names::Names;
-use desk_base::{Memory, Text, show_byte};
+use desk_base::{MAX_RULE_FILE_SIZE, Memory, Text, show_byte};
 use desk_properties::read_properties;
 use std::alloc::Global;
 
@@ -37,7 +37,7 @@ fn shown(alloc: Global, text: &[u8]) -> Result<Text, Memory> {
 }
 
 impl Slips {
-    /// Takes a key.
+    /// Notes a key that looks like a slip.
     fn take(&mut self, alloc: Global, key: &Text) -> Result<(), Memory> {
         match slip_of(key.as_bytes()) {
             Some(Slip::Mark) => {
@@ -59,7 +59,7 @@ fn slips_in(alloc: Global, file: &[u8]) -> Result<Slips, Memory> {
         marks: Names::new(alloc),
         capitals: Names::new(alloc),
     };
-    if file.len() > 1_048_576 {
+    if file.len() > MAX_RULE_FILE_SIZE {
         return Ok(slips);
     }
     if let Ok(entries) = read_properties(alloc, file) {

@@ -42,7 +42,8 @@ pub fn message_of_run(alloc: Global, words: &[Text]) -> Result<Option<Text>, Mem
     }
 }
 
-/// The same of the words behind `generate`.
+/// What `clap` says against the words behind `generate`; none where it says nothing, and where they are no options. The
+/// only error is want of memory.
 pub fn message_of_generate(alloc: Global, words: &[Text]) -> Result<Option<Text>, Memory> {
     match whole_words(alloc, words)? {
         Some(whole) => message_of(alloc, generate_command(alloc)?, whole.as_slice()),

@@ -8,11 +8,14 @@ use Rattle.std.proofs.lemmas.List.{append_assoc, take-append-drop, drop-drop, ta
 use Rattle.std.proofs.Math.Seq.{take-add}
 use Rattle.std.proofs.lemmas.List.Splits.{slice_split_at}
 use Rattle.desk_base.specs.Names.{Text, Package, written, front, is_whole, is_empty, is_identifier, same, slash}
+use Rattle.desk_base.proofs.Bools.{same_answer}
+use Rattle.desk_base.proofs.Separated.{none_is, front-push}
 use Rattle.desk_packages.specs.Renames.{Renaming, pkg, is_rename}
 use Rattle.desk_rules.specs.RuleSets.{changing_pick}
 use Rattle.desk_rules.specs.Images.{dotted}
 use Rattle.desk_packages.proofs.Same.{same_is, same_from}
-use Rattle.desk_packages.proofs.Cuts.{none_is, front-push, split_written}
+use Rattle.desk_packages.proofs.Cuts.{split_written}
+use Rattle.desk_packages.proofs.FilledImages.{pkg_filled}
 use Rattle.desk_rename.specs.Images.{package_image}
 use Rattle.desk_rename.proofs.Exchanges.{unchanged, picked_by}
 use Rattle.desk_paths.specs.Paths.{parts, root_count, Cut, cut, path_of, folder_text, is_service, is_class, renamed_path, root_of, rest_of, below}
@@ -21,12 +24,6 @@ use Rattle.desk_paths.specs.Kinds.{kind_of}
 use Rattle.desk_paths.specs.declared.Kind.TheVariants.{Service, Manifest, Class, Other}
 use Rattle.desk_paths.proofs.Stays.{IsPlaced, is_placed}
 use Rattle.desk_paths.proofs.Walked.{folder_append, written_folders, path_cut}
-
-same_answer : (a b : Bool) → (a ≡ true → b ≡ true) → (b ≡ true → a ≡ true) → a ≡ b
-same_answer true true f g = refl
-same_answer true false f g = sym (f refl)
-same_answer false true f g = g refl
-same_answer false false f g = refl
 
 -- folders are told by their text
 parts_of_folders : (ps : List Text) → list_all (is_whole slash) ps ≡ true → parts (folder_text ps) ≡ ps ++ [] ∷ []
@@ -230,17 +227,6 @@ empty_package rs formed = odd_package rs formed ([] ∷ []) none
     none (x ∷ a) b e h k =
         let first : [] ≡ x = cc in
         both_ways (is_identifier []) refl (ap is_identifier first ∙ (and_parts _ _ k).0)
-
-pkg_filled : (rs : List Renaming) → list_all is_rename rs ≡ true → (p : Package) → not (is_empty p) ≡ true → not (is_empty (pkg rs p)) ≡ true
-pkg_filled rs formed p filled =
-    elim (changing_pick rs p) as (λ (o : Option Renaming). changing_pick rs p ≡ o → not (is_empty (pkg rs p)) ≡ true) [
-      | None ↦ λ q. ap (λ (w : Package). not (is_empty w)) (unchanged rs p q) ∙ filled
-      | Some r ↦ λ q. let k = picked_by rs formed p r q in ap (λ (w : Package). not (is_empty w)) k.image ∙ more r.target k.tail k.target_filled
-    ] refl
-  where
-    more : (a b : Package) → not (is_empty a) ≡ true → not (is_empty (a ++ b)) ≡ true
-    more [] b h = absurd cc
-    more (x ∷ a) b h = refl
 
 -- the image of a package as text, and of its segments
 package_path : (rs : List Renaming) → list_all is_rename rs ≡ true → (rest : List Text) → list_all (is_whole slash) rest ≡ true → package_image rs (written slash rest) ≡ written slash (pkg rs rest)

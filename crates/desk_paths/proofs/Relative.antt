@@ -8,6 +8,7 @@ use Rattle.std.proofs.lemmas.List.{append_assoc, take-append-drop}
 use Rattle.std.proofs.lemmas.List.Folds.{list_all-append}
 use Rattle.desk_base.specs.Names.{Text, written, slash, is_dotted, is_identifier}
 use Rattle.desk_base.specs.Paths.{is_segment, is_relative_path, here}
+use Rattle.desk_base.proofs.Separated.{split_filled}
 use Rattle.desk_packages.specs.Renames.{Renaming}
 use Rattle.desk_rules.specs.Images.{dotted}
 use Rattle.desk_packages.proofs.Cuts.{front_simple}
@@ -15,7 +16,7 @@ use Rattle.desk_rules.proofs.DottedBytes.{dotted_filled}
 use Rattle.desk_rules.proofs.Forms.{pkg_all}
 use Rattle.desk_paths.specs.Paths.{parts, folders, root_length, Cut, cut, path_of, is_service, moved, renamed_path}
 use Rattle.desk_paths.specs.Walks.{Stay}
-use Rattle.desk_paths.proofs.Stays.{moved_placed, is_placed, stands, parts_written, moved_by, split_filled}
+use Rattle.desk_paths.proofs.Stays.{moved_placed, is_placed, stands, parts_written, moved_by}
 
 -- an identifier is a segment
 identifier_segment : (t : Text) → is_identifier t ≡ true → is_segment t ≡ true

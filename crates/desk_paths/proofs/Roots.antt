@@ -7,6 +7,7 @@ use Rattle.std.proofs.lemmas.Slice.Eq.{bytes_eq-Decides, ends_is}
 use Rattle.std.proofs.lemmas.Bool.Decides.{Decides-eqb}
 use Rattle.std.proofs.lemmas.List.Folds.{list_all-append}
 use Rattle.desk_base.specs.Names.{Text, Package, is_empty, is_identifier, is_identifier_byte}
+use Rattle.desk_rules.proofs.DottedBytes.{identifier_bytes}
 use Rattle.desk_paths.specs.Paths.{is_archive, has_classes, is_number, ends_root, root_count}
 
 -- the two folders that stand before what follows
@@ -82,10 +83,6 @@ dotless : (c : ℕ) (t : Text) → is_identifier_byte c ≡ false → list_all i
 dotless c t strange all front tail e =
     let both = and_parts (list_all is_identifier_byte front) (list_all is_identifier_byte (c ∷ tail)) (sym (list_all-append is_identifier_byte front (c ∷ tail)) ∙ ap (list_all is_identifier_byte) (sym e) ∙ all) in
     both_ways (is_identifier_byte c) strange (and_parts (is_identifier_byte c) (list_all is_identifier_byte tail) both.1).0
-
-identifier_bytes : (t : Text) → is_identifier t ≡ true → list_all is_identifier_byte t ≡ true
-identifier_bytes [] h = absurd cc
-identifier_bytes (b ∷ t) h = (and_parts _ _ h).1
 
 no_suffix : (t : Text) (c : ℕ) (tail : Text) → is_identifier_byte c ≡ false → is_identifier t ≡ true → ends_with ◌==◌ t (c ∷ tail) ≡ false
 no_suffix t c tail strange h = false_from_ne_true (ends_with ◌==◌ t (c ∷ tail)) (λ (yes_it : ends_with ◌==◌ t (c ∷ tail) ≡ true).

@@ -1,39 +1,28 @@
 -- The target of a target is itself, with the same class root and kind.
-use Rattle.std.proofs.Common.{◌≡◌, ℕ, Bool, true, false, cond, not, ◌&&◌, ◌==◌, List, [], ◌∷◌, ◌++◌, length, take, drop, codes, Option, Some, None, refl, sym, ap, ◌∙◌, inl, inr}
-use Rattle.std.specs.List.{list_all, ends_with, slice_split, onto_first}
+use Rattle.std.proofs.Common.{◌≡◌, Bool, true, false, cond, not, ◌&&◌, ◌==◌, List, [], ◌∷◌, ◌++◌, length, take, drop, codes, Option, Some, None, refl, sym, ap, ◌∙◌, inl, inr}
+use Rattle.std.specs.List.{list_all, ends_with}
 use Rattle.std.specs.Str.{bytes_eq}
 use Rattle.std.proofs.lemmas.Bool.{cases_Bool, and_parts, and_from, both_ways, false_from_ne_true}
 use Rattle.std.proofs.lemmas.List.{append_assoc, take_at, drop_at, take-append-drop}
 use Rattle.std.proofs.lemmas.List.Folds.{list_all-append}
 use Rattle.desk_base.specs.Names.{is_whole, Text, Package, same, written, slash, front, simple, is_empty, is_identifier, is_dotted}
+use Rattle.desk_base.proofs.Separated.{split_whole, split_filled, front-push, simple-push}
 use Rattle.desk_packages.specs.Renames.{Renaming, pkg, pick, renamed_by, in_scope, is_rename}
 use Rattle.desk_rules.specs.RuleSets.{DottedKeepForm}
 use Rattle.desk_rules.specs.Images.{dotted}
 use Rattle.desk_packages.proofs.Same.{same_is, same_from, covers_is}
 use Rattle.desk_packages.proofs.Picks.{Found, pick_Some}
-use Rattle.desk_packages.proofs.Cuts.{split_written, front-push, simple-push, front_simple}
+use Rattle.desk_packages.proofs.Cuts.{split_written, front_simple}
 use Rattle.desk_packages.proofs.Bytes.{identifier_part, part_whole, unslashed, unreserved}
-use Rattle.desk_rules.proofs.DottedBytes.{dotted_bytes}
+use Rattle.desk_rules.proofs.DottedBytes.{dotted_bytes, dotted_filled}
 use Rattle.desk_rules.proofs.Forms.{pkg_all}
 use Rattle.desk_packages.proofs.Picks.{all_In}
-use Rattle.desk_packages.proofs.Segments.{split_whole}
 use Rattle.desk_paths.specs.Paths.{parts, folders, file_name, root_count, root_length, Cut, cut, path_of, is_service, is_manifest, moved, renamed_path}
 use Rattle.desk_paths.specs.Walks.{Stay}
 use Rattle.desk_paths.specs.Kinds.{kind_of_cut, kind_of, RenamedStays}
 use Rattle.desk_paths.specs.declared.Kind.{Kind}
 use Rattle.desk_paths.specs.declared.Kind.TheVariants.{Service, Manifest, Class, Other}
 use Rattle.desk_paths.proofs.Roots.{last_two, Calm, root_cut, root_kept, root_calm, identifiers_calm, before_identifiers, ends_behind, calm_moved}
-
-onto_filled : (b : ℕ) (ps : List Text) → not (is_empty (onto_first b ps)) ≡ true
-onto_filled b [] = refl
-onto_filled b (p ∷ ps) = refl
-
-pub split_filled : (s : ℕ) (t : Text) → not (is_empty (slice_split (λ b. b == s) t)) ≡ true
-split_filled s [] = refl
-split_filled s (b ∷ t) = elim (b == s) as (λ (x : Bool). not (is_empty (cond x ([] ∷ slice_split (λ b. b == s) t) (onto_first b (slice_split (λ b. b == s) t)))) ≡ true) [
-  | true ↦ refl
-  | false ↦ onto_filled b (slice_split (λ b. b == s) t)
-]
 
 pub parts_written : (ps : List Text) (x : Text) → list_all (is_whole 47) (ps ++ x ∷ []) ≡ true → parts (written slash (ps ++ x ∷ [])) ≡ ps ++ x ∷ []
 parts_written [] x h = split_written 47 x [] h
@@ -151,10 +140,6 @@ dotted_kept_filled rs form t = elim (cases_Bool (is_dotted t)) [
   | inl named ↦ dotted_filled (dotted rs t) (form t named).named ∙ sym (dotted_filled t named)
   | inr other ↦ rw other refl
 ]
-  where
-    dotted_filled : (u : Text) → is_dotted u ≡ true → is_empty u ≡ false
-    dotted_filled [] h = absurd cc
-    dotted_filled (b ∷ u) h = refl
 
 -- a service file is one again
 service_again : (rs : List Renaming) → DottedKeepForm rs → (p : Cut) → is_service (record { root = p.root; rest = p.rest; file = dotted rs p.file }) ≡ is_service p

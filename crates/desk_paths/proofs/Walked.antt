@@ -1,16 +1,17 @@
 -- A path that is walked over, folder by folder.
 use Rattle.std.proofs.Common.{◌≡◌, ◌≤◌, ◌<◌, ◌+◌, ◌-◌, ℕ, zero, suc, Bool, true, false, cond, not, ◌==◌, List, [], ◌∷◌, ◌++◌, length, take, drop, get_or, refl, sym, ap, ◌∙◌, arith, length-append, length-drop}
 use Rattle.std.proofs.lemmas.Bool.{and_from, not_from_false, ne_eqb}
-use Rattle.std.proofs.lemmas.List.{append_assoc, take-append-drop, drop-drop, drop_more, take_more, get_or-drop, take_all, take_at, drop_at, length-take-le, take-append-le}
+use Rattle.std.proofs.lemmas.List.{append_assoc, take-append-drop, drop-drop, take_more, get_or-drop, take_all, take_at, drop_at, length-take-le, take-append-le}
 use Rattle.std.proofs.lemmas.List.Folds.{list_all-append}
 use Rattle.std.proofs.lemmas.List.Splits.{slice_split_at, slice_split_none, join_with_byte-slice_split}
 use Rattle.desk_base.specs.Names.{Text, written, front, is_whole, slash}
-use Rattle.desk_packages.proofs.Cuts.{none_is, front-push, front_simple}
+use Rattle.desk_base.proofs.Lists.{rest_at}
+use Rattle.desk_base.proofs.Separated.{none_is, split_filled, front-push}
+use Rattle.desk_packages.proofs.Cuts.{front_simple}
 use Rattle.desk_paths.specs.Paths.{parts, folders, file_name, ends_root, root_count, root_length, cut, folder_text}
 use Rattle.desk_paths.specs.Walks.{IsStep, IsCutAt}
 use Rattle.desk_paths.specs.declared.places.Walk.{Walk}
 use Rattle.desk_paths.proofs.Roots.{last_two}
-use Rattle.desk_paths.proofs.Stays.{split_filled}
 
 -- ---- lists of folders
 
@@ -66,12 +67,6 @@ pub record IsWalked (path : Text) (w : Walk) (i : ℕ) : Type 0 where
   pub rest_is : w.rest_at ≡ length (folder_text (take (root_length seen) seen))
   pub order : w.file_at ≤ i
   pub clear : is_whole slash (take (i - w.file_at) (drop w.file_at path)) ≡ true
-
-rest_at : (text : Text) (from i : ℕ) → from ≤ i → i < length text → drop from text ≡ take (i - from) (drop from text) ++ get_or text i 0 ∷ drop (i + 1) text
-rest_at text from i order within =
-    let there : from + (i - from) ≡ i = omega arith in
-    sym (take-append-drop (i - from) (drop from text))
-    ∙ ap (λ (t : Text). take (i - from) (drop from text) ++ t) (drop-drop (i - from) from text ∙ ap (λ (n : ℕ). drop n text) there ∙ drop_more text i 0 within)
 
 pub walked_on : (path : Text) (w : Walk) (i : ℕ) → IsWalked path w i → i < length path → (get_or path i 0 ≡ slash → ⊥) → IsWalked path w (i + 1)
 walked_on path w i so_far within other =

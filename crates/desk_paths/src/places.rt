@@ -29,13 +29,14 @@ const BOOT_INF: &[u8] = b"BOOT-INF";
 
 const APP_INF: &[u8] = b"APP-INF";
 
-/// A path, cut at its class root.
+/// A path, cut at its class root, behind which the folders are those of packages.
 #[derive(Clone, Copy, Debug, PartialEq, Eq)]
 pub struct Placed<'a> {
     /// The class root, without a `/` at its end; empty where the path has none.
     pub root: &'a [u8],
     /// What follows the class root, without a `/` at its start.
     pub rest: &'a [u8],
+    /// What the file is, by the rest of its path.
     pub kind: Kind,
 }
 

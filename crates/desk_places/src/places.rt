@@ -9,7 +9,9 @@ use desk_base::{Text, TextList};
 /// What is there on a disk, by its device and its inode.
 #[derive(Clone, Copy, Debug, PartialEq, Eq)]
 pub struct Node {
+    /// The device of the file system (`st_dev`).
     pub device: u64,
+    /// The number of the file on that device (`st_ino`).
     pub inode: u64,
 }
 
@@ -17,8 +19,11 @@ pub struct Node {
 /// that aren't there.
 #[derive(Debug, Drop)]
 pub struct Place {
+    /// The nearest folder or file on the way to the root that is there; the root itself where it is there.
     pub nearest: Node,
+    /// The folders above the nearest, up to the top.
     pub above: Vec<Node>,
+    /// The segments behind the nearest; none where the root is there.
     pub rest: TextList,
 }
 
@@ -60,19 +65,28 @@ impl Place {
 /// The places of the four roots of a run.
 #[derive(Debug, Drop)]
 pub struct Places {
+    /// Where the rule folder is.
     pub rules: Place,
+    /// Where the source is.
     pub from: Place,
+    /// Where the target is, or will be made.
     pub to: Place,
+    /// Where the file of the ledger is, or will be made.
     pub ledger: Place,
 }
 
 /// Two roots of which one lies in the other where it may not.
 #[derive(Clone, Copy, Debug, PartialEq, Eq)]
 pub enum Pair {
+    /// The source and the target.
     FromTo,
+    /// The rule folder and the target.
     RulesTo,
+    /// The ledger, in the source.
     LedgerFrom,
+    /// The ledger, in the target.
     LedgerTo,
+    /// The ledger, in the rule folder.
     LedgerRules,
 }
 

@@ -1,7 +1,7 @@
 //! What is told behind the end of a run.
 
 use crate::telling::{tell, tell_hint, tell_text};
-use desk_base::{Memory, Text};
+use desk_base::{MAX_RULE_FILE_SIZE, Memory, Text};
 use desk_disk::DiskFolders;
 use desk_faults::{Fault, fault_line};
 use desk_folders::{Folders, is_full};
@@ -69,7 +69,9 @@ fn tell_kept(rt: &HostRuntime, roots: &Roots, notes: &Notes) {
 /// A rule file's bytes, at most 1,048,576.
 fn rule_file(rt: &HostRuntime, rules: &Text, name: &[u8]) -> Option<Text> {
     let path = path_below(rules, name).ok()?;
-    DiskFolders::new(rt).read_part(&path, 0, 1_048_576).ok()
+    DiskFolders::new(rt)
+        .read_part(&path, 0, MAX_RULE_FILE_SIZE as u32)
+        .ok()
 }
 
 /// Tells which keys of the renames look like a slip.
@@ -110,9 +112,9 @@ pub struct Ending<'a> {
     pub roots: Option<&'a Roots>,
     /// The status that the program ends with.
     pub status: &'a Status,
-    /// What the folders refused last.
+    /// The last fault of the folders; none where they refused nothing.
     pub folders: Option<&'a Fault>,
-    /// What the ledger refused last.
+    /// The last fault of the ledger; none where it refused nothing.
     pub ledger: Option<&'a Fault>,
     /// What was noted of the report.
     pub notes: &'a Notes,

@@ -17,7 +17,7 @@ pub fn tell_text(rt: &HostRuntime, text: &Result<Text, Memory>) {
     }
 }
 
-/// Writes the hint of a status.
+/// Writes the hint of a status on standard error, where there is one.
 pub fn tell_hint(rt: &HostRuntime, status: &Status) {
     if let Some(hint) = hint_of(status) {
         tell(rt, hint.text());

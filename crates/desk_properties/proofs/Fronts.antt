@@ -2,13 +2,12 @@
 use Rattle.std.proofs.Common.{◌≡◌, ℕ, ◌+◌, ◌*◌, ◌-◌, ◌^◌, ◌<◌, ◌≤◌, zero, suc, Bool, true, false, cond, ◌==◌, ◌||◌, [], ◌∷◌, length, drop, slice_index, Option, Some, None, refl, sym, ap, subst, ◌∙◌, add-one, arith, tests}
 use Rattle.std.proofs.Math.Nat.{pow-succ'}
 use Rattle.std.proofs.lemmas.Bool.{eqb-true}
-use Rattle.std.proofs.lemmas.List.{length-drop}
+use Rattle.std.proofs.lemmas.List.{length-drop, drop_more}
 use Rattle.desk_base.specs.Names.{Text}
 use Rattle.desk_properties.specs.Lines.{Placed, Line, is_end_byte}
 use Rattle.desk_properties.specs.Entries.{is_hex, hex_value, hex_number}
 use Rattle.desk_properties.specs.Reading.{natural_line_from, line_from, lines_behind, begins_break, is_stop, is_stop_byte, here, IsPair, IsResumed, IsNumberRead}
 use Rattle.desk_properties.specs.declared.entries.Part.{Part}
-use Rattle.desk_properties.proofs.Natural.{drop_front}
 use Rattle.desk_properties.proofs.Places.{IsByte, last_at, IsPlain, plain_at, pair_at, ended_at}
 use Rattle.desk_properties.proofs.Skips.{ends_at, goes_on_at, backslash_at}
 
@@ -32,14 +31,14 @@ second_byte : (file : Text) (at : ℕ) (t : Text) → drop (at + 1) file ≡ t �
 second_byte file at [] e h = absurd cc
 second_byte file at (c ∷ t) e h =
     let within : at + 1 < length file = omega (arith, length-drop (at + 1) file, ap length e) in
-    let same : slice_index file (at + 1) ∷ drop (at + 1 + 1) file ≡ c ∷ t = sym (drop_front file (at + 1) within) ∙ e in
+    let same : slice_index file (at + 1) ∷ drop (at + 1 + 1) file ≡ c ∷ t = sym (drop_more file (at + 1) 0 within) ∙ e in
     let byte : slice_index file (at + 1) ≡ c = cc in
     (within, subst (λ (n : ℕ). is_end_byte n ≡ false) (sym byte) h)
 
 pub pair_within : (file : Text) (at : ℕ) → at < length file → (slice_index file at == 92) ≡ true → begins_break (drop at file) ≡ false → IsPairWithin file at
 pair_within file at h b k =
     let backslash : slice_index file at ≡ 92 = eqb-true (slice_index file at) 92 b in
-    let unbroken : begins_break (92 ∷ drop (at + 1) file) ≡ false = subst (λ (n : ℕ). begins_break (n ∷ drop (at + 1) file) ≡ false) backslash (ap begins_break (sym (drop_front file at h)) ∙ k) in
+    let unbroken : begins_break (92 ∷ drop (at + 1) file) ≡ false = subst (λ (n : ℕ). begins_break (n ∷ drop (at + 1) file) ≡ false) backslash (ap begins_break (sym (drop_more file at 0 h)) ∙ k) in
     let second = second_byte file at (drop (at + 1) file) refl unbroken in
     record {
       pair = pair_at file at (backslash_at file at h b) (goes_on_at file (at + 1) second.0 second.1) b;

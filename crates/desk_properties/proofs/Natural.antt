@@ -1,15 +1,11 @@
 -- Natural lines from an offset on.
-use Rattle.std.proofs.Common.{◌≡◌, ℕ, ◌+◌, ◌<◌, ◌≤◌, Bool, true, false, cond, ◌==◌, List, [], ◌∷◌, length, drop, get_or, refl, sym, ap, subst, ◌∙◌, arith, add-one}
+use Rattle.std.proofs.Common.{◌≡◌, ℕ, ◌+◌, ◌<◌, ◌≤◌, Bool, true, false, cond, ◌==◌, List, [], ◌∷◌, length, drop, get_or, refl, sym, ap, subst, ◌∙◌, arith}
 use Rattle.std.proofs.lemmas.Bool.{eqb-true}
-use Rattle.std.proofs.lemmas.List.{drop_all}
-use Rattle.std.proofs.Math.Seq.{drop-cons, drop-drop}
+use Rattle.std.proofs.lemmas.List.{drop_all, drop_more}
+use Rattle.std.proofs.Math.Seq.{drop-drop}
 use Rattle.desk_base.specs.Names.{Text}
 use Rattle.desk_properties.specs.Lines.{Placed, placed, Line, natural_lines, behind}
 use Rattle.desk_properties.specs.Reading.{natural_from, at_offset, first_of, behind_first, end_size}
-
--- a text that goes on is its byte there, and the rest
-pub drop_front : (file : Text) (at : ℕ) → at < length file → drop at file ≡ get_or file at 0 ∷ drop (at + 1) file
-drop_front file at h = drop-cons file at 0 h ∙ ap (λ (n : ℕ). get_or file at 0 ∷ drop n file) (sym (add-one at))
 
 lone_cr : (at c : ℕ) (t : Text) → (c == 10) ≡ false → natural_lines (placed at (13 ∷ c ∷ t)) ≡ [] ∷ natural_lines (placed (at + end_size (13 ∷ c ∷ t)) (drop (end_size (13 ∷ c ∷ t)) (13 ∷ c ∷ t)))
 lone_cr at c t k =
@@ -77,7 +73,7 @@ no_end at b t h = elim (b == 10) as (λ (x : Bool). (b == 10) ≡ x → natural_
 -- a byte that begins no line end belongs to the natural line
 pub natural_byte : (file : Text) (at : ℕ) → at < length file → end_size (drop at file) ≡ 0 → natural_from file at ≡ behind (at_offset (get_or file at 0) at) (natural_from file (at + 1))
 unfolding natural_from
-natural_byte file at h k = ap (λ (t : Text). natural_lines (placed at t)) (drop_front file at h) ∙ no_end at (get_or file at 0) (drop (at + 1) file) (ap end_size (sym (drop_front file at h)) ∙ k)
+natural_byte file at h k = ap (λ (t : Text). natural_lines (placed at t)) (drop_more file at 0 h) ∙ no_end at (get_or file at 0) (drop (at + 1) file) (ap end_size (sym (drop_more file at 0 h)) ∙ k)
 
 -- at the end of the file stands an empty line
 pub natural_last : (file : Text) (at : ℕ) → length file ≤ at → natural_from file at ≡ [] ∷ []

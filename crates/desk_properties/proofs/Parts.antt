@@ -1,5 +1,5 @@
 -- Keys and values of a logical line, and what stands between them.
-use Rattle.std.proofs.Common.{◌≡◌, ◌≢◌, ℕ, ◌+◌, ◌<◌, ◌≤◌, inl, inr, Bool, true, false, cond, ◌==◌, [], ◌∷◌, ◌++◌, length, drop, slice_index, Some, None, Result, Ok, Err, IfOk, IfErr, refl, sym, ap, subst, ◌∙◌, arith, tests}
+use Rattle.std.proofs.Common.{◌≡◌, ◌≢◌, ℕ, ◌+◌, ◌<◌, ◌≤◌, inl, inr, Bool, true, false, cond, ◌==◌, [], ◌∷◌, ◌++◌, length, drop, slice_index, Some, None, Result, Ok, Err, refl, sym, ap, subst, ◌∙◌, arith, tests}
 use Rattle.std.proofs.lemmas.Bool.{eqb-true}
 use Rattle.std.specs.Prelude.{encode_utf8}
 use Rattle.std.specs.Char.{InScalarRange}
@@ -236,14 +236,6 @@ next_plain file from old new h some x text = elim (front_of_byte file from h) [
       }
 ]
 
-pub if_ok_map : {A E : Type 0} (P Q : A → Type 0) → ((x : A) → P x → Q x) → (r : Result A E) → IfOk r P → IfOk r Q
-if_ok_map P Q f (Ok x) h = f x h
-if_ok_map P Q f (Err e) h = tt
-
-pub if_err_map : {A E : Type 0} (P Q : E → Type 0) → ((e : E) → P e → Q e) → (r : Result A E) → IfErr r P → IfErr r Q
-if_err_map P Q f (Ok x) h = tt
-if_err_map P Q f (Err e) h = f e h
-
 pub goes_within : (file : Text) (part : Part) (at : ℕ) → at ≤ length file → is_stop part (natural_line_from file at) ≡ false → at < length file
 goes_within file part at h go = elim (at == length file) as (λ (x : Bool). (at == length file) ≡ x → at < length file) [
   | true ↦ λ e. absurd (stops (sym (ap (is_stop part) (last_at file at (omega (arith, eqb-true at (length file) e))).line) ∙ go))
@@ -273,12 +265,6 @@ entry_read file from key value behind at end to h first sign second next =
       entry_is = ap (λ (r : Result Text ℕ). entry_from r (unescaped 0 (written_value (line_from file from)))) first.text_is ∙ ap (entry_from (Ok key)) value_is;
       lines = next.lines ∙ sym (ended_at file end (value_stops (natural_line_from file end) second.stopped)).behind ∙ second.behind ∙ sign.behind ∙ first.behind;
     }
-
-pub unequal : (a b : ℕ) → a ≢ b → (a == b) ≡ false
-unequal a b h = elim (a == b) as (λ (x : Bool). (a == b) ≡ x → x ≡ false) [ true ↦ λ e. absurd (h (eqb-true a b e)) | false ↦ λ _. refl ] refl
-
-pub equal : (a b : ℕ) → a ≡ b → (a == b) ≡ true
-equal a b h = grind (arith, tests)
 
 pub scalar_is : (n : ℕ) → InScalarRange n → is_surrogate n ≡ false
 scalar_is n (inl low) = grind (arith, tests)

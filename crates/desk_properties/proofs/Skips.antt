@@ -1,16 +1,15 @@
 -- Loops that go on within a file.
 use Rattle.std.proofs.Common.{◌≡◌, ℕ, ◌+◌, ◌<◌, ◌≤◌, ◌⊎◌, inl, inr, zero, suc, Bool, true, false, cond, ◌==◌, ◌||◌, List, [], ◌∷◌, length, drop, get_or, refl, sym, ap, subst, ◌∙◌, arith}
 use Rattle.std.proofs.lemmas.Bool.{eqb-true, and_parts, or_parts}
-use Rattle.std.proofs.lemmas.List.{length-drop}
+use Rattle.std.proofs.lemmas.List.{length-drop, drop_more}
 use Rattle.desk_base.specs.Names.{Text}
 use Rattle.desk_properties.specs.Lines.{Line, is_white_byte, is_end_byte, is_comment_byte, unindented, logical_lines}
 use Rattle.desk_properties.specs.Reading.{natural_from, natural_line_from, natural_behind, lines_from, end_size, begins_break, is_passed, here, IsUnindented, IsNextLine}
-use Rattle.desk_properties.proofs.Natural.{drop_front}
 use Rattle.desk_properties.proofs.Places.{IsByte, byte_at, IsEnd, end_at, IsLast, last_at, IsSame, same_trans, break_line, break_last, natural_parts}
 
 -- the byte at an offset, as the front of what is left of the file
 pub size_at : (file : Text) (at : ℕ) → at < length file → end_size (drop at file) ≡ end_size (get_or file at 0 ∷ drop (at + 1) file)
-size_at file at h = ap end_size (drop_front file at h)
+size_at file at h = ap end_size (drop_more file at 0 h)
 
 -- a byte other than LF and CR ends no line
 pub size_plain : (b : ℕ) (t : Text) → (b == 10) ≡ false → (b == 13) ≡ false → end_size (b ∷ t) ≡ 0
@@ -141,7 +140,7 @@ pub backslash_at : (file : Text) (at : ℕ) → at < length file → (get_or fil
 backslash_at file at h b = byte_at file at h (size_at file at h ∙ backslash_ends_none (get_or file at 0) (drop (at + 1) file) b)
 
 break_at : (file : Text) (at : ℕ) → at < length file → begins_break (drop at file) ≡ true → IsBreak (get_or file at 0) (drop (at + 1) file)
-break_at file at h k = break_parts (get_or file at 0) (drop (at + 1) file) (ap begins_break (sym (drop_front file at h)) ∙ k)
+break_at file at h k = break_parts (get_or file at 0) (drop (at + 1) file) (ap begins_break (sym (drop_more file at 0 h)) ∙ k)
 
 -- a break stands within the file
 pub break_within : (file : Text) (at : ℕ) → begins_break (drop at file) ≡ true → at < length file

@@ -1,6 +1,7 @@
 //! The key and the value of a logical line.
 
 ghost use Rattle.std.specs.Prelude.{◌≡◌, ◌≢◌, ◌||◌, ◌≤◌, ◌<◌, ◌+◌, [], false, length, drop, None, Some, slice_index, MatchOption, IfOk, IfErr, if◌then◌else◌};
+ghost use Rattle.desk_base.specs.Limits.{rule_size};
 ghost use Rattle.desk_properties.specs.Lines.{is_end_byte};
 ghost use Rattle.desk_properties.specs.Entries.{is_sign_byte, is_hex, hex_value, hex_number, escaped};
 ghost use Rattle.desk_properties.specs.Reading.{begins_break, is_stop, is_stop_byte, natural_line_from, line_from, IsPair, IsNumberRead, IsEscapeRead, IsEscapeFault, IsNextRead, IsNextFault, IsPartRead, IsPartFault, IsGapRead, IsSignRead, IsEntryRead, IsEntryFault};
@@ -10,25 +11,32 @@ use crate::{PropError, PropFault};
 use desk_base::Text;
 use std::alloc::Global;
 
-/// A part of an entry.
+/// Which part of an entry is read: a key ends where `=`, `:` or white space stands, a value with its line.
 #[derive(Clone, Copy)]
 pub enum Part {
+    /// What stands before the sign or the white space.
     Key,
+    /// What stands behind it, up to the end of the line.
     Value,
 }
 
 /// What a key or a value stands for, and the offset behind it.
 #[derive(Drop)]
 pub struct ReadPart {
+    /// The key or the value, with its escapes undone.
     pub text: Text,
+    /// The offset behind it, from the start of the file, in bytes.
     pub next: usize,
 }
 
 /// The entry of a logical line, and the offset at which the next natural line begins.
 #[derive(Drop)]
 pub struct ReadEntry {
+    /// The key, with its escapes undone.
     pub key: Text,
+    /// The value, with its escapes undone; empty where the line has a key alone.
     pub value: Text,
+    /// The offset of the next natural line, from the start of the file, in bytes.
     pub next: usize,
 }
 
@@ -93,7 +101,7 @@ fn escaped(byte: u8) -> u8
 /// stands at an offset.
 fn append_number(file: &[u8], from: usize, text: &mut Text) -> Result<usize, PropError>
     requires inside { from + 2 ≤ length file.now }
-    requires small { length file.now ≤ 1048576 }
+    requires small { length file.now ≤ rule_size }
     requires pair { IsPair file.now from }
     requires letter { slice_index file.now (from + 1) ≡ 117 }
     ensures read { IfOk result (λ next. IsEscapeRead file.now from text.old text.new next) }
@@ -117,7 +125,7 @@ fn append_number(file: &[u8], from: usize, text: &mut Text) -> Result<usize, Pro
 /// line end behind it.
 fn append_escape(file: &[u8], from: usize, text: &mut Text) -> Result<usize, PropError>
     requires inside { from + 2 ≤ length file.now }
-    requires small { length file.now ≤ 1048576 }
+    requires small { length file.now ≤ rule_size }
     requires pair { IsPair file.now from }
     ensures read { IfOk result (λ next. IsEscapeRead file.now from text.old text.new next) }
     ensures refused { IfErr result (IsEscapeFault file.now from) }
@@ -134,7 +142,7 @@ fn append_escape(file: &[u8], from: usize, text: &mut Text) -> Result<usize, Pro
 /// Adds what stands next in a key or a value to a text: a byte, or what an escape stands for. Answers the offset behind
 /// it.
 fn append_next(file: &[u8], from: usize, text: &mut Text) -> Result<usize, PropError>
-    requires small { length file.now ≤ 1048576 }
+    requires small { length file.now ≤ rule_size }
     requires some { natural_line_from file.now from ≢ [] }
     requires inside { from < length file.now }
     requires unbroken { begins_break (drop from file.now) ≡ false }
@@ -182,7 +190,7 @@ fn is_stop(file: &[u8], at: usize, part: Part) -> bool
 /// The key or the value that begins at an offset of a logical line.
 fn read_part(alloc: Global, file: &[u8], from: usize, part: Part) -> Result<ReadPart, PropError>
     requires inside { from ≤ length file.now }
-    requires small { length file.now ≤ 1048576 }
+    requires small { length file.now ≤ rule_size }
     ensures read { IfOk result (λ read. IsPartRead file.now part from read.text read.next) }
     ensures refused { IfErr result (IsPartFault file.now part from) }
 {
@@ -223,7 +231,7 @@ fn skip_sign(file: &[u8], from: usize) -> usize
 /// The entry of the logical line that begins at an offset. The fault of the line is its first faulty escape.
 pub fn read_entry(alloc: Global, file: &[u8], from: usize) -> Result<ReadEntry, PropError>
     requires inside { from < length file.now }
-    requires small { length file.now ≤ 1048576 }
+    requires small { length file.now ≤ rule_size }
     ensures read { IfOk result (λ read. IsEntryRead file.now from read.key read.value read.next) }
     ensures refused { IfErr result (IsEntryFault file.now from) }
 {

@@ -10,6 +10,7 @@
 ghost use Rattle.std.specs.Prelude.{◌≡◌, ◌≤◌, true, false, Ok, length, OnOk, IfOk, IfErr};
 ghost use Rattle.std.specs.Str.{is_utf8};
 ghost use Rattle.std.specs.Str.Lossy.{utf8_valid_len};
+ghost use Rattle.desk_base.specs.Limits.{rule_size};
 ghost use Rattle.desk_properties.specs.Properties.{properties, IsPropError};
 
 mod entries;
@@ -22,7 +23,7 @@ use lines::{is_passed, next_line, skip_white};
 use std::alloc::{AllocFailed, Global};
 use std::str;
 
-/// Why bytes are no property file.
+/// Why bytes are no property file: the first thing in them that isn't read.
 #[derive(Clone, Copy, Debug, PartialEq, Eq)]
 pub enum PropFault {
     /// The bytes aren't UTF-8; `at` is the offset, from the start of the file, of the first byte that begins no
@@ -36,7 +37,9 @@ pub enum PropFault {
 /// Why a property file wasn't read: its first fault, or want of memory.
 #[derive(Clone, Copy, Debug, PartialEq, Eq)]
 pub enum PropError {
+    /// The bytes are no property file.
     Fault(PropFault),
+    /// Memory ran out.
     Memory,
 }
 
@@ -75,7 +78,7 @@ impl From<Memory> for PropError {
 
 /// Looks for the first byte that begins no well-formed character.
 fn check_characters(bytes: &[u8]) -> Result<(), PropFault>
-    requires { length bytes.now ≤ 1048576 }
+    requires { length bytes.now ≤ rule_size }
     ensures well { OnOk result (is_utf8 bytes.now ≡ true) }
     ensures refused { IfErr result (λ fault. (is_utf8 bytes.now ≡ false) × (fault ≡ PropFault.NotUtf8 (utf8_valid_len bytes.now))) }
 {
@@ -94,7 +97,7 @@ fn check_characters(bytes: &[u8]) -> Result<(), PropFault>
 /// that begins no well-formed character; `Escape` exactly where it is, and some `\u` is faulty, at the first. The only
 /// other error is want of memory.
 pub fn read_properties(alloc: Global, bytes: &[u8]) -> Result<IndexMap<Text, Text>, PropError>
-    requires { length bytes.now ≤ 1048576 }
+    requires { length bytes.now ≤ rule_size }
     ensures read { IfOk result (λ entries. properties bytes.now ≡ Ok entries.entries) }
     ensures refused { IfErr result (IsPropError bytes.now) }
 {

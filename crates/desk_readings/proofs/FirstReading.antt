@@ -7,21 +7,22 @@ use Rattle.std.proofs.lemmas.List.Elements.{All-nil, All-push}
 use Rattle.desk_base.specs.Counts.{Rose-earlier}
 use Rattle.desk_base.specs.Names.{Text}
 use Rattle.desk_base.specs.Paths.{full}
+use Rattle.desk_base.proofs.Results.{at_some}
 use Rattle.desk_file.specs.declared.routes.Route.{Route}
 use Rattle.desk_folders.specs.Contents.{Contents}
 use Rattle.desk_format.specs.Laws.{IsBytes}
 use Rattle.desk_graph.specs.declared.scanned.Scanned.{Scanned}
-use Rattle.desk_readings.proofs.Fronts.{all_pushed, at_some, if_some, split_at}
+use Rattle.desk_readings.proofs.Fronts.{all_pushed, if_some, split_at}
 use Rattle.desk_readings.specs.Noting.{IsWithin, NoteFails, NotedTo, NotesOne}
 use Rattle.desk_readings.specs.Readings.{bytes_here, first_large, is_large, kept_in, measured_at, measured_by, scanned_route, scans_at, scans_of}
 use Rattle.desk_readings.specs.declared.measured.Measured.{Measured}
 use Rattle.desk_readings.specs.declared.faults.NoteFault.{NoteFault}
 use Rattle.desk_readings.specs.declared.faults.NoteFault.TheVariants.{Memory, Folders, TooLarge}
-use Rattle.desk_readings.specs.declared.waiting.Waiting.{Waiting}
+use Rattle.desk_readings.specs.declared.waiting.WaitingFile.{WaitingFile}
 
 -- ---- all files
 
-pub noted_first : (from : Text) (m : Contents) (files : List Measured) (scanned : List Scanned) (batch : List Waiting) → files ≡ [] → scanned ≡ [] → batch ≡ []
+pub noted_first : (from : Text) (m : Contents) (files : List Measured) (scanned : List Scanned) (batch : List WaitingFile) → files ≡ [] → scanned ≡ [] → batch ≡ []
     → NotedTo from m [] (files ++ map measured_by batch) (scanned ++ scans_of batch)
 noted_first from m files scanned batch none empty first = record {
   files = ap (λ (fs : List Measured). fs ++ map measured_by batch) none ∙ ap (map measured_by) first;
@@ -47,7 +48,7 @@ large_behind from m (first ∷ routes) more e =
     large_step (is_large from m first) first.path (first_large from m routes) (first_large from m (routes ++ more)) (first_large from m more) (large_behind from m routes more) e
 
 -- one file more
-pub noted_more : (from : Text) (m : Contents) (routes : List Route) (route : Route) (files new : List Measured) (classes now : List Scanned) (waiting : Waiting) → NotedTo from m routes files classes → NotesOne from m route waiting
+pub noted_more : (from : Text) (m : Contents) (routes : List Route) (route : Route) (files new : List Measured) (classes now : List Scanned) (waiting : WaitingFile) → NotedTo from m routes files classes → NotesOne from m route waiting
     → new ≡ files ++ measured_by waiting ∷ [] → now ≡ classes ++ kept_in waiting.route waiting.read → NotedTo from m (routes ++ route ∷ []) new now
 noted_more from m routes route files new classes now waiting h one grown kept = record {
   files = grown ∙ ap (λ (fs : List Measured). fs ++ measured_by waiting ∷ []) h.files ∙ ap (λ (f : Measured). map (measured_at from m) routes ++ f ∷ []) one.file ∙ sym (map-append (measured_at from m) routes (route ∷ []));
@@ -85,10 +86,10 @@ pub split_now : (routes gone : List Route) (route : Route) → map (λ x. x) gon
 split_now routes gone route so_far lt is =
     split_at routes (length gone) route lt is ∙ ap (λ (xs : List Route). xs ++ route ∷ drop (suc (length gone)) routes) (sym so_far ∙ map-id gone)
 
-pub routes_more : (gone : List Route) (route : Route) (files new : List Measured) (waiting : Waiting) → map (λ (f : Measured). f.route) files ≡ gone → waiting.route ≡ route → new ≡ files ++ measured_by waiting ∷ []
+pub routes_more : (gone : List Route) (route : Route) (files new : List Measured) (waiting : WaitingFile) → map (λ (f : Measured). f.route) files ≡ gone → waiting.route ≡ route → new ≡ files ++ measured_by waiting ∷ []
     → map (λ (f : Measured). f.route) new ≡ gone ++ route ∷ []
 routes_more gone route files new waiting e is grown =
     ap (map (λ (f : Measured). f.route)) grown ∙ map-append (λ (f : Measured). f.route) files (measured_by waiting ∷ []) ∙ ap (λ (rs : List Route). rs ++ waiting.route ∷ []) e ∙ ap (λ (r : Route). gone ++ r ∷ []) is
 
-pub within_more : (files new : List Measured) (waiting : Waiting) → All IsWithin files → IsWithin (measured_by waiting) → new ≡ files ++ measured_by waiting ∷ [] → All IsWithin new
+pub within_more : (files new : List Measured) (waiting : WaitingFile) → All IsWithin files → IsWithin (measured_by waiting) → new ≡ files ++ measured_by waiting ∷ [] → All IsWithin new
 within_more files new waiting all one grown = all_pushed IsWithin files new (measured_by waiting) all one grown

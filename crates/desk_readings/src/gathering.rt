@@ -8,7 +8,7 @@ ghost use Rattle.desk_readings.specs.Readings.{weight_in};
 use crate::WHOLE;
 use crate::measured::Measured;
 use crate::measuring::measure_batch;
-use crate::waiting::Waiting;
+use crate::waiting::WaitingFile;
 use desk_base::Memory;
 use desk_graph::Scanned;
 use desk_workers::Gate;
@@ -20,9 +20,13 @@ use std::thread::Threads;
 /// batch of those that weren't, and how many bytes the batch has room for.
 #[derive(Drop)]
 pub struct Gathering {
+    /// The files that were measured.
     pub files: Vec<Measured>,
+    /// What is kept of the well-formed classes among them.
     pub scanned: Vec<Scanned>,
-    pub batch: Vec<Waiting>,
+    /// The files that were read and aren't measured yet.
+    pub batch: Vec<WaitingFile>,
+    /// How many bytes the batch may still take.
     pub room: u64,
     pub ghost light: { room + sum_by (λ waiting. weight_in waiting.read) batch.items ≡ file_size },
 }
@@ -32,7 +36,7 @@ impl Gathering {
     ghost use Rattle.desk_readings.specs.Gathered.{all_kept, all_measured, kept_count};
     ghost use Rattle.desk_readings.specs.Readings.{kept_in, measured_by};
 
-    /// No files. It takes no memory.
+    /// A gathering to begin with: no file was read, and the batch has all its room. It takes no memory.
     pub(crate) fn new(alloc: Global) -> Gathering
         ensures files { result.files.items ≡ [] }
         ensures scanned { result.scanned.items ≡ [] }
@@ -109,7 +113,7 @@ impl Gathering {
         alloc: Global,
         gate: &G,
         workers: u32,
-        waiting: Waiting,
+        waiting: WaitingFile,
     ) -> Result<(), Memory>
         requires some { 0 < workers }
         requires workers { workers ≤ 64 }
@@ -133,7 +137,7 @@ impl Gathering {
         alloc: Global,
         gate: &G,
         workers: u32,
-    ) -> Result<Notes, Memory>
+    ) -> Result<MeasuredFiles, Memory>
         requires some { 0 < workers }
         requires workers { workers ≤ 64 }
         requires few { length self.batch.items < 2 ^ 32 }
@@ -144,13 +148,15 @@ impl Gathering {
         let mut last = self;
         last.close_batch(rt, alloc, gate, workers)?;
         let Gathering { files, scanned, .. } = last;
-        Ok(Notes { files, scanned })
+        Ok(MeasuredFiles { files, scanned })
     }
 }
 
 /// What the first reading found: the files in their order, and what is kept of the classes among them.
 #[derive(Debug, Drop)]
-pub struct Notes {
+pub struct MeasuredFiles {
+    /// Each file with its size and its digest.
     pub files: Vec<Measured>,
+    /// What is kept of the well-formed classes among them, in the files' order.
     pub scanned: Vec<Scanned>,
 }

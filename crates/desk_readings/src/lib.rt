@@ -19,9 +19,9 @@ mod reading;
 mod waiting;
 
 pub use contents::Content;
-use desk_base::FILE_SIZE;
+use desk_base::MAX_FILE_SIZE;
 pub use faults::NoteFault;
-pub use gathering::Notes;
+pub use gathering::MeasuredFiles;
 pub use measured::Measured;
 pub use noting::note_all;
 pub use paths::full_path;
@@ -31,7 +31,7 @@ pub use reading::{digest_of_front, joined, read_whole};
 pub const PART: u32 = 1_048_576;
 
 /// How many bytes a file may have that is read whole, and the whole files of a batch together.
-pub const WHOLE: u64 = FILE_SIZE as u64;
+pub const WHOLE: u64 = MAX_FILE_SIZE as u64;
 
 /// How many bytes a file may have that is copied in parts.
 pub const LARGE: u64 = 1_099_511_627_776;

@@ -8,8 +8,8 @@ ghost use Rattle.desk_file.specs.Treatments.{is_selected_class};
 
 use crate::contents::Content;
 use crate::measured::Measured;
-use crate::reading::Found;
-use crate::waiting::{FirstRead, Waiting};
+use crate::reading::SizeAndDigest;
+use crate::waiting::{FirstRead, WaitingFile};
 use desk_base::Memory;
 use desk_file::{Route, Treatment, scan_class};
 use desk_graph::Scanned;
@@ -21,7 +21,9 @@ use std::thread::Threads;
 /// What a worker finds of a file: how many bytes it has and their digest, and what is kept of a class.
 #[derive(Debug, Drop)]
 pub struct Measures {
-    pub found: Found,
+    /// Its size and its digest.
+    pub found: SizeAndDigest,
+    /// What is kept of a well-formed class; none of any other file.
     pub class: Option<Scanned>,
 }
 
@@ -43,17 +45,17 @@ fn scan_read(alloc: Global, route: &Route, bytes: &Content) -> Result<Option<Sca
 }
 
 /// How many bytes there are, and their digest.
-fn found_of(bytes: &Content) -> Found
+fn found_of(bytes: &Content) -> SizeAndDigest
     ensures { result ≡ found_of bytes.now }
 {
-    Found {
+    SizeAndDigest {
         size: bytes.as_bytes().len() as u64,
         digest: digest_of(bytes.as_bytes()),
     }
 }
 
 /// What a worker finds of a file.
-fn measure(alloc: Global, waiting: &Waiting) -> Result<Measures, Memory>
+fn measure(alloc: Global, waiting: &WaitingFile) -> Result<Measures, Memory>
     ensures { IfOk result (λ measures. measures ≡ measures_of waiting.now) }
 {
     match &waiting.read {
@@ -80,7 +82,7 @@ struct Measuring {
 impl Job for Measuring {
     ghost use Rattle.desk_readings.specs.Readings.{measures_of, weight_in};
 
-    type Item = Waiting;
+    type Item = WaitingFile;
 
     type Out = Measures;
 
@@ -88,17 +90,17 @@ impl Job for Measuring {
 
     ghost weighs = { λ _ waiting. weight_in waiting.read };
 
-    fn weight(&self, waiting: &Waiting) -> u64 {
+    fn weight(&self, waiting: &WaitingFile) -> u64 {
         waiting.read.weight()
     }
 
-    fn run(&self, waiting: &Waiting) -> Result<Measures, Memory> {
+    fn run(&self, waiting: &WaitingFile) -> Result<Measures, Memory> {
         measure(self.alloc, waiting)
     }
 }
 
 /// A file with what was found of it.
-fn measured_with(waiting: Waiting, found: Found) -> Measured
+fn measured_with(waiting: WaitingFile, found: SizeAndDigest) -> Measured
     ensures { result ≡ measured_with waiting.route found }
 {
     Measured {
@@ -111,7 +113,7 @@ fn measured_with(waiting: Waiting, found: Found) -> Measured
 /// Adds the files of a batch, as its workers measured them.
 fn add_files(
     files: &mut Vec<Measured>,
-    batch: Vec<Waiting>,
+    batch: Vec<WaitingFile>,
     found: &[Measures],
 ) -> Result<(), Memory>
     requires { found.now ≡ map measures_of batch.items }
@@ -143,7 +145,7 @@ pub(crate) fn measure_batch<R: Threads + Sync, G: Gate + Sync>(
     alloc: Global,
     gate: &G,
     workers: u32,
-    batch: Vec<Waiting>,
+    batch: Vec<WaitingFile>,
     files: &mut Vec<Measured>,
     scanned: &mut Vec<Scanned>,
 ) -> Result<(), Memory>

@@ -15,12 +15,12 @@ ghost use Rattle.desk_readings.specs.Readings.{first_large, found_in, measured_b
 
 use crate::contents::Content;
 use crate::faults::NoteFault;
-use crate::gathering::{Gathering, Notes};
+use crate::gathering::{Gathering, MeasuredFiles};
 use crate::paths::full_path;
 use crate::reading::{read_first, read_whole};
-use crate::waiting::{FirstRead, Waiting};
+use crate::waiting::{FirstRead, WaitingFile};
 use crate::{LARGE, WHOLE};
-use desk_base::{FILE_SIZE, Text};
+use desk_base::{MAX_FILE_SIZE, Text};
 use desk_file::{Route, Treatment};
 use desk_folders::{FolderFault, Folders};
 use desk_workers::Gate;
@@ -61,7 +61,7 @@ fn read_class<F: Folders>(
     ensures counts { F.faults folders.old ≤ F.faults folders.new }
     ensures failed { result ≡ Err FolderFault.Failed → Rose (F.faults folders.old) (F.faults folders.new) }
 {
-    match read_whole(alloc, folders, source, FILE_SIZE)? {
+    match read_whole(alloc, folders, source, MAX_FILE_SIZE)? {
         Some(text) => Ok(Some(class_of(text))),
         None => Ok(None),
     }
@@ -118,7 +118,7 @@ fn note_one<F: Folders>(
     folders: &mut F,
     from: &Text,
     route: Route,
-) -> Result<Waiting, NoteFault>
+) -> Result<WaitingFile, NoteFault>
     requires there { IfSome (F.told folders.old) (λ m. IsSome (fin.get m (full from.now route.path))) }
     ensures told { F.told folders.new ≡ F.told folders.old }
     ensures one { IfOk result (λ waiting. IfSome (F.told folders.old) (λ m. NotesOne from.now m route waiting)) }
@@ -128,7 +128,7 @@ fn note_one<F: Folders>(
     ensures err { IfErr result (NoteFails (λ m. first_large from.now m (route ∷ [])) (F.told folders.old) (F.faults folders.old) (F.faults folders.new)) }
 {
     match read_route(alloc, folders, from, &route)? {
-        Some(read) => Ok(Waiting { route, read }),
+        Some(read) => Ok(WaitingFile { route, read }),
         None => Err(NoteFault::TooLarge { path: route.path }),
     }
 }
@@ -146,7 +146,7 @@ pub fn note_all<R: Threads + Sync, F: Folders, G: Gate + Sync>(
     from: &Text,
     workers: u32,
     routes: Vec<Route>,
-) -> Result<Notes, NoteFault>
+) -> Result<MeasuredFiles, NoteFault>
     requires some { 0 < workers }
     requires workers { workers ≤ 64 }
     requires few { length routes.items < 2 ^ 32 }

@@ -1,8 +1,8 @@
 -- Laws of what is gathered and what is written.
-use Rattle.std.proofs.Common.{◌≡◌, ℕ, ◌≤◌, List, [], ◌∷◌, ◌++◌, Some, None, Option, refl, sym, ap, ◌∙◌, append_assoc, append-nil, take, drop, suc, length, ◌+◌, ◌<◌, get_or, Result, Ok, Err, OnErr, arith, subst}
+use Rattle.std.proofs.Common.{◌≡◌, ℕ, List, [], ◌∷◌, ◌++◌, Some, None, Option, refl, sym, ap, ◌∙◌, append_assoc, append-nil, take, drop, suc, length, ◌<◌, get_or, subst}
 use Rattle.std.specs.List.{flat_map}
-use Rattle.std.proofs.lemmas.List.{take_more, take-append-drop}
-use Rattle.std.proofs.lemmas.Grind.{flat_map-append, common_steps}
+use Rattle.std.proofs.lemmas.List.{take-append-drop}
+use Rattle.std.proofs.lemmas.Grind.{flat_map-append}
 use Rattle.std.proofs.Math.Seq.{drop-cons}
 use Rattle.desk_base.specs.Names.{Text}
 use Rattle.desk_report.specs.Written.{writing, WritesFront}
@@ -55,28 +55,11 @@ WritesFront-stops whole a b rest w v o p q e g h =
 pub split_at : {X : Type 0} (xs : List X) (i : ℕ) (d : X) → i < length xs → xs ≡ take i xs ++ (get_or xs i d ∷ drop (suc i) xs)
 split_at xs i d lt = sym (take-append-drop i xs) ∙ ap (λ ys. take i xs ++ ys) (drop-cons xs i d lt)
 
--- the texts of a list up to one item, and its text
-pub texts_more : {X : Type 0} (f : X → Text) (xs : List X) (i : ℕ) (d : X) → i < length xs → flat_map f (take (i + 1) xs) ≡ flat_map f (take i xs) ++ f (get_or xs i d)
-texts_more f xs i d lt =
-    ap (flat_map f) (take_more xs i d lt) ∙ flat_map-append f (take i xs) (get_or xs i d ∷ [])
-    ∙ ap (λ t. flat_map f (take i xs) ++ t) (append-nil (f (get_or xs i d)))
-
 -- the texts of a list up to one item, its text, and those behind it
 pub texts_split : {X : Type 0} (f : X → Text) (xs : List X) (i : ℕ) (d : X) → i < length xs → flat_map f xs ≡ flat_map f (take i xs) ++ (f (get_or xs i d) ++ flat_map f (drop (suc i) xs))
 texts_split f xs i d lt = ap (flat_map f) (split_at xs i d lt) ∙ flat_map-append f (take i xs) (get_or xs i d ∷ drop (suc i) xs)
-
-pub on_err : {T E P : Type 0} (r : Result T E) → P → OnErr r P
-on_err (Ok x) p = tt
-on_err (Err e) p = p
 
 -- what failed when all was gathered
 pub WritesFront-all : (whole a v : Text) (o p q : Option Text) → whole ≡ a → Gathers a [] v o p → WritesFront v p q → WritesFront whole o q
 WritesFront-all whole a v o p q e g h =
     WritesFront-stops whole a [] [] [] v o p q (e ∙ sym (append-nil a)) g (subst (λ t. WritesFront t p q) (sym (append-nil v)) h)
-
-pub map_err : {T E P Q : Type 0} (r : Result T E) → (P → Q) → OnErr r P → OnErr r Q
-map_err (Ok x) f p = tt
-map_err (Err e) f p = f p
-
-pub taken_all : {X : Type 0} (xs : List X) (i : ℕ) → length xs ≤ i → take i xs ≡ xs
-taken_all xs i h = grind (arith, common_steps)

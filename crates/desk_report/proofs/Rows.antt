@@ -10,7 +10,7 @@ use Rattle.desk_chains.specs.declared.ChainKind.TheVariants.{RenameThenRename}
 use Rattle.desk_rules.specs.declared.RuleFault.TheVariants.{NoRenames, Properties, BadKey, BadValue, MissingText, Chain}
 use Rattle.desk_ledger.specs.declared.keeper.Header.{Header}
 use Rattle.desk_report.specs.declared.lines.Detail.TheVariants.{Class, Service, Manifest, Texts, Copy}
-use Rattle.desk_report.specs.declared.lines.Line.TheVariants.{Written, Kept, Refused}
+use Rattle.desk_report.specs.declared.lines.ReportLine.TheVariants.{Written, Kept, Refused}
 use Rattle.desk_report.specs.declared.lines.Reason.TheVariants.{Malformed, Overlong, PoolFull, Twins, BadLine, Unsettled}
 use Rattle.desk_base.specs.declared.faults.FaultKind.TheVariants as kinds
 use Rattle.desk_report.specs.declared.status.LimitKind.TheVariants.{Files, PathLength, FileSize, RuleFiles, RuleSize}

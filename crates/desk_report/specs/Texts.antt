@@ -6,8 +6,8 @@ use Rattle.hex.specs.Hex.{encode_lower}
 use Rattle.desk_ledger.specs.declared.keeper.Header.{Header}
 use Rattle.desk_report.specs.declared.lines.Detail.{Detail}
 use Rattle.desk_report.specs.declared.lines.Detail.TheVariants.{Class, Service, Manifest, Texts, Copy}
-use Rattle.desk_report.specs.declared.lines.Line.{Line}
-use Rattle.desk_report.specs.declared.lines.Line.TheVariants.{Written, Kept, Refused}
+use Rattle.desk_report.specs.declared.lines.ReportLine.{ReportLine}
+use Rattle.desk_report.specs.declared.lines.ReportLine.TheVariants.{Written, Kept, Refused}
 use Rattle.desk_report.specs.declared.lines.Reason.{Reason}
 use Rattle.desk_report.specs.declared.lines.Reason.TheVariants.{Malformed, Overlong, PoolFull, Twins, BadLine, Unsettled}
 use Rattle.desk_report.specs.declared.lines.Summary.{Summary}
@@ -37,13 +37,13 @@ reason_pieces (Twins first second) = codes " twins first=" ∷ decimal first ∷
 reason_pieces (BadLine at) = codes " bad-line at=" ∷ decimal at ∷ codes "\n" ∷ []
 reason_pieces (Unsettled at) = codes " unsettled at=" ∷ decimal at ∷ codes "\n" ∷ []
 
-abbrev pub line_pieces : Line → List Text
+abbrev pub line_pieces : ReportLine → List Text
 line_pieces (Written path target detail) = codes "written " ∷ shown path ∷ codes " " ∷ shown target ∷ detail_pieces detail
 line_pieces (Kept path target) = codes "kept " ∷ shown path ∷ codes " " ∷ shown target ∷ codes "\n" ∷ []
 line_pieces (Refused path reason) = codes "refused " ∷ shown path ∷ reason_pieces reason
 
 -- the line of one file
-abbrev pub line_text : Line → Text
+abbrev pub line_text : ReportLine → Text
 line_text line = joined (line_pieces line)
 
 abbrev pub summary_pieces : Summary → List Text

@@ -2,7 +2,7 @@
 //!
 //! ```text
 //! let mut out = StdSink::new(&rt);
-//! write_line(&Line::Kept { path, target }, &mut out)?;   // kept a.txt a.txt
+//! write_line(&ReportLine::Kept { path, target }, &mut out)?;   // kept a.txt a.txt
 //! let status = Status::FolderFault { done: 2 };
 //! write_fault(&status, &mut out)?;                       // migrate: 11 folder fault done=2
 //! status.code()                                          // 11
@@ -19,7 +19,7 @@ mod standard;
 mod status;
 mod writer;
 
-pub use lines::{Detail, Line, Reason, Summary, write_line, write_summary};
+pub use lines::{Detail, Reason, ReportLine, Summary, write_line, write_summary};
 pub use memory::MemorySink;
 pub use reasons::kind_name;
 pub use sink::{Sink, SinkFault};

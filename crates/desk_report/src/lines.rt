@@ -12,7 +12,7 @@ use crate::writer::write_pieces;
 use crate::{Sink, SinkFault};
 use desk_base::{Malformed, Text};
 
-/// What a file's image is made of.
+/// How a file's image came about, with the counts that its line has.
 #[derive(Clone, Copy, Debug, PartialEq, Eq)]
 pub enum Detail {
     /// A class: how many uses of texts have another image than their text, how many texts were added to its constant pool,
@@ -103,7 +103,7 @@ pub enum Reason {
 
 /// The line of one file of the source, by its relative path and its target.
 #[derive(Debug, Drop)]
-pub enum Line {
+pub enum ReportLine {
     /// The target was written in this run.
     Written {
         path: Text,
@@ -122,13 +122,13 @@ pub enum Line {
     },
 }
 
-impl Line {
+impl ReportLine {
     /// The pieces of the line.
     fn pieces(&self) -> Pieces<'_>
         ensures { pieces_text result ≡ line_text self.now }
     {
         match self {
-            Line::Written {
+            ReportLine::Written {
                 path,
                 target,
                 detail,
@@ -139,14 +139,14 @@ impl Line {
                 Piece::Shown(target.as_bytes()),
             ])
             .and(detail.pieces().as_slice()),
-            Line::Kept { path, target } => Pieces::of(&[
+            ReportLine::Kept { path, target } => Pieces::of(&[
                 Piece::Plain(b"kept "),
                 Piece::Shown(path.as_bytes()),
                 Piece::Plain(b" "),
                 Piece::Shown(target.as_bytes()),
                 Piece::Plain(b"\n"),
             ]),
-            Line::Refused { path, reason } => {
+            ReportLine::Refused { path, reason } => {
                 Pieces::of(&[Piece::Plain(b"refused "), Piece::Shown(path.as_bytes())]).and(
                     reason.pieces().as_slice(),
                 )
@@ -159,11 +159,17 @@ impl Line {
 /// renamed and texts added in the classes that were written.
 #[derive(Clone, Copy, Debug, PartialEq, Eq)]
 pub struct Summary {
+    /// Files of the source; written, kept and refused together.
     pub files: u32,
+    /// Files whose target was written in this run.
     pub written: u32,
+    /// Files whose target stands from an earlier run.
     pub kept: u32,
+    /// Files that have no image, and of which nothing was written.
     pub refused: u32,
+    /// Uses of texts in the classes that were written which have another image than their text.
     pub renamed: u64,
+    /// Texts that were added to the constant pools of these classes.
     pub added: u64,
 }
 
@@ -191,7 +197,7 @@ impl Summary {
 }
 
 /// Writes the line of a file, in few writes. After an error a front of it was written. It takes no memory.
-pub fn write_line<O: Sink>(line: &Line, out: &mut O) -> Result<(), SinkFault>
+pub fn write_line<O: Sink>(line: &ReportLine, out: &mut O) -> Result<(), SinkFault>
     ensures ok { OnOk result (O.told out.new ≡ writing (line_text line.now) (O.told out.old)) }
     ensures err { OnErr result (WritesFront (line_text line.now) (O.told out.old) (O.told out.new)) }
     ensures counts { O.faults out.old ≤ O.faults out.new }

@@ -13,9 +13,9 @@ const MOST: usize = 16;
 /// A piece of a line.
 #[derive(Clone, Copy)]
 pub(crate) enum Piece<'a> {
-    /// These bytes.
+    /// Bytes, which are written as they are.
     Plain(&'a [u8]),
-    /// A text as it is shown.
+    /// A text, of which each byte that isn't printed as itself is shown by `\` and two hexadecimal digits.
     Shown(&'a [u8]),
     /// A number in decimal digits.
     Number(u64),
@@ -42,7 +42,7 @@ impl<'a> Model for Pieces<'a> {
 }
 
 impl<'a> Pieces<'a> {
-    /// No pieces.
+    /// A line to begin with, of no pieces.
     pub(crate) fn none() -> Pieces<'a>
         ensures { result ≡ [] }
     {
@@ -52,7 +52,7 @@ impl<'a> Pieces<'a> {
         }
     }
 
-    /// These pieces.
+    /// A line of these pieces, of which there are sixteen at most.
     pub(crate) fn of(pieces: &[Piece<'a>]) -> Pieces<'a>
         requires { length pieces.now ≤ 16 }
         ensures { result ≡ pieces.now }
@@ -72,7 +72,7 @@ impl<'a> Pieces<'a> {
         pieces
     }
 
-    /// A text as it is.
+    /// A line of one piece, a text that is written as it is.
     pub(crate) fn plain(text: &'a [u8]) -> Pieces<'a>
         ensures text { pieces_text result ≡ text.now }
         ensures one { length result ≡ 1 }

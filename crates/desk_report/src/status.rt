@@ -20,7 +20,7 @@ use desk_rules::RuleFault;
 const USAGE: &[u8] =
     b"migrate: 20 usage: migrate run --rules R --from A --to B --ledger L [--workers N] [--verify] or migrate generate --count N [--workers N]\n";
 
-/// What a run takes no more of.
+/// Which limit of a run is passed, by what it counts.
 #[derive(Clone, Copy, Debug, PartialEq, Eq)]
 pub enum LimitKind {
     /// 200,000 files of the source.
@@ -60,15 +60,15 @@ pub enum Status {
     Refusals,
     /// Memory ran out.
     Memory,
-    /// The folders failed.
+    /// A call on the folders failed.
     FolderFault {
         done: u32,
     },
-    /// The ledger failed.
+    /// A call on the ledger failed.
     LedgerFault {
         done: u32,
     },
-    /// The output failed.
+    /// A write of the report failed.
     OutputFault,
     /// The words mean no task.
     Usage,
@@ -114,7 +114,7 @@ pub enum Status {
 }
 
 impl Status {
-    /// The exit status of the program.
+    /// The exit status that the program ends with: 0, 2, 10 to 13, or 20 to 28.
     pub fn code(&self) -> u8
         ensures { result ≡ code_of self.now }
     {

@@ -19,12 +19,12 @@ const ROOM: usize = 1024;
 
 /// Bytes that wait to be written together.
 #[derive(Drop)]
-struct Waiting {
+struct WriteBuffer {
     bytes: [u8; ROOM],
     len: usize,
 }
 
-impl Model for Waiting {
+impl Model for WriteBuffer {
     ghost use Rattle.std.specs.Prelude.{ℕ, List, take, ◌≤◌};
 
     ghost Value = { List ℕ };
@@ -34,11 +34,11 @@ impl Model for Waiting {
     ghost invariant = { λ w. w.len ≤ 1024 };
 }
 
-impl Waiting {
-    fn new() -> Waiting
+impl WriteBuffer {
+    fn new() -> WriteBuffer
         ensures { result ≡ [] }
     {
-        Waiting {
+        WriteBuffer {
             bytes: [0; ROOM],
             len: 0,
         }
@@ -77,8 +77,8 @@ impl Waiting {
     }
 }
 
-/// Writes what waits.
-fn flush<O: Sink>(out: &mut O, waiting: &mut Waiting) -> Result<(), SinkFault>
+/// Writes the bytes that wait, where there are some, in one write.
+fn flush<O: Sink>(out: &mut O, waiting: &mut WriteBuffer) -> Result<(), SinkFault>
     ensures ok { OnOk result (O.told out.new ≡ writing waiting.old (O.told out.old)) }
     ensures err { OnErr result (WritesFront waiting.old (O.told out.old) (O.told out.new)) }
     ensures empty { waiting.new ≡ [] }
@@ -95,7 +95,7 @@ fn flush<O: Sink>(out: &mut O, waiting: &mut Waiting) -> Result<(), SinkFault>
 }
 
 /// Puts a byte behind what waits.
-fn put<O: Sink>(out: &mut O, waiting: &mut Waiting, byte: u8) -> Result<(), SinkFault>
+fn put<O: Sink>(out: &mut O, waiting: &mut WriteBuffer, byte: u8) -> Result<(), SinkFault>
     ensures ok { OnOk result (Gathers (byte ∷ []) waiting.old waiting.new (O.told out.old) (O.told out.new)) }
     ensures err { OnErr result (WritesFront (waiting.old ++ byte ∷ []) (O.told out.old) (O.told out.new)) }
     ensures counts { O.faults out.old ≤ O.faults out.new }
@@ -109,7 +109,7 @@ fn put<O: Sink>(out: &mut O, waiting: &mut Waiting, byte: u8) -> Result<(), Sink
 }
 
 /// Puts bytes behind what waits.
-fn put_all<O: Sink>(out: &mut O, waiting: &mut Waiting, bytes: &[u8]) -> Result<(), SinkFault>
+fn put_all<O: Sink>(out: &mut O, waiting: &mut WriteBuffer, bytes: &[u8]) -> Result<(), SinkFault>
     ensures ok { OnOk result (Gathers bytes.now waiting.old waiting.new (O.told out.old) (O.told out.new)) }
     ensures err { OnErr result (WritesFront (waiting.old ++ bytes.now) (O.told out.old) (O.told out.new)) }
     ensures counts { O.faults out.old ≤ O.faults out.new }
@@ -122,7 +122,7 @@ fn put_all<O: Sink>(out: &mut O, waiting: &mut Waiting, bytes: &[u8]) -> Result<
 }
 
 /// Puts a byte as it is shown.
-fn put_byte<O: Sink>(out: &mut O, waiting: &mut Waiting, byte: u8) -> Result<(), SinkFault>
+fn put_byte<O: Sink>(out: &mut O, waiting: &mut WriteBuffer, byte: u8) -> Result<(), SinkFault>
     ensures ok { OnOk result (Gathers (shown_byte byte) waiting.old waiting.new (O.told out.old) (O.told out.new)) }
     ensures err { OnErr result (WritesFront (waiting.old ++ shown_byte byte) (O.told out.old) (O.told out.new)) }
     ensures counts { O.faults out.old ≤ O.faults out.new }
@@ -132,7 +132,7 @@ fn put_byte<O: Sink>(out: &mut O, waiting: &mut Waiting, byte: u8) -> Result<(),
 }
 
 /// Puts the bytes of a text, each as it is shown.
-fn put_bytes<O: Sink>(out: &mut O, waiting: &mut Waiting, text: &[u8]) -> Result<(), SinkFault>
+fn put_bytes<O: Sink>(out: &mut O, waiting: &mut WriteBuffer, text: &[u8]) -> Result<(), SinkFault>
     ensures ok { OnOk result (Gathers (flat_map shown_byte text.now) waiting.old waiting.new (O.told out.old) (O.told out.new)) }
     ensures err { OnErr result (WritesFront (waiting.old ++ flat_map shown_byte text.now) (O.told out.old) (O.told out.new)) }
     ensures counts { O.faults out.old ≤ O.faults out.new }
@@ -145,7 +145,7 @@ fn put_bytes<O: Sink>(out: &mut O, waiting: &mut Waiting, text: &[u8]) -> Result
 }
 
 /// Puts a text as it is shown.
-fn put_shown<O: Sink>(out: &mut O, waiting: &mut Waiting, text: &[u8]) -> Result<(), SinkFault>
+fn put_shown<O: Sink>(out: &mut O, waiting: &mut WriteBuffer, text: &[u8]) -> Result<(), SinkFault>
     ensures ok { OnOk result (Gathers (shown text.now) waiting.old waiting.new (O.told out.old) (O.told out.new)) }
     ensures err { OnErr result (WritesFront (waiting.old ++ shown text.now) (O.told out.old) (O.told out.new)) }
     ensures counts { O.faults out.old ≤ O.faults out.new }
@@ -159,7 +159,11 @@ fn put_shown<O: Sink>(out: &mut O, waiting: &mut Waiting, text: &[u8]) -> Result
 }
 
 /// Puts a digest in hexadecimal digits.
-fn put_hex<O: Sink>(out: &mut O, waiting: &mut Waiting, digest: &[u8; 32]) -> Result<(), SinkFault>
+fn put_hex<O: Sink>(
+    out: &mut O,
+    waiting: &mut WriteBuffer,
+    digest: &[u8; 32],
+) -> Result<(), SinkFault>
     ensures ok { OnOk result (Gathers (encode_lower digest.now) waiting.old waiting.new (O.told out.old) (O.told out.new)) }
     ensures err { OnErr result (WritesFront (waiting.old ++ encode_lower digest.now) (O.told out.old) (O.told out.new)) }
     ensures counts { O.faults out.old ≤ O.faults out.new }
@@ -171,7 +175,11 @@ fn put_hex<O: Sink>(out: &mut O, waiting: &mut Waiting, digest: &[u8; 32]) -> Re
 }
 
 /// Puts a piece behind what waits.
-fn put_piece<O: Sink>(out: &mut O, waiting: &mut Waiting, piece: Piece<'_>) -> Result<(), SinkFault>
+fn put_piece<O: Sink>(
+    out: &mut O,
+    waiting: &mut WriteBuffer,
+    piece: Piece<'_>,
+) -> Result<(), SinkFault>
     ensures ok { OnOk result (Gathers (piece_text piece.entry) waiting.old waiting.new (O.told out.old) (O.told out.new)) }
     ensures err { OnErr result (WritesFront (waiting.old ++ piece_text piece.entry) (O.told out.old) (O.told out.new)) }
     ensures counts { O.faults out.old ≤ O.faults out.new }
@@ -196,7 +204,7 @@ pub(crate) fn write_pieces<O: Sink>(out: &mut O, pieces: &[Piece<'_>]) -> Result
     if pieces.is_empty() {
         return Ok(());
     }
-    let mut waiting = Waiting::new();
+    let mut waiting = WriteBuffer::new();
     for piece in pieces {
         put_piece(out, &mut waiting, *piece)?;
     }

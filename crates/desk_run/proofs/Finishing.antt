@@ -1,7 +1,8 @@
 -- From what was gathered, planned and written to what a run promises.
 use Rattle.std.proofs.Common.{All, ◌≡◌, ℕ, true, List, map, Option, Some, None, refl, ap, ◌∙◌, subst, IfSome, option_map}
 use Rattle.desk_base.specs.Names.{Text}
-use Rattle.desk_readings.proofs.Fronts.{at_some, if_some}
+use Rattle.desk_base.proofs.Results.{at_some}
+use Rattle.desk_readings.proofs.Fronts.{if_some}
 use Rattle.desk_batches.specs.Notes.{IsNoteOf}
 use Rattle.desk_batches.specs.Turns.{outcome_of, works_in}
 use Rattle.desk_batches.specs.Works.{files_after, ledger_after}

@@ -8,7 +8,8 @@ use Rattle.desk_base.specs.Limits.{file_size}
 use Rattle.desk_base.specs.Names.{Text}
 use Rattle.desk_base.specs.Paths.{full}
 use Rattle.desk_base.specs.declared.faults.Malformed.{Malformed}
-use Rattle.desk_readings.proofs.Fronts.{at_some, if_some}
+use Rattle.desk_base.proofs.Results.{at_some}
+use Rattle.desk_readings.proofs.Fronts.{if_some}
 use Rattle.desk_readings.specs.Sizes.{large_size}
 use Rattle.desk_readings.specs.Noting.{IsWithin, NoteFails, NotedTo}
 use Rattle.desk_readings.specs.Readings.{bytes_here, first_large, is_large, measured_at, most_by, scanned_route, scans_at}

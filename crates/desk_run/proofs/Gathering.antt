@@ -2,7 +2,8 @@
 use Rattle.std.proofs.Common.{All, ◌≡◌, ℕ, ◌≤◌, ◌<◌, ◌^◌, true, List, [], ◌∷◌, length, Option, Some, None, refl, sym, ap, ◌∙◌, map, Result, Ok, Err, IfOk, IfErr, IfSome}
 use Rattle.desk_base.specs.Counts.{Rose-earlier}
 use Rattle.desk_base.specs.Names.{Text}
-use Rattle.desk_readings.proofs.Fronts.{at_some, if_some}
+use Rattle.desk_base.proofs.Results.{at_some}
+use Rattle.desk_readings.proofs.Fronts.{if_some}
 use Rattle.desk_readings.specs.Noting.{NotedTo}
 use Rattle.desk_readings.specs.declared.measured.Measured.{Measured}
 use Rattle.desk_clashes.specs.Clashes.{first_clash}

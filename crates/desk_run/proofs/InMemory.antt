@@ -1,9 +1,9 @@
 -- The run over a generated application: its files, its roots and its totals.
-use Rattle.std.proofs.Common.{◌≡◌, ℕ, Bool, true, false, List, [], ◌∷◌, ◌++◌, Option, Some, None, refl, sym, ap, ◌∙◌, subst, map, Result, Ok, Err}
-use Rattle.std.specs.Prelude.{◌||◌, IfOk, IsOkAnd, codes}
+use Rattle.std.proofs.Common.{◌≡◌, ℕ, true, List, [], ◌∷◌, ◌++◌, Option, Some, None, refl, sym, ap, ◌∙◌, subst, map, Result, Ok, Err}
+use Rattle.std.specs.Prelude.{IfOk, IsOkAnd, codes}
 use Rattle.std.specs.List.{list_all}
 use Rattle.std.specs.FinMap as fin
-use Rattle.std.proofs.lemmas.Bool.{and_parts, and_from}
+use Rattle.std.proofs.lemmas.Bool.{and_parts, and_from, or_left}
 use Rattle.desk_base.specs.Names.{Text}
 use Rattle.desk_base.specs.Paths.{full, is_full_path, is_relative_path}
 use Rattle.desk_folders.specs.declared.folders.GenFile.{GenFile}
@@ -21,13 +21,9 @@ use Rattle.desk_run.specs.Reports.{summary_of}
 use Rattle.desk_run.specs.Endings.{WhereTold}
 use Rattle.desk_run.specs.Generated.{placed, generated_roots, generated_files, generated_contents, generated_totals, totals_by}
 
-or_yes : (a b : Bool) → a ≡ true → a || b ≡ true
-or_yes true b e = refl
-or_yes false b e = cc
-
 -- paths below `in` and below `rules`
 below_in : (path : Text) → is_relative_path path ≡ true → is_full_path (full (codes "in") path) ≡ true
-below_in path e = or_yes _ _ e
+below_in path e = or_left _ _ e
 
 all_below_in : (files : List GenFile) → list_all (λ (file : GenFile). is_relative_path file.path) files ≡ true → list_all (λ (file : GenFile). is_full_path file.path) (map (placed (codes "in")) files) ≡ true
 all_below_in [] e = refl

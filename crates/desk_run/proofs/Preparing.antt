@@ -2,7 +2,8 @@
 use Rattle.std.proofs.Common.{All, ◌≡◌, inl, inr, ℕ, true, List, [], ◌∷◌, Option, Some, None, refl, sym, ap, ◌∙◌, subst, map, Result, IfSome}
 use Rattle.std.proofs.lemmas.List.Elements.{All-head, All-tail}
 use Rattle.desk_base.specs.Names.{Text}
-use Rattle.desk_readings.proofs.Fronts.{at_some, if_some}
+use Rattle.desk_base.proofs.Results.{at_some}
+use Rattle.desk_readings.proofs.Fronts.{if_some}
 use Rattle.desk_batches.specs.Turns.{works_in}
 use Rattle.desk_batches.specs.declared.noted.Noted.{Noted}
 use Rattle.desk_clashes.specs.ClashLaws.{ApartFromAll, AllApart, all_apart}

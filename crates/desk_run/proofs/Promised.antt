@@ -20,7 +20,6 @@ use Rattle.desk_format.specs.Laws.{IsBytes}
 use Rattle.desk_laws.proofs.Whole.{renamed_classes, unchanged_classes}
 use Rattle.desk_follow.specs.RuleImages.{images_of}
 use Rattle.desk_rewrite.proofs.Forms.{forms_kept, images_settled}
-use Rattle.desk_paths.specs.declared.Kind.{Kind}
 use Rattle.desk_paths.specs.declared.Kind.TheVariants as kinds
 use Rattle.desk_paths.specs.Kinds.{kind_of}
 use Rattle.desk_rules.specs.Rules.{Rules}
@@ -30,7 +29,7 @@ use Rattle.desk_file.specs.declared.images.Image.{Image}
 use Rattle.desk_file.proofs.Alone.{HasAlone, has_alone}
 use Rattle.desk_file.proofs.ClassImages.{class_made}
 use Rattle.desk_follow.proofs.Follow.{follow}
-use Rattle.desk_file.specs.ClassScans.{is_class_kind}
+use Rattle.desk_second.proofs.Classes.{class_kind}
 use Rattle.desk_run.specs.Runs.{Run}
 use Rattle.desk_run.specs.Works.{works_of}
 use Rattle.desk_run.specs.Truth.{IsVerified, SoundLedger, TrueLedger}
@@ -93,17 +92,11 @@ files_clause asked m0 l0 f k status t = record { m = t.m; l = t.l; folders = t.f
 
 -- ---- classes
 
-pub kind_is_class : (kind : Kind) → is_class_kind kind ≡ true → kind ≡ kinds.Class
-kind_is_class kinds.Class h = refl
-kind_is_class kinds.Service h = absurd cc
-kind_is_class kinds.Manifest h = absurd cc
-kind_is_class kinds.Other h = absurd cc
-
 class_of_run : (rules : Rules) (file : File) (image : Image) (held : Option Text) → IsRuleSet rules → IsBytes file.bytes → is_selected_class rules file.path ≡ true → HasAlone (image_at rules file.path file.bytes) image → held ≡ Some image.bytes
     → HoldsNewClass rules file.bytes held
 class_of_run rules file image held settled bytes selected is there =
     let p = and_parts _ _ selected in
-    let m = class_made rules file.path file.bytes is.alone p.0 (kind_is_class (kind_of file.path) p.1) is.is in
+    let m = class_made rules file.path file.bytes is.alone p.0 (class_kind (kind_of file.path) p.1) is.is in
     let forms = forms_kept rules settled in
     let renamed = renamed_classes (images_of rules) file.bytes m.class forms bytes m.reads m.accepted in
     record {

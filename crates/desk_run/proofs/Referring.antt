@@ -27,8 +27,8 @@ use Rattle.desk_run.specs.Meaning.{defined_in, run_of}
 use Rattle.desk_run.specs.Named.{Asked}
 use Rattle.desk_run.specs.Runs.{Run}
 use Rattle.desk_ledger.specs.Ledger.{Ledger}
+use Rattle.desk_second.proofs.Classes.{class_kind}
 use Rattle.desk_run.proofs.Preparing.{no_clash, last_none}
-use Rattle.desk_run.proofs.Promised.{kind_is_class}
 
 first_none : (a b : Option Status) → first_of a b ≡ None → a ≡ None
 first_none None b e = refl
@@ -63,10 +63,10 @@ follow_over roots r m rules_are bytes built names =
       follow = λ file image there selected is.
           let p = and_parts _ _ selected in
           let b = has_alone rules (defined_in (classes_of rules files)) file.path file.bytes image is in
-          subst (Follows rules files file.bytes) (sym b.bytes) (references rules files rules_are.settled are unlike file b.alone there p.0 (kind_is_class _ p.1) b.is);
+          subst (Follows rules files file.bytes) (sym b.bytes) (references rules files rules_are.settled are unlike file b.alone there p.0 (class_kind _ p.1) b.is);
       defines = λ file image c there kind reads is.
           let b = has_alone rules (defined_in (classes_of rules files)) file.path file.bytes image is in
-          ap name_in b.bytes ∙ definitions rules files rules_are.settled are stay file b.alone c there (kind_is_class _ kind) reads b.is;
+          ap name_in b.bytes ∙ definitions rules files rules_are.settled are stay file b.alone c there (class_kind _ kind) reads b.is;
       twice = λ images h. second rules files images rules_are are apart stay h;
     }
 

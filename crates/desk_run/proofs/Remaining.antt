@@ -6,6 +6,7 @@ use Rattle.std.specs.FinMap as fin
 use Rattle.std.specs.Cmp.Lexicographic.{pointwise}
 use Rattle.std.proofs.lemmas.List.{map-append}
 use Rattle.std.proofs.lemmas.Slice.Eq.{bytes_eq-Decides}
+use Rattle.std.proofs.lemmas.Bool.{and_parts}
 use Rattle.desk_base.specs.Names.{Text}
 use Rattle.desk_base.specs.Paths.{full, is_relative_path}
 use Rattle.desk_folders.specs.Contents.{Contents, File, setting, files_below}
@@ -29,10 +30,6 @@ use Rattle.desk_run.proofs.After.{Off, Spares, full_apart, files_spare, rows_spa
 use Rattle.desk_intake.proofs.There.{AllThere, IsThere, there_at, files_there}
 use Rattle.desk_run.proofs.Truths.{true_after, true_broken}
 
-pub and_both : (a b : Bool) → a && b ≡ true → (a ≡ true) × (b ≡ true)
-and_both true b e = (refl, e)
-and_both false b e = cc
-
 -- the row by which a file is kept
 record IsKeptBy (finds : Held → Bool) (o : Option Held) (path digest : Text) : Type 0 where
   row : Held
@@ -44,8 +41,8 @@ record IsKeptBy (finds : Held → Bool) (o : Option Held) (path digest : Text) :
 kept_row : (finds : Held → Bool) (o : Option Held) (path digest : Text) → is_kept finds o path digest ≡ true → IsKeptBy finds o path digest
 kept_row finds None path digest e = cc
 kept_row finds (Some row) path digest e =
-    let found = and_both (is_candidate row path digest) (finds row) e in
-    let both = and_both (pointwise ◌==◌ row.source path) (pointwise ◌==◌ row.digest.0 digest) found.0 in
+    let found = and_parts (is_candidate row path digest) (finds row) e in
+    let both = and_parts (pointwise ◌==◌ row.source path) (pointwise ◌==◌ row.digest.0 digest) found.0 in
     record { row = row; is = refl; source = (bytes_eq-Decides row.source path).0 both.0; digest_is = (bytes_eq-Decides row.digest.0 digest).0 both.1; found = found.1 }
 
 -- a file's work writes where it is fresh

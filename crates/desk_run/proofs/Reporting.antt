@@ -1,5 +1,5 @@
 -- Fronts of what is to be written.
-use Rattle.std.proofs.Common.{◌≡◌, ◌<◌, ℕ, suc, subst, List, [], ◌∷◌, ◌++◌, Option, Some, None, refl, sym, ap, ◌∙◌, take, drop, length, get_or, append_assoc, append-nil, map, map-id, arith}
+use Rattle.std.proofs.Common.{◌≡◌, ◌<◌, ℕ, suc, subst, List, [], ◌∷◌, ◌++◌, Option, refl, sym, ap, ◌∙◌, take, drop, length, get_or, append_assoc, append-nil, map, map-id, arith}
 use Rattle.desk_base.specs.Names.{Text}
 use Rattle.desk_readings.proofs.Fronts.{split_at}
 use Rattle.desk_batches.specs.declared.noted.Noted.{Noted}
@@ -8,11 +8,8 @@ use Rattle.desk_batches.specs.declared.noted.Outcome.TheVariants.{Kept}
 use Rattle.desk_report.specs.declared.lines.Summary.{Summary}
 use Rattle.desk_report.specs.Texts.{summary_text}
 use Rattle.desk_report.specs.Written.{WritesFront, writing}
+use Rattle.desk_report.proofs.Gathering.{writing-twice}
 use Rattle.desk_run.specs.Reports.{lines_of, outcome_line, report_by, summary_by}
-
-writing-writing : (before more : Text) (old : Option Text) → writing more (writing before old) ≡ writing (before ++ more) old
-writing-writing before more None = refl
-writing-writing before more (Some text) = ap Some (append_assoc text before more)
 
 -- a front of a later piece is a front of the whole
 pub front_after : (all before piece rest : Text) (old mid new : Option Text) → mid ≡ writing before old → all ≡ before ++ (piece ++ rest) → WritesFront piece mid new → WritesFront all old new
@@ -20,7 +17,7 @@ front_after all before piece rest old mid new e whole w = record {
   front = before ++ w.front;
   rest = w.rest ++ rest;
   all = whole ∙ ap (λ p. before ++ (p ++ rest)) w.all ∙ ap (λ p. before ++ p) (append_assoc w.front w.rest rest) ∙ sym (append_assoc before w.front (w.rest ++ rest));
-  is = w.is ∙ ap (writing w.front) e ∙ writing-writing before w.front old;
+  is = w.is ∙ ap (writing w.front) e ∙ writing-twice before w.front old;
 }
 
 -- the outcome of a file at a place
@@ -43,7 +40,7 @@ pub line_more : (gone : List Noted) (file : Noted) (outcomes : List Outcome) (pl
     → mid ≡ writing (lines_of gone outcomes) old → new ≡ writing (outcome_line file.route.path file.route.target (outcome_at outcomes place)) mid → new ≡ writing (lines_of (gone ++ file ∷ []) outcomes) old
 line_more gone file outcomes place old mid new at lt told e =
     let line = outcome_line file.route.path file.route.target (outcome_at outcomes (length gone)) in
-    e ∙ ap (λ n. writing (outcome_line file.route.path file.route.target (outcome_at outcomes n)) mid) at ∙ ap (writing line) told ∙ writing-writing (lines_of gone outcomes) line old
+    e ∙ ap (λ n. writing (outcome_line file.route.path file.route.target (outcome_at outcomes n)) mid) at ∙ ap (writing line) told ∙ writing-twice (lines_of gone outcomes) line old
     ∙ ap (λ t. writing t old) (ap (λ t. lines_of gone outcomes ++ t) (sym (append-nil line)) ∙ sym (lines_split gone file [] outcomes lt))
 
 -- the line of a file in the report
@@ -67,7 +64,7 @@ line_front noted gone file outcomes place old mid new e lt is at same told w =
 pub totals_told : (noted gone : List Noted) (outcomes : List Outcome) (summary : Summary) (old mid new : Option Text) → map (λ x. x) gone ≡ noted → summary ≡ summary_by outcomes → mid ≡ writing (lines_of gone outcomes) old
     → new ≡ writing (summary_text summary) mid → new ≡ writing (report_by noted outcomes) old
 totals_told noted gone outcomes summary old mid new e same told f =
-    f ∙ ap (writing (summary_text summary)) told ∙ writing-writing (lines_of gone outcomes) (summary_text summary) old
+    f ∙ ap (writing (summary_text summary)) told ∙ writing-twice (lines_of gone outcomes) (summary_text summary) old
     ∙ ap (λ (s : Summary). writing (lines_of gone outcomes ++ summary_text s) old) same
     ∙ ap (λ (xs : List Noted). writing (lines_of xs outcomes ++ summary_text (summary_by outcomes)) old) (sym (map-id gone) ∙ e)
 

@@ -9,7 +9,7 @@ use Rattle.desk_folders.specs.Contents.{File}
 use Rattle.desk_ledger.specs.Ledger.{Rows}
 use Rattle.desk_report.specs.declared.lines.Detail.{Detail}
 use Rattle.desk_report.specs.declared.lines.Detail.TheVariants.{Class, Service, Manifest, Texts, Copy}
-use Rattle.desk_report.specs.declared.lines.Line.TheVariants.{Written, Kept, Refused}
+use Rattle.desk_report.specs.declared.lines.ReportLine.TheVariants.{Written, Kept, Refused}
 use Rattle.desk_report.specs.declared.lines.Summary.{Summary}
 use Rattle.desk_report.specs.declared.status.Status.{Status}
 use Rattle.desk_report.specs.declared.status.Status.TheVariants.{Done, Refusals}

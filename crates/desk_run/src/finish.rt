@@ -37,7 +37,7 @@ use desk_folders::Folders;
 use desk_graph::ClassGraph;
 use desk_intake::Halt;
 use desk_ledger::{Header, Keeper};
-use desk_readings::Notes;
+use desk_readings::MeasuredFiles;
 use desk_report::{Sink, Status, Summary};
 use desk_rules::RuleSet;
 use desk_words::Roots;
@@ -48,7 +48,9 @@ use std::thread::Threads;
 /// What a run is about to do: the graph of its classes, and what is known of its files.
 #[derive(Drop)]
 pub struct Prepared<'r> {
+    /// The names of the application's classes with their images.
     pub graph: ClassGraph<'r>,
+    /// Each file of the source with what is to be done with it, in byte order of their paths.
     pub noted: Vec<Noted>,
 }
 
@@ -60,7 +62,7 @@ fn plan<'r, F: Folders, K: Keeper>(
     names: &Roots,
     header: &Header,
     rules: &'r RuleSet,
-    notes: Notes,
+    notes: MeasuredFiles,
 ) -> Result<Prepared<'r>, Halt>
     requires roots { AreRoots names.now }
     requires few { length notes.scanned.items < 2 ^ 32 }
@@ -81,7 +83,7 @@ fn plan<'r, F: Folders, K: Keeper>(
     ensures counts_f { F.faults folders.old ≤ F.faults folders.new }
     ensures counts { K.faults keeper.old ≤ K.faults keeper.new }
 {
-    let Notes { files, scanned } = notes;
+    let MeasuredFiles { files, scanned } = notes;
     let graph = build_graph(alloc, rules, scanned)?;
     open_ledger(keeper, &names.ledger, header)?;
     let noted = plan_files(alloc, folders, keeper, names, files)?;
@@ -160,7 +162,9 @@ fn write_and_commit<R: Threads + Sync, F: Folders, K: Keeper, G: Gate + Sync>(
 /// The files of a run that are done, and what became of each.
 #[derive(Drop)]
 pub struct Written {
+    /// Each file of the source, in byte order of their paths.
     pub noted: Vec<Noted>,
+    /// What became of each, in the same order.
     pub outcomes: Vec<Outcome>,
 }
 

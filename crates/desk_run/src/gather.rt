@@ -18,7 +18,7 @@ use desk_base::Memory;
 use desk_folders::Folders;
 use desk_intake::{Halt, Ruled, list_routes, read_rules};
 use desk_ledger::Header;
-use desk_readings::{Notes, note_all};
+use desk_readings::{MeasuredFiles, note_all};
 use desk_words::Roots;
 use desk_workers::Gate;
 use std::alloc::Global;
@@ -27,9 +27,12 @@ use std::thread::Threads;
 /// What a run goes by: its rules, its header, and what was read of its files.
 #[derive(Drop)]
 pub struct Gathered {
+    /// The rule set with the digest of its files.
     pub ruled: Box<Ruled>,
+    /// The header that the ledger of this run has.
     pub header: Header,
-    pub notes: Notes,
+    /// What the first reading of the source found.
+    pub notes: MeasuredFiles,
 }
 
 /// The header of a run.
@@ -54,7 +57,7 @@ fn read_files<R: Threads + Sync, F: Folders, G: Gate + Sync>(
     names: &Roots,
     ruled: &Ruled,
     workers: u32,
-) -> Result<Notes, Halt>
+) -> Result<MeasuredFiles, Halt>
     requires roots { AreRoots names.now }
     requires workers { AreWorkers workers }
     ensures told { F.told folders.new ≡ F.told folders.old }

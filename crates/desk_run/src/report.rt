@@ -9,7 +9,7 @@ ghost use Rattle.desk_run.specs.Reports.{added_texts, is_written, number_in, out
 
 use desk_batches::{Noted, Outcome};
 use desk_file::Route;
-use desk_report::{Detail, Line, Sink, SinkFault, Summary, write_line, write_summary};
+use desk_report::{Detail, ReportLine, Sink, SinkFault, Summary, write_line, write_summary};
 
 /// How many files were written.
 fn count_written(outcomes: &[Outcome]) -> usize
@@ -113,18 +113,18 @@ pub(crate) fn summary_of(outcomes: &[Outcome]) -> Summary
 }
 
 /// The line of a file.
-fn line_of(route: Route, outcome: Outcome) -> Line
+fn line_of(route: Route, outcome: Outcome) -> ReportLine
     ensures { line_text result ≡ outcome_line route.path route.target outcome }
 {
     let Route { path, target, .. } = route;
     match outcome {
-        Outcome::Kept => Line::Kept { path, target },
-        Outcome::Written { detail } => Line::Written {
+        Outcome::Kept => ReportLine::Kept { path, target },
+        Outcome::Written { detail } => ReportLine::Written {
             path,
             target,
             detail,
         },
-        Outcome::Refused { reason } => Line::Refused { path, reason },
+        Outcome::Refused { reason } => ReportLine::Refused { path, reason },
     }
 }
 

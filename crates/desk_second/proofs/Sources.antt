@@ -15,7 +15,7 @@ use Rattle.desk_rules.specs.RuleFiles.{rules_of_files}
 use Rattle.desk_rules.specs.Rules.{Rules, Versions}
 use Rattle.desk_rules.specs.RuleSets.{rules_of}
 use Rattle.desk_chains.specs.Chains.{Chain}
-use Rattle.desk_chains.specs.Exchanges.{BundleUpdate, Exchange}
+use Rattle.desk_entries.specs.Exchanges.{BundleUpdate, Exchange}
 use Rattle.desk_rules.specs.Settled.{first_chain}
 use Rattle.desk_rules.specs.TextFiles.{one_more, by_name, checked_texts, named_all, named_by, text_rule_entry, rule_texts, pattern_text, pattern_texts, texts_in}
 use Rattle.desk_rules.specs.declared.RuleFault.{RuleFault}

@@ -1,9 +1,8 @@
 -- The targets of images lie apart.
 use Rattle.std.proofs.Common.{◌≡◌, ◌≢◌, inl, inr, ℕ, suc, List, [], ◌∷◌, get_or, None, refl, sym, ap, subst, ◌∙◌, arith}
 use Rattle.std.specs.Ordering.{nat_cmp}
-use Rattle.std.specs.declared.cmp.Ordering.TheVariants.{Less, Equal}
+use Rattle.std.specs.declared.cmp.Ordering.TheVariants.{Less}
 use Rattle.std.specs.Cmp.Lexicographic.{slice_cmp}
-use Rattle.std.proofs.lemmas.Cmp.{nat_list_cmp_total, tied_itself}
 use Rattle.desk_base.specs.Names.{Text}
 use Rattle.desk_clashes.specs.Clashes.{first_clash}
 use Rattle.desk_clashes.specs.ClashLaws.{Apart, ApartFromAll, AllApart, all_apart, apart_places}
@@ -15,13 +14,11 @@ use Rattle.desk_packages.specs.Keys.{RiseBy}
 use Rattle.desk_rules.specs.Rules.{Rules}
 use Rattle.desk_rules.specs.RuleSets.{IsRuleSet}
 use Rattle.desk_class.proofs.Ascending.{from_contains}
+use Rattle.desk_graph.proofs.Numbering.{less_itself}
 use Rattle.desk_second.specs.Applications.{targets_of}
 use Rattle.desk_second.specs.Second.{IsImageOf}
 use Rattle.desk_second.proofs.Classes.{in_map}
 use Rattle.desk_second.proofs.Files.{target_again}
-
-less_itself : (t : Text) → slice_cmp nat_cmp t t ≡ Less → ⊥
-less_itself t less = let tied : slice_cmp nat_cmp t t ≡ Equal = tied_itself nat_list_cmp_total t in cc (tied, less)
 
 module _ (rules : Rules) (is : IsRuleSet rules) (files : List File) (none : first_clash (targets_of rules files) ≡ None) where
   goes : File → Text

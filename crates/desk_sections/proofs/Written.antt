@@ -1,6 +1,6 @@
 -- A folded text, written piece by piece.
 use Rattle.std.proofs.Common.{◌≡◌, ℕ, zero, suc, ◌-◌, ◌<◌, ◌≤◌, Bool, true, false, cond, nat_le, List, [], ◌∷◌, ◌++◌, length, take, drop, refl, ap, sym, ◌∙◌, arith, length-drop, append_assoc, le_refl}
-use Rattle.std.proofs.lemmas.Bool.{le-leb, leb-true}
+use Rattle.std.proofs.lemmas.Bool.{le-leb, lt-leb}
 use Rattle.desk_base.specs.Names.{Text, is_empty}
 use Rattle.desk_sections.specs.Folding.{cut_place, pieces, folded_bytes}
 use Rattle.desk_sections.proofs.Cutting.{cut_to}
@@ -10,13 +10,7 @@ pieces_short zero limit t h = refl
 pieces_short (suc count) limit t h = ap (λ (c : Bool). cond c (t ∷ []) (take (cut_place limit t) t ∷ pieces count 71 (drop (cut_place limit t) t))) (le-leb (length t) limit h)
 
 pub pieces_long : (count limit : ℕ) (t : Text) → limit < length t → pieces (suc count) limit t ≡ take (cut_place limit t) t ∷ pieces count 71 (drop (cut_place limit t) t)
-pieces_long count limit t h = ap (λ (c : Bool). cond c (t ∷ []) (take (cut_place limit t) t ∷ pieces count 71 (drop (cut_place limit t) t))) (not_le (length t) limit h)
-  where
-    not_le : (m n : ℕ) → n < m → nat_le m n ≡ false
-    not_le m n h = elim (nat_le m n) as (λ (c : Bool). nat_le m n ≡ c → c ≡ false) [
-      | true ↦ λ e. absurd (omega (arith, leb-true m n e, h))
-      | false ↦ λ e. refl
-    ] refl
+pieces_long count limit t h = ap (λ (c : Bool). cond c (t ∷ []) (take (cut_place limit t) t ∷ pieces count 71 (drop (cut_place limit t) t))) (lt-leb (length t) limit h)
 
 -- enough cuts are enough
 pub pieces_enough : (c d limit : ℕ) (t : Text) → length t ≤ c → length t ≤ d → 1 ≤ limit → pieces c limit t ≡ pieces d limit t

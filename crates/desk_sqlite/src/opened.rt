@@ -11,7 +11,7 @@ use crate::tables::{
     make_tables, read_contents, read_folder, write_folder, write_header, write_rows,
     write_then_remove,
 };
-use crate::waiting::Waiting;
+use crate::waiting::UnwrittenRows;
 use desk_base::{Memory, Text};
 use desk_faults::{Cause, Fault, Refusal, Tried};
 use desk_ledger::{Contents, Header, Row};
@@ -29,7 +29,7 @@ pub(crate) struct Opened {
     database: Database,
     log: Log,
     contents: Contents,
-    waiting: Waiting,
+    waiting: UnwrittenRows,
 }
 
 impl Model for Opened {
@@ -137,7 +137,7 @@ fn has_relative_root(header: &Header) -> bool {
     is_relative(&header.from) || is_relative(&header.to)
 }
 
-/// The working folder.
+/// The path of the folder that the program runs in, which relative roots are relative to.
 fn working_folder(rt: &HostRuntime) -> Result<Text, Refusal> {
     let folder = env::current_dir(rt).map_err(fault_of)?;
     Ok(Text::from_bytes(rt.alloc(), folder.as_str().as_bytes())?)
@@ -184,7 +184,7 @@ impl Opened {
             database,
             log,
             contents,
-            waiting: Waiting::new(alloc),
+            waiting: UnwrittenRows::new(alloc),
         })
     }
 

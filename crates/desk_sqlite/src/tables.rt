@@ -7,12 +7,12 @@ ghost use Rattle.sqlite.specs.Values.{bound, bound_value};
 ghost use Rattle.desk_sqlite.specs.Statements.{insertion, output_of, values_in, verb};
 
 use crate::database::Database;
-use crate::waiting::Waiting;
+use crate::waiting::UnwrittenRows;
 use desk_base::Text;
 use desk_faults::{Cause, Refusal};
 use desk_ledger::{Contents, Digest, Header, Row};
 use sqlite::types::ValueRef;
-use sqlite::{Row as Found, params};
+use sqlite::{Row as TableRow, params};
 use std::alloc::{AllocError, Global};
 
 /// The table with the header, whose only row has the number 1.
@@ -81,12 +81,12 @@ fn take_over(database: &mut Database, has_folder: bool) -> Result<(), Refusal>
 }
 
 /// Whether this was made by the given statement.
-fn is_made_by(found: &Found, statement: &str) -> bool {
+fn is_made_by(found: &TableRow, statement: &str) -> bool {
     matches!(found.get_ref(0), Ok(ValueRef::Text(text)) if text == statement.as_bytes())
 }
 
 /// Leaves the table of the rows as it is, or takes the one of format 1 over.
-fn settle_rows(database: &mut Database, found: &Found) -> Result<(), Refusal>
+fn settle_rows(database: &mut Database, found: &TableRow) -> Result<(), Refusal>
     ensures { OnOk result (database.new ≡ database.old) }
 {
     if is_made_by(found, ROWS) {
@@ -119,14 +119,14 @@ pub(crate) fn make_tables(database: &mut Database) -> Result<(), Refusal>
 }
 
 /// The bytes that a row has in a column.
-fn bytes_at(found: &Found, column: usize) -> Result<&[u8], Refusal> {
+fn bytes_at(found: &TableRow, column: usize) -> Result<&[u8], Refusal> {
     match found.get_ref(column) {
         Ok(ValueRef::Blob(bytes)) => Ok(bytes),
         _ => Err(Refusal::Failed(Cause::Unsound)),
     }
 }
 
-fn text_at(alloc: Global, found: &Found, column: usize) -> Result<Text, Refusal> {
+fn text_at(alloc: Global, found: &TableRow, column: usize) -> Result<Text, Refusal> {
     Ok(Text::from_bytes(alloc, bytes_at(found, column)?)?)
 }
 
@@ -140,12 +140,12 @@ fn digest_in(bytes: &[u8]) -> Result<Digest, Refusal> {
     Ok(Digest(digest))
 }
 
-fn digest_at(found: &Found, column: usize) -> Result<Digest, Refusal> {
+fn digest_at(found: &TableRow, column: usize) -> Result<Digest, Refusal> {
     digest_in(bytes_at(found, column)?)
 }
 
 /// The digest in a column that may hold none.
-fn output_at(found: &Found, column: usize) -> Result<Option<Digest>, Refusal> {
+fn output_at(found: &TableRow, column: usize) -> Result<Option<Digest>, Refusal> {
     match found.get_ref(column) {
         Ok(ValueRef::Null) => Ok(None),
         Ok(ValueRef::Blob(bytes)) => Ok(Some(digest_in(bytes)?)),
@@ -153,7 +153,7 @@ fn output_at(found: &Found, column: usize) -> Result<Option<Digest>, Refusal> {
     }
 }
 
-fn header_in(alloc: Global, found: &Found) -> Result<Header, Refusal> {
+fn header_in(alloc: Global, found: &TableRow) -> Result<Header, Refusal> {
     Ok(Header {
         from: text_at(alloc, found, 0)?,
         to: text_at(alloc, found, 1)?,
@@ -161,7 +161,7 @@ fn header_in(alloc: Global, found: &Found) -> Result<Header, Refusal> {
     })
 }
 
-fn row_in(alloc: Global, found: &Found) -> Result<Row, Refusal> {
+fn row_in(alloc: Global, found: &TableRow) -> Result<Row, Refusal> {
     Ok(Row {
         target: text_at(alloc, found, 0)?,
         source: text_at(alloc, found, 1)?,
@@ -190,7 +190,7 @@ fn read_header(
 }
 
 /// Takes a row that was found.
-fn take_row(alloc: Global, found: &Found, contents: &mut Contents) -> Result<(), Refusal> {
+fn take_row(alloc: Global, found: &TableRow, contents: &mut Contents) -> Result<(), Refusal> {
     contents.put(row_in(alloc, found)?)?;
     Ok(())
 }
@@ -314,7 +314,7 @@ fn values_of(alloc: Global, rows: &[Row]) -> Result<Vec<ValueRef<'_>>, AllocErro
 pub(crate) fn write_rows(
     database: &mut Database,
     alloc: Global,
-    waiting: &Waiting,
+    waiting: &UnwrittenRows,
 ) -> Result<(), Refusal>
     ensures { OnOk result (database.new ≡ database.old) }
 {
@@ -345,7 +345,7 @@ fn remove(database: &mut Database, target: &Text) -> Result<(), Refusal>
 fn write_and_remove(
     database: &mut Database,
     alloc: Global,
-    waiting: &Waiting,
+    waiting: &UnwrittenRows,
     target: &Text,
 ) -> Result<(), Refusal>
     ensures { OnOk result (database.new ≡ database.old) }
@@ -358,7 +358,7 @@ fn write_and_remove(
 pub(crate) fn write_then_remove(
     database: &mut Database,
     alloc: Global,
-    waiting: &Waiting,
+    waiting: &UnwrittenRows,
     target: &Text,
 ) -> Result<(), Refusal>
     ensures { OnOk result (database.new ≡ database.old) }

@@ -7,18 +7,18 @@ use desk_ledger::Row;
 use std::alloc::Global;
 use std::marker::Model;
 
-/// How many rows wait at most.
+/// How many rows wait at most, before they are written in one transaction.
 const MOST: usize = 1024;
 
 /// The rows that wait to be written, in the order in which they were put, and whether the target of one had
 /// a row already when it was put. They are 1,024 at most.
 #[derive(Drop)]
-pub(crate) struct Waiting {
+pub(crate) struct UnwrittenRows {
     rows: Vec<Row>,
     replaces: bool,
 }
 
-impl Model for Waiting {
+impl Model for UnwrittenRows {
     ghost use Rattle.std.specs.Prelude.{◌≤◌, length};
     ghost use Rattle.desk_sqlite.specs.OverFile.{WaitingRows, waiting_code};
 
@@ -31,12 +31,12 @@ impl Model for Waiting {
     ghost invariant = { λ w. length w.rows.items ≤ 1024 };
 }
 
-impl Waiting {
-    /// No rows. It takes no memory.
-    pub(crate) fn new(alloc: Global) -> Waiting
+impl UnwrittenRows {
+    /// A queue to begin with, in which no row waits. It takes no memory.
+    pub(crate) fn new(alloc: Global) -> UnwrittenRows
         ensures { result ≡ record { rows = []; replaces = false } }
     {
-        Waiting {
+        UnwrittenRows {
             rows: Vec::new(alloc),
             replaces: false,
         }
@@ -74,7 +74,7 @@ impl Waiting {
         Ok(())
     }
 
-    /// Takes the last row back.
+    /// Takes away the row that was put last, so that it isn't written.
     pub(crate) fn take_back(&mut self)
         ensures { self.new ≡ record self.old { rows = take (length self.old.rows - 1) self.old.rows } }
     {

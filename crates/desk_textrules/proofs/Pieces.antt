@@ -3,7 +3,7 @@ use Rattle.std.proofs.Common.{◌≡◌, ◌<◌, ◌≤◌, ◌+◌, ◌-◌, �
 use Rattle.std.specs.Str.{bytes_eq}
 use Rattle.std.proofs.lemmas.List.{drop_all, take_all, length-drop, length-take, drop-drop}
 use Rattle.std.proofs.lemmas.Slice.Eq.{bytes_eq-Decides}
-use Rattle.std.proofs.lemmas.Bool.{both_ways}
+use Rattle.std.proofs.lemmas.Bool.{both_ways, not-false, not-true}
 use Rattle.desk_base.specs.Names.{Text}
 use Rattle.desk_base.specs.declared.Changed.{Changed}
 use Rattle.desk_patterns.specs.TextRules.{TextRule, Hit, longest, HaveSources}
@@ -167,22 +167,14 @@ settled_more rules text done at taken target so is same = record {
   within = is.inside;
   same =
       next_source rules text done at taken target so is
-      ∙ ap (λ (b : Bool). cond b (first_changed (at + length (source_in text at taken)) (pieces rules (drop (at + taken) text))) (Some at)) (twice (bytes_eq target (source_in text at taken)) same)
+      ∙ ap (λ (b : Bool). cond b (first_changed (at + length (source_in text at taken)) (pieces rules (drop (at + taken) text))) (Some at)) (not-false (bytes_eq target (source_in text at taken)) same)
       ∙ ap (λ (n : ℕ). first_changed (at + n) (pieces rules (drop (at + taken) text))) (source_length text at taken is.inside);
 }
-  where
-    twice : (b : Bool) → not b ≡ false → b ≡ true
-    twice true h = refl
-    twice false h = absurd cc
 
 pub unsettled_here : (rules : List TextRule) (text : Text) (done at taken : ℕ) (target : Text) → IsSettledTo rules text done → IsSourceAt rules text done at taken target → not (bytes_eq target (source_in text at taken)) ≡ true → Some at ≡ unsettled rules text
 unsettled_here rules text done at taken target so is other =
     sym (next_source rules text done at taken target so is
-    ∙ ap (λ (b : Bool). cond b (first_changed (at + length (source_in text at taken)) (pieces rules (drop (at + taken) text))) (Some at)) (twice (bytes_eq target (source_in text at taken)) other))
-  where
-    twice : (b : Bool) → not b ≡ true → b ≡ false
-    twice true h = absurd cc
-    twice false h = refl
+    ∙ ap (λ (b : Bool). cond b (first_changed (at + length (source_in text at taken)) (pieces rules (drop (at + taken) text))) (Some at)) (not-true (bytes_eq target (source_in text at taken)) other))
 
 pub all_settled : (rules : List TextRule) (text : Text) (done : ℕ) → IsSettledTo rules text done → NoHits rules text done (length text) → None ≡ unsettled rules text
 all_settled rules text done so none =

@@ -12,7 +12,7 @@ mod texts;
 use desk_base::Memory;
 pub use texts::migrate_text;
 
-/// Why a text has no image.
+/// Why a file with text rules has no image.
 #[derive(Clone, Copy, Debug, PartialEq, Eq)]
 pub enum TextFault {
     /// The rules of the target would change the image again; `at` is the first such place in the image, counted from its

@@ -1,14 +1,14 @@
 -- What roots of words are: their segments are names, and what is written of them are roots and full paths.
 use Rattle.std.proofs.Common.{◌≡◌, ℕ, Bool, true, false, List, [], ◌∷◌, ◌++◌, Option, Some, None, refl, sym, ap, ◌∙◌, subst, cond, arith}
-use Rattle.std.specs.Prelude.{not, ◌&&◌, ◌||◌, ◌==◌, filter, codes, Ok, if◌then◌else◌}
-use Rattle.std.specs.List.{All, list_all, list_any, onto_first}
+use Rattle.std.specs.Prelude.{not, ◌&&◌, ◌==◌, filter, codes, Ok, if◌then◌else◌}
+use Rattle.std.specs.List.{list_all, list_any}
 use Rattle.std.specs.Option.{option_and_then}
 use Rattle.std.specs.Str.{bytes_eq}
-use Rattle.std.proofs.lemmas.Bool.{and_parts, and_from, not-true, eq-eqb}
-use Rattle.std.proofs.lemmas.List.Elements.{All-nil, All-cons}
+use Rattle.std.proofs.lemmas.Bool.{and_parts, and_from, not-true, eq-eqb, or_right, or_left, or_parts}
 use Rattle.std.proofs.lemmas.List.Splits.{slice_split_none, slice_split_at}
 use Rattle.desk_base.specs.Names.{Text, slash, is_empty, is_whole, written}
 use Rattle.desk_base.specs.Paths.{here, top, is_segment, is_relative_path, is_full_path, is_root, written_root, full}
+use Rattle.desk_base.proofs.Separated.{none_is, split_whole}
 use Rattle.desk_words.specs.declared.roots.Root.{Root}
 use Rattle.desk_words.specs.declared.words.Task.{Task}
 use Rattle.desk_words.specs.declared.words.Task.TheVariants.{Run, Generate}
@@ -25,31 +25,16 @@ use Rattle.desk_words.specs.Roots.{AreWorkers, IsSound}
 use Rattle.desk_words.proofs.Digits.{number_bounds}
 use Rattle.desk_words.proofs.Apart.{is_named, before, full_relative, full_absolute, roots_apart as apart_roots}
 
-split_whole : (t : Text) → list_all (is_whole slash) (parts t) ≡ true
-split_whole [] = refl
-split_whole (b ∷ t) = by (b == slash) refl (split_whole t) where
-  onto : (ps : List Text) → (b == slash) ≡ false → list_all (is_whole slash) ps ≡ true → list_all (is_whole slash) (onto_first b ps) ≡ true
-  onto [] e h = ap (λ x. not x && true && true) e
-  onto (p ∷ ps) e h = and_from _ _ (and_from _ _ (ap not e) (and_parts _ _ h).0) (and_parts _ _ h).1
-
-  by : (x : Bool) → (b == slash) ≡ x → list_all (is_whole slash) (parts t) ≡ true → list_all (is_whole slash) (cond (b == slash) ([] ∷ parts t) (onto_first b (parts t))) ≡ true
-  by true e h = ap (λ x. list_all (is_whole slash) (cond x ([] ∷ parts t) (onto_first b (parts t)))) e ∙ h
-  by false e h = ap (λ x. list_all (is_whole slash) (cond x ([] ∷ parts t) (onto_first b (parts t)))) e ∙ onto (parts t) e h
-
-neither : (a b : Bool) → a || b ≡ false → (a ≡ false) × (b ≡ false)
-neither true b e = cc
-neither false b e = (refl, e)
-
 segment_of : (s : Text) → is_dropped s ≡ false → is_upward s ≡ false → is_whole slash s ≡ true → is_named s ≡ true
 segment_of s d u w =
-    let n = neither (is_empty s) (bytes_eq s here) d in
+    let n = or_parts (is_empty s) (bytes_eq s here) d in
     and_from _ _ (and_from _ _ (ap not n.0) (and_from _ _ (ap not n.1) (ap not u))) w
 
 named_left : (ps : List Text) → list_all (is_whole slash) ps ≡ true → list_any is_upward ps ≡ false → list_all is_named (filter (λ part. not (is_dropped part)) ps) ≡ true
 named_left [] w u = refl
-named_left (s ∷ ss) w u = by (named_left ss (and_parts _ _ w).1 (neither (is_upward s) (list_any is_upward ss) u).1) (is_dropped s) refl where
+named_left (s ∷ ss) w u = by (named_left ss (and_parts _ _ w).1 (or_parts (is_upward s) (list_any is_upward ss) u).1) (is_dropped s) refl where
   up : (is_upward s ≡ false) × (list_any is_upward ss ≡ false)
-  up = neither (is_upward s) (list_any is_upward ss) u
+  up = or_parts (is_upward s) (list_any is_upward ss) u
 
   by : list_all is_named (filter (λ part. not (is_dropped part)) ss) ≡ true → (x : Bool) → is_dropped s ≡ x → list_all is_named (filter (λ part. not (is_dropped part)) (s ∷ ss)) ≡ true
   by rest true e = ap (λ x. list_all is_named (cond (not x) (s ∷ filter (λ part. not (is_dropped part)) ss) (filter (λ part. not (is_dropped part)) ss))) e ∙ rest
@@ -63,29 +48,17 @@ root_named text root e = by (is_value text && not (list_any is_upward (parts tex
   by false f g = cc
   by true f g =
       let h : record { absolute = is_absolute text; segments = named_parts text } ≡ root = cc in
-      ap (λ (r : Root). list_all is_named r.segments) (sym h) ∙ named_left (parts text) (split_whole text) (not-true _ (and_parts _ _ f).1)
-
-or_yes : (a b : Bool) → a ≡ true → a || b ≡ true
-or_yes true b e = refl
-or_yes false b e = cc
-
-or_there : (a b : Bool) → b ≡ true → a || b ≡ true
-or_there true b e = refl
-or_there false b e = e
-
-none_is : (t : Text) → is_whole slash t ≡ true → All (λ b. (b == slash) ≡ false) t
-none_is [] h = All-nil (λ b. (b == slash) ≡ false)
-none_is (b ∷ t) h = All-cons (λ b. (b == slash) ≡ false) b t (not-true _ (and_parts _ _ h).0) (none_is t (and_parts _ _ h).1)
+      ap (λ (r : Root). list_all is_named r.segments) (sym h) ∙ named_left (parts text) (split_whole slash text) (not-true _ (and_parts _ _ f).1)
 
 relative_more : (s t : Text) → is_named s ≡ true → is_relative_path t ≡ true → is_relative_path (s ++ (slash ∷ t)) ≡ true
 relative_more s t e f =
     let named = and_parts (is_segment s) (is_whole slash s) e in
-    ap (list_all is_segment) (slice_split_at (λ b. b == slash) s slash t (none_is s named.1) (eq-eqb slash slash refl)) ∙ and_from _ _ named.0 f
+    ap (list_all is_segment) (slice_split_at (λ b. b == slash) s slash t (none_is slash s named.1) (eq-eqb slash slash refl)) ∙ and_from _ _ named.0 f
 
 relative_one : (s : Text) → is_named s ≡ true → is_relative_path s ≡ true
 relative_one s e =
     let named = and_parts (is_segment s) (is_whole slash s) e in
-    ap (list_all is_segment) (slice_split_none (λ b. b == slash) s (none_is s named.1)) ∙ and_from _ _ named.0 refl
+    ap (list_all is_segment) (slice_split_none (λ b. b == slash) s (none_is slash s named.1)) ∙ and_from _ _ named.0 refl
 
 relative_before : (ss : List Text) (p : Text) → list_all is_named ss ≡ true → is_relative_path p ≡ true → is_relative_path (before ss p) ≡ true
 relative_before [] p e f = f
@@ -97,16 +70,16 @@ relative_written s (t ∷ ss) e = relative_more s (written slash (t ∷ ss)) (an
 
 relative_full : (t : Text) → is_relative_path t ≡ true → is_full_path t ≡ true
 relative_full [] e = cc
-relative_full (b ∷ t) e = or_yes _ _ e
+relative_full (b ∷ t) e = or_left _ _ e
 
 absolute_full : (t : Text) → is_relative_path t ≡ true → is_full_path (slash ∷ t) ≡ true
-absolute_full t e = or_there (is_relative_path (slash ∷ t)) (is_relative_path t) e
+absolute_full t e = or_right (is_relative_path (slash ∷ t)) (is_relative_path t) e
 
 root_by : (a : Bool) (ss : List Text) → list_all is_named ss ≡ true → is_root (written_root a ss) ≡ true
 root_by true [] e = refl
 root_by false [] e = refl
-root_by true (s ∷ ss) e = or_there (bytes_eq (slash ∷ written slash (s ∷ ss)) here) _ (or_there (bytes_eq (slash ∷ written slash (s ∷ ss)) top) _ (absolute_full (written slash (s ∷ ss)) (relative_written s ss e)))
-root_by false (s ∷ ss) e = or_there (bytes_eq (written slash (s ∷ ss)) here) _ (or_there (bytes_eq (written slash (s ∷ ss)) top) _ (relative_full (written slash (s ∷ ss)) (relative_written s ss e)))
+root_by true (s ∷ ss) e = or_right (bytes_eq (slash ∷ written slash (s ∷ ss)) here) _ (or_right (bytes_eq (slash ∷ written slash (s ∷ ss)) top) _ (absolute_full (written slash (s ∷ ss)) (relative_written s ss e)))
+root_by false (s ∷ ss) e = or_right (bytes_eq (written slash (s ∷ ss)) here) _ (or_right (bytes_eq (written slash (s ∷ ss)) top) _ (relative_full (written slash (s ∷ ss)) (relative_written s ss e)))
 
 -- what is written of a root is a root
 pub written_is_root : (x : Root) → list_all is_named x.segments ≡ true → is_root (written_of x) ≡ true

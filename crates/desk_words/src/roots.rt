@@ -13,7 +13,9 @@ use std::alloc::Global;
 /// A folder or file that a word names: the segments between its `/`, without empty ones and `.`.
 #[derive(Debug, Drop)]
 pub struct Root {
+    /// Whether the word begins with `/`.
     pub absolute: bool,
+    /// The segments in their order; none for `.` and `/`.
     pub segments: TextList,
 }
 
@@ -133,9 +135,13 @@ fn joined_behind(text: Text, segments: &[Text]) -> Result<Text, Memory>
 /// A root is `.`, `/`, or its segments joined by `/`.
 #[derive(Debug, Drop)]
 pub struct Roots {
+    /// The rule folder.
     pub rules: Text,
+    /// The root of the source.
     pub from: Text,
+    /// The root of the target.
     pub to: Text,
+    /// The file of the ledger.
     pub ledger: Text,
     /// Whether the run looks at the targets of the files that it would keep.
     pub verify: bool,

@@ -34,7 +34,9 @@ pub enum Task {
 /// Why words were not read.
 #[derive(Clone, Copy, Debug, PartialEq, Eq)]
 pub enum WordsFault {
+    /// The words mean no task.
     Usage,
+    /// Memory ran out.
     Memory,
 }
 

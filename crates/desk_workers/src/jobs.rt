@@ -7,10 +7,10 @@ use desk_base::Memory;
 
 /// What is done with an item: a value, which depends on the job and the item alone, and a weight.
 pub trait Job {
-    /// What a batch is made of.
+    /// What a batch has many of, as a file.
     type Item: Sync;
 
-    /// What an item becomes.
+    /// What is made of an item, as an image.
     type Out: Send + Drop;
 
     /// The value of an item.

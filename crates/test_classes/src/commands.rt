@@ -1,6 +1,6 @@
 //! The commands by their names.
 
-use desk_attrs::Place;
+use desk_attrs::Location;
 use desk_base::UseKind;
 
 /// What a command asks of a pool.
@@ -29,8 +29,8 @@ pub enum Part {
 #[derive(Clone, Copy)]
 pub enum Walk {
     Part(Part),
-    Attribute(Place),
-    Attributes(Place),
+    Attribute(Location),
+    Attributes(Location),
 }
 
 /// What a command asks of a class.
@@ -97,15 +97,15 @@ const COMMANDS: &[(&[u8], Command)] = &[
     ),
     (
         b"class-attribute",
-        Command::Walk(Walk::Attribute(Place::OfClass)),
+        Command::Walk(Walk::Attribute(Location::OfClass)),
     ),
     (
         b"method-attribute",
-        Command::Walk(Walk::Attribute(Place::OfMethod)),
+        Command::Walk(Walk::Attribute(Location::OfMethod)),
     ),
     (
         b"method-attributes",
-        Command::Walk(Walk::Attributes(Place::OfMethod)),
+        Command::Walk(Walk::Attributes(Location::OfMethod)),
     ),
     (b"class", Command::Class),
     (b"servlet", Command::Servlet),

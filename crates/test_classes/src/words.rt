@@ -3,7 +3,7 @@
 ghost use Rattle.std.specs.Prelude.{◌≤◌, length};
 ghost use Rattle.desk_base.specs.Limits.{file_size};
 
-use desk_base::{FILE_SIZE, Text};
+use desk_base::{MAX_FILE_SIZE, Text};
 use std::str;
 
 /// The bytes of the word at a place.
@@ -18,7 +18,11 @@ pub fn word(words: &[Text], place: usize) -> &[u8] {
 pub fn content(bytes: &[u8]) -> &[u8]
     ensures { length result.now ≤ file_size }
 {
-    if bytes.len() > FILE_SIZE { &[] } else { bytes }
+    if bytes.len() > MAX_FILE_SIZE {
+        &[]
+    } else {
+        bytes
+    }
 }
 
 /// The word at a place as a decimal number, or 0.

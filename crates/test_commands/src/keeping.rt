@@ -10,6 +10,7 @@ use std::alloc::Global;
 /// A keeper that is attached to a ledger, and the commands over it. A digest is named by the byte that it holds 32 times.
 #[derive(Drop)]
 pub struct Attached<K: Keeper> {
+    /// The keeper, which was attached to a ledger by its name.
     pub keeper: Box<K>,
     ghost attached: { IsSome (K.attached keeper.value) },
 }

@@ -6,7 +6,7 @@ ghost use Rattle.desk_base.specs.Limits.{file_size};
 use crate::commands::Command;
 use crate::told;
 use crate::words::{content, word};
-use desk_base::{FILE_SIZE, Memory, ReadFault, Text};
+use desk_base::{MAX_FILE_SIZE, Memory, ReadFault, Text};
 use desk_class::ClassView;
 use desk_rename::NoImages;
 use desk_rewrite::{RewriteFault, Rewritten, rewrite};
@@ -69,7 +69,7 @@ fn is_rewritten_or_refused(alloc: Global, rules: &RuleSet, view: &ClassView<'_>)
     match new_class(alloc, rules, view) {
         Ok(new) => {
             let bytes = new.bytes.as_bytes();
-            bytes.len() <= FILE_SIZE && ClassView::read(alloc, bytes).is_ok()
+            bytes.len() <= MAX_FILE_SIZE && ClassView::read(alloc, bytes).is_ok()
         }
         Err(fault) => fault != RewriteFault::Memory,
     }
@@ -77,7 +77,7 @@ fn is_rewritten_or_refused(alloc: Global, rules: &RuleSet, view: &ClassView<'_>)
 
 /// Whether bytes are no class for a reason that is named, or a class that is rewritten or refused.
 fn is_answered(alloc: Global, rules: &RuleSet, bytes: &[u8]) -> bool {
-    if bytes.len() > FILE_SIZE {
+    if bytes.len() > MAX_FILE_SIZE {
         return false;
     }
     match ClassView::read(alloc, bytes) {

@@ -10,6 +10,7 @@ use desk_ledger::{Digest, Header, Keeper, KeeperFault, MemoryKeeper, Row};
 /// A ledger in memory that is attached.
 #[derive(Drop)]
 pub struct Attached {
+    /// The keeper, which was attached to a ledger by its name.
     pub keeper: Box<MemoryKeeper>,
     ghost attached: { IsSome keeper.value.attached },
 }

@@ -1,6 +1,6 @@
 //! Commands over folders.
 
-use crate::places::{Place, names_root};
+use crate::places::{TestFolders, names_root};
 use crate::told::{say, say_bytes, say_done, say_fault, say_texts};
 use crate::words::{number_of, text_of};
 use desk_base::{Memory, Text};
@@ -30,7 +30,7 @@ pub enum Call {
 const MOST: u32 = 1_000_000;
 
 /// Makes a file, and answers what came of it.
-fn create(place: &mut Place<'_>, path: &Text, out: &mut String) -> Result<(), Memory> {
+fn create(place: &mut TestFolders<'_>, path: &Text, out: &mut String) -> Result<(), Memory> {
     if is_full(path.as_bytes()) {
         say_done(place.create(path), out)
     } else {
@@ -46,7 +46,7 @@ fn numbered(alloc: Global, folder: &Text, number: u32) -> Result<Text, Memory> {
 
 /// Makes the file of a number in a folder.
 fn make_file(
-    place: &mut Place<'_>,
+    place: &mut TestFolders<'_>,
     alloc: Global,
     folder: &Text,
     number: u32,
@@ -61,7 +61,7 @@ fn make_file(
 
 /// Makes so many files in a folder, with names of four digits, until one fails.
 fn make_files(
-    place: &mut Place<'_>,
+    place: &mut TestFolders<'_>,
     alloc: Global,
     folder: &Text,
     count: u32,
@@ -73,7 +73,7 @@ fn make_files(
 }
 
 /// Answers how many bytes a file has.
-fn size(place: &mut Place<'_>, path: &Text, out: &mut String) -> Result<(), Memory> {
+fn size(place: &mut TestFolders<'_>, path: &Text, out: &mut String) -> Result<(), Memory> {
     if !is_full(path.as_bytes()) {
         return say("not a full path", out);
     }
@@ -94,7 +94,7 @@ fn say_part(part: &[u8], call: Call, out: &mut String) -> Result<(), Memory> {
 
 /// Reads a part of a file, and answers it or its length.
 fn read(
-    place: &mut Place<'_>,
+    place: &mut TestFolders<'_>,
     call: Call,
     path: &Text,
     at: &Text,
@@ -129,7 +129,7 @@ fn say_paths(paths: &[Text], call: Call, out: &mut String) -> Result<(), Memory>
 
 /// Lists the paths below a root, and answers them, or how many there are and the last.
 fn list(
-    place: &mut Place<'_>,
+    place: &mut TestFolders<'_>,
     call: Call,
     root: &Text,
     most: u32,
@@ -145,7 +145,7 @@ fn list(
 }
 
 /// Answers the last fault: what was tried, on which path, and the words of the cause.
-fn answer_fault(place: &Place<'_>, out: &mut String) -> Result<(), Memory> {
+fn answer_fault(place: &TestFolders<'_>, out: &mut String) -> Result<(), Memory> {
     match place.last_fault() {
         Some(fault) => {
             let path = Shown(fault.path.as_bytes());
@@ -158,7 +158,7 @@ fn answer_fault(place: &Place<'_>, out: &mut String) -> Result<(), Memory> {
 
 /// Answers a call with a path, or with a number of a call.
 fn answer_one(
-    place: &mut Place<'_>,
+    place: &mut TestFolders<'_>,
     call: Call,
     word: &Text,
     out: &mut String,
@@ -181,7 +181,7 @@ fn answer_one(
 
 /// Answers a call with a path and a second word.
 fn answer_two(
-    place: &mut Place<'_>,
+    place: &mut TestFolders<'_>,
     alloc: Global,
     call: Call,
     path: &Text,
@@ -198,7 +198,7 @@ fn answer_two(
 
 /// Answers a call.
 pub fn answer(
-    place: &mut Place<'_>,
+    place: &mut TestFolders<'_>,
     alloc: Global,
     call: Call,
     words: &[Text],

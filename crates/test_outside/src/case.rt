@@ -4,7 +4,7 @@ use crate::calls::{self, Call};
 use crate::digests::{answer_parts, answer_whole};
 use crate::ledgers::Ledger;
 use crate::own::{Change, OwnFolder, answer_change};
-use crate::places::Place;
+use crate::places::TestFolders;
 use crate::told::{say, say_kind};
 use crate::words::numbers_of;
 use desk_base::{Memory, Text};
@@ -69,7 +69,7 @@ pub struct Case<'r> {
     alloc: Global,
     own: Box<OwnFolder<'r>>,
     files: Vec<GenFile>,
-    place: Option<Place<'r>>,
+    place: Option<TestFolders<'r>>,
     ledger: Box<Ledger>,
 }
 
@@ -109,13 +109,13 @@ impl<'r> Case<'r> {
     fn begin_in_memory(&mut self, calls: &[Text]) -> Result<(), Memory> {
         let failing = numbers_of(self.alloc, calls)?;
         let files = mem::replace(&mut self.files, Vec::new(self.alloc));
-        self.place = Place::in_memory(self.alloc, files, failing)?;
+        self.place = TestFolders::in_memory(self.alloc, files, failing)?;
         Ok(())
     }
 
     /// Begins with folders on a disk.
     fn begin_on_disk(&mut self, out: &mut String) -> Result<(), Memory> {
-        self.place = Some(Place::on_disk(self.rt)?);
+        self.place = Some(TestFolders::on_disk(self.rt)?);
         say_kind(self.own.make(), out)
     }
 

@@ -29,31 +29,31 @@ pub fn names_root(path: &[u8]) -> bool
 
 /// Folders that calls go over.
 #[derive(Drop)]
-pub enum Place<'r> {
+pub enum TestFolders<'r> {
     /// In memory.
     Memory(Box<MemoryFolders>),
     /// On a disk.
     Disk(&'r HostRuntime, Box<DiskFolders<'r>>),
 }
 
-impl<'r> Place<'r> {
+impl<'r> TestFolders<'r> {
     /// Folders in memory with these files, of which these calls fail; none where a path is no full path.
     pub fn in_memory(
         alloc: Global,
         files: Vec<GenFile>,
         failing: Vec<u64>,
-    ) -> Result<Option<Place<'r>>, Memory> {
+    ) -> Result<Option<TestFolders<'r>>, Memory> {
         if !have_full_paths(&files) {
             return Ok(None);
         }
         let folders = MemoryFolders::new(alloc, files, failing)?;
-        Ok(Some(Place::Memory(Box::new(alloc, folders)?)))
+        Ok(Some(TestFolders::Memory(Box::new(alloc, folders)?)))
     }
 
     /// Folders on a disk.
-    pub fn on_disk(rt: &'r HostRuntime) -> Result<Place<'r>, Memory> {
+    pub fn on_disk(rt: &'r HostRuntime) -> Result<TestFolders<'r>, Memory> {
         let folders = Box::new(rt.alloc(), DiskFolders::new(rt))?;
-        Ok(Place::Disk(rt, folders))
+        Ok(TestFolders::Disk(rt, folders))
     }
 
     /// Makes a file that holds nothing.
@@ -61,8 +61,8 @@ impl<'r> Place<'r> {
         requires { IsTrue (is_full_path path.now) }
     {
         match self {
-            Place::Memory(folders) => folders.create(path),
-            Place::Disk(_, folders) => folders.create(path),
+            TestFolders::Memory(folders) => folders.create(path),
+            TestFolders::Disk(_, folders) => folders.create(path),
         }
     }
 
@@ -71,8 +71,8 @@ impl<'r> Place<'r> {
         requires { IsTrue (is_full_path path.now) }
     {
         match self {
-            Place::Memory(folders) => folders.size(path),
-            Place::Disk(_, folders) => folders.size(path),
+            TestFolders::Memory(folders) => folders.size(path),
+            TestFolders::Disk(_, folders) => folders.size(path),
         }
     }
 
@@ -82,8 +82,8 @@ impl<'r> Place<'r> {
         requires root { IsTrue (is_root root.now) }
     {
         match self {
-            Place::Memory(folders) => folders.list(root, most),
-            Place::Disk(_, folders) => folders.list(root, most),
+            TestFolders::Memory(folders) => folders.list(root, most),
+            TestFolders::Disk(_, folders) => folders.list(root, most),
         }
     }
 
@@ -92,33 +92,33 @@ impl<'r> Place<'r> {
         requires { want ≢ 0 }
     {
         match self {
-            Place::Memory(folders) => match folders.content(path.as_bytes()) {
+            TestFolders::Memory(folders) => match folders.content(path.as_bytes()) {
                 Some(_) => Some(folders.read_part(path, at, want)),
                 None => None,
             },
-            Place::Disk(_, folders) => Some(folders.read_part(path, at, want)),
+            TestFolders::Disk(_, folders) => Some(folders.read_part(path, at, want)),
         }
     }
 
     /// Adds bytes to a file, and answers what came of it.
     pub fn append(&mut self, path: &Text, bytes: &[u8], out: &mut String) -> Result<(), Memory> {
         match self {
-            Place::Memory(folders) => match folders.content(path.as_bytes()) {
+            TestFolders::Memory(folders) => match folders.content(path.as_bytes()) {
                 Some(_) => say_done(folders.append(path, bytes), out),
                 None => say("no file", out),
             },
-            Place::Disk(_, folders) => say_done(folders.append(path, bytes), out),
+            TestFolders::Disk(_, folders) => say_done(folders.append(path, bytes), out),
         }
     }
 
     /// Answers what a file holds: of folders on a disk, as the system reads it.
     pub fn answer_content(&self, path: &Text, out: &mut String) -> Result<(), Memory> {
         match self {
-            Place::Memory(folders) => match folders.content(path.as_bytes()) {
+            TestFolders::Memory(folders) => match folders.content(path.as_bytes()) {
                 Some(bytes) => say_bytes(bytes, out),
                 None => say("no file", out),
             },
-            Place::Disk(rt, _) => match fs::read(*rt, text_of(path)) {
+            TestFolders::Disk(rt, _) => match fs::read(*rt, text_of(path)) {
                 Ok(bytes) => say_bytes(bytes.as_slice(), out),
                 Err(error) => say_kind(Err(error), out),
             },
@@ -127,21 +127,21 @@ impl<'r> Place<'r> {
 
     /// Lets the call of folders in memory with this number, and each later one, fail.
     pub fn stop_at(&mut self, call: u64) {
-        if let Place::Memory(folders) = self {
+        if let TestFolders::Memory(folders) = self {
             folders.stop_at(call);
         }
     }
 
     /// Lets no call of folders in memory fail from now on.
     pub fn mend(&mut self) {
-        if let Place::Memory(folders) = self {
+        if let TestFolders::Memory(folders) = self {
             folders.mend();
         }
     }
 
     /// Names the target of folders on a disk.
     pub fn keep_within(&mut self, target: Text) {
-        if let Place::Disk(_, folders) = self {
+        if let TestFolders::Disk(_, folders) = self {
             folders.keep_within(target);
         }
     }
@@ -149,8 +149,8 @@ impl<'r> Place<'r> {
     /// The last fault that folders on a disk remember.
     pub fn last_fault(&self) -> Option<&Fault> {
         match self {
-            Place::Memory(_) => None,
-            Place::Disk(_, folders) => folders.last_fault(),
+            TestFolders::Memory(_) => None,
+            TestFolders::Disk(_, folders) => folders.last_fault(),
         }
     }
 }

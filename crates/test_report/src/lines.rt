@@ -3,7 +3,7 @@
 use crate::sinks::{answer_line, with_room};
 use crate::words::Values;
 use desk_base::{FaultKind, Malformed, Memory, Text};
-use desk_report::{Detail, Line, Reason, Summary, write_line, write_summary};
+use desk_report::{Detail, Reason, ReportLine, Summary, write_line, write_summary};
 use std::alloc::Global;
 
 /// What an image is made of.
@@ -84,19 +84,19 @@ fn reason_of(refusal: Refusal, values: &mut Values) -> Reason {
 }
 
 /// The line that tells these values.
-fn line_of(told: Told, values: &mut Values) -> Line {
+fn line_of(told: Told, values: &mut Values) -> ReportLine {
     let path = values.text();
     match told {
-        Told::Written(made) => Line::Written {
+        Told::Written(made) => ReportLine::Written {
             path,
             target: values.text(),
             detail: detail_of(made, values),
         },
-        Told::Kept => Line::Kept {
+        Told::Kept => ReportLine::Kept {
             path,
             target: values.text(),
         },
-        Told::Refused(refusal) => Line::Refused {
+        Told::Refused(refusal) => ReportLine::Refused {
             path,
             reason: reason_of(refusal, values),
         },
@@ -104,7 +104,7 @@ fn line_of(told: Told, values: &mut Values) -> Line {
 }
 
 /// The line that tells the values of these words.
-fn boxed_line(alloc: Global, told: Told, words: &[Text]) -> Result<Box<Line>, Memory> {
+fn boxed_line(alloc: Global, told: Told, words: &[Text]) -> Result<Box<ReportLine>, Memory> {
     let mut values = Values::of(alloc, words)?;
     Ok(Box::new(alloc, line_of(told, &mut values))?)
 }

@@ -3,7 +3,7 @@
 ghost use Rattle.std.specs.Prelude.{◌≤◌, length};
 ghost use Rattle.desk_base.specs.Limits.{file_size};
 
-use desk_base::{FILE_SIZE, Memory, Text};
+use desk_base::{MAX_FILE_SIZE, Memory, Text};
 use std::alloc::Global;
 use std::str;
 
@@ -29,7 +29,7 @@ pub fn number(word: &Text) -> u64 {
 pub fn front(bytes: &[u8]) -> &[u8]
     ensures { length result.now ≤ file_size }
 {
-    &bytes[..bytes.len().min(FILE_SIZE)]
+    &bytes[..bytes.len().min(MAX_FILE_SIZE)]
 }
 
 /// Words that are taken one by one, as what a value is made of.

@@ -1,6 +1,7 @@
 //! Files of properties.
 
 ghost use Rattle.std.specs.Prelude.{◌≤◌, length};
+ghost use Rattle.desk_base.specs.Limits.{rule_size};
 
 use crate::told;
 use desk_base::{Memory, Text};
@@ -21,7 +22,7 @@ fn tell_entries(entries: &IndexMap<Text, Text>, out: &mut String) -> Result<(), 
 
 /// Tells the entries of a file, or its fault.
 pub fn tell_properties(alloc: Global, file: &[u8], out: &mut String) -> Result<(), Memory>
-    requires { length file.now ≤ 1048576 }
+    requires { length file.now ≤ rule_size }
 {
     match read_properties(alloc, file) {
         Ok(entries) => tell_entries(&entries, out),

@@ -1,8 +1,9 @@
 //! The words of a command as bytes, contents and places. A word that lacks is empty.
 
 ghost use Rattle.std.specs.Prelude.{◌≤◌, length};
+ghost use Rattle.desk_base.specs.Limits.{rule_size};
 
-use desk_base::Text;
+use desk_base::{MAX_RULE_FILE_SIZE, Text};
 use std::str;
 
 /// The bytes of the word at a place.
@@ -15,10 +16,14 @@ pub fn word(words: &[Text], place: usize) -> &[u8] {
 
 /// The word at a place as the content of a rule file. One that is longer than such a file may be is empty.
 pub fn content(words: &[Text], place: usize) -> &[u8]
-    ensures { length result.now ≤ 1048576 }
+    ensures { length result.now ≤ rule_size }
 {
     let bytes = word(words, place);
-    if bytes.len() > 1_048_576 { &[] } else { bytes }
+    if bytes.len() > MAX_RULE_FILE_SIZE {
+        &[]
+    } else {
+        bytes
+    }
 }
 
 /// The word at a place as a place, in decimal digits, or 0.

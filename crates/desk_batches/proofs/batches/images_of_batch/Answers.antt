@@ -1,5 +1,6 @@
 use Rattle.std.proofs.Common.{rules, arith, ◌≡◌, ◌∙◌, ap, map, length, subst}
-use Rattle.desk_readings.proofs.Fronts.{at_some, if_some}
+use Rattle.desk_base.proofs.Results.{at_some}
+use Rattle.desk_readings.proofs.Fronts.{if_some}
 use Rattle.desk_batches.specs.Turns.{MovedIn, input_in, migrated}
 use Rattle.desk_batches.proofs.Taking.{images_counted, images_read, inputs_counted, migrated_short, read_cause}
 use Rattle.desk_batches.proofs.batches.images_of_batch.Goals as goal

@@ -1,8 +1,8 @@
-use Rattle.std.proofs.Common.{rules, ◌≡◌, ◌≢◌, ◌≤◌, ◌+◌, ◌∙◌, ap, sym, subst, refl, map, take, drop, length}
+use Rattle.std.proofs.Common.{rules, ◌≡◌, ◌≢◌, ◌≤◌, ◌+◌, ◌∙◌, ap, sym, subst, refl, map, take, drop, length, take_all}
 use Rattle.std.specs.Prelude.{option_map, ◌++◌}
 use Rattle.std.specs.List.{slice_range}
 use Rattle.std.proofs.lemmas.List.{map-append}
-use Rattle.desk_readings.proofs.Fronts.{if_some, taken_all}
+use Rattle.desk_readings.proofs.Fronts.{if_some}
 use Rattle.desk_batches.specs.Stops.{StoppedAt}
 use Rattle.desk_batches.specs.Works.{files_after, ledger_after}
 use Rattle.desk_file.specs.Linked.{image_in}
@@ -93,4 +93,4 @@ pub returns-clause-outcomes : goal.returns-clause-outcomes
 returns-clause-outcomes g c =
     let all : length c.args.noted.now ≤ c.loop-at.at = search rules in
     if_some _ (g.F.Folders.told c.args.folders.now) (λ m e.
-    c.loop-at.invariant.outcomes m e ∙ ap (λ xs. map outcome_of (works_in (image_in c.args.rules.now c.args.graph.now.defined) c.args.from.now m xs)) (taken_all c.args.noted.now c.loop-at.at all))
+    c.loop-at.invariant.outcomes m e ∙ ap (λ xs. map outcome_of (works_in (image_in c.args.rules.now c.args.graph.now.defined) c.args.from.now m xs)) (take_all c.loop-at.at c.args.noted.now all))

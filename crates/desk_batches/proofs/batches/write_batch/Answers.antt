@@ -1,5 +1,6 @@
 use Rattle.std.proofs.Common.{rules, ◌≡◌, ◌∙◌, ap, length, map, refl}
-use Rattle.desk_readings.proofs.Fronts.{at_some, if_some}
+use Rattle.desk_base.proofs.Results.{at_some}
+use Rattle.desk_readings.proofs.Fronts.{if_some}
 use Rattle.desk_file.specs.Linked.{image_in}
 use Rattle.desk_batches.specs.Turns.{fate_at, image_here, migrated}
 use Rattle.desk_batches.proofs.Staying.{note_stays, stays_same, stays_twice}

@@ -5,13 +5,14 @@ use Rattle.std.specs.Ordering.{nat_cmp}
 use Rattle.std.specs.Cmp.Lexicographic.{slice_cmp}
 use Rattle.desk_base.specs.Names.{Text}
 use Rattle.desk_base.specs.Paths.{is_relative_path}
-use Rattle.desk_disk.proofs.Rising.{rising_none, rising_push, relative_push}
+use Rattle.desk_base.proofs.Orderings.{none_sorted}
+use Rattle.desk_disk.proofs.Rising.{rising_push, relative_push}
 use Rattle.desk_disk.proofs.walk.first_of.Goals as goal
 
 pub loop-path-init : goal.loop-path-init
 loop-path-init c = record {
   taken = search rules;
-  rising = subst (IsStrictlySortedBy (slice_cmp nat_cmp)) (sym c.empty-paths.ensures) rising_none;
+  rising = subst (IsStrictlySortedBy (slice_cmp nat_cmp)) (sym c.empty-paths.ensures) (none_sorted (slice_cmp nat_cmp));
   relative = ap (list_all is_relative_path) c.empty-paths.ensures;
 }
 

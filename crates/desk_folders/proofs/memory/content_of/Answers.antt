@@ -1,6 +1,7 @@
 use Rattle.std.proofs.Common.{◌≡◌, ◌∙◌, sym, ap, true, false, Some}
 use Rattle.std.specs.Str.{bytes_eq}
-use Rattle.desk_folders.proofs.Entries.{entry_at, entry_hit, entry_missed}
+use Rattle.desk_base.proofs.TextEntries.{entry_at}
+use Rattle.desk_folders.proofs.Entries.{entry_hit, entry_missed}
 use Rattle.desk_folders.proofs.memory.content_of.Goals as goal
 
 pub returns-then-eq : goal.returns-then-eq

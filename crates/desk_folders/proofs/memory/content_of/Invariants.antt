@@ -1,5 +1,5 @@
 use Rattle.std.proofs.Common.{◌≡◌}
-use Rattle.desk_folders.proofs.Entries.{entry_at}
+use Rattle.desk_base.proofs.TextEntries.{entry_at}
 use Rattle.desk_folders.proofs.memory.content_of.Given as goal
 
 abbrev pub invariant-loop-key : goal.invariant-loop-key

@@ -1,10 +1,11 @@
 use Rattle.std.proofs.Common.{◌≡◌, ◌∙◌, sym, ap, subst, ℕ, ◌||◌, length, get_or, arith}
 use Rattle.std.specs.Str.{bytes_eq}
 use Rattle.std.proofs.lemmas.List.{get_or_default}
+use Rattle.std.proofs.lemmas.Bool.{not-false}
 use Rattle.desk_base.specs.Names.{Text}
 use Rattle.desk_graph.specs.Application.{Pair}
 use Rattle.desk_graph.specs.Tables.{holds, is_name}
-use Rattle.desk_graph.proofs.Sets.{Seen, again, first_time, left_out, same_of, all_shared}
+use Rattle.desk_graph.proofs.Sets.{Seen, again, first_time, left_out, all_shared}
 use Rattle.desk_graph.proofs.clashes.shared_images.Goals as goal
 use Rattle.desk_graph.proofs.clashes.shared_images.Goals.{then-changes+then-is_met+in_ok-put, then-changes+else-is_met+in_ok-put-2, else-changes}
 
@@ -22,7 +23,7 @@ loop-one-preserved c =
           (ap (λ (t : Text). holds c.loop-one.seen t || is_name c.args.known.now t) (sym w.image-image.ensures) ∙ sym w.is_met.ensures ∙ w.if-is_met.false)
           (λ q. w.in_ok-put-2.ensures.holds q ∙ ap (λ (t : Text). bytes_eq q t || holds c.loop-one.seen q) w.image-image.ensures))
       | else-changes w ↦ rw (w.seen-is, w.shared-is)
-          (left_out c.args.known.now c.loop-one.one-index one is (holds c.loop-one.seen) (holds c.loop-one.shared) c.loop-one.invariant (same_of (bytes_eq one.1 one.0) (sym c.changes.ensures ∙ w.if-changes.false)))
+          (left_out c.args.known.now c.loop-one.one-index one is (holds c.loop-one.seen) (holds c.loop-one.shared) c.loop-one.invariant (not-false (bytes_eq one.1 one.0) (sym c.changes.ensures ∙ w.if-changes.false)))
     ]
 
 pub returns : goal.returns

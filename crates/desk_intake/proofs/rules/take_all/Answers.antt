@@ -1,8 +1,8 @@
 use Rattle.std.proofs.Common.{rules, ◌∙◌}
 use Rattle.std.proofs.lemmas.Result.{err_from_is_err_and}
+use Rattle.desk_base.proofs.Results.{at_some}
 use Rattle.desk_folders.specs.Contents.{file_at}
 use Rattle.desk_intake.specs.RuleFolders.{Takes}
-use Rattle.desk_readings.proofs.Fronts.{at_some}
 use Rattle.desk_intake.proofs.Parts.{there_listed}
 use Rattle.desk_intake.proofs.Taking.{all_taken, digest_more, files_first, files_more, free_more, halts_taking, name_free, none_free, small_first, small_more, sorted_apart}
 use Rattle.desk_intake.proofs.rules.take_all.Goals as goal

@@ -11,4 +11,4 @@ returns-then-not-is_dotted c =
 pub returns-in-None : goal.returns-in-None
 returns-in-None c =
     package_stays c.args.rules.now.renames c.args.item.now c.trim_blanks-name.result.now c.trim_blanks-name.ensures.trimmed
-    (subst (IsImage c.trim_blanks-name.result.now (package_image c.args.rules.now.renames c.trim_blanks-name.result.now)) c.in-None.is c.in_ok-rename_package.ensures)
+    (subst (IsImage c.trim_blanks-name.result.now (package_image c.args.rules.now.renames c.trim_blanks-name.result.now)) c.in-None.is c.in_ok-rename_dotted_package.ensures.image)

@@ -2,8 +2,8 @@ use Rattle.std.proofs.Common.{rules, arith, ◌∙◌, length, length-append, �
 use Rattle.std.proofs.lemmas.Iterator.Adapters.{YieldsList-from_vec}
 use Rattle.std.proofs.lemmas.Iterator.Consumers.{YieldsList-so_far, YieldsList-turn}
 use Rattle.std.proofs.lemmas.Result.{err_from_is_err_and}
+use Rattle.desk_base.proofs.Results.{at_some}
 use Rattle.desk_readings.proofs.FirstReading.{fails_later, noted_first, noted_more, routes_more, split_now, there_now, within_more}
-use Rattle.desk_readings.proofs.Fronts.{at_some}
 use Rattle.desk_readings.specs.Gathered.{all_kept, all_measured}
 use Rattle.desk_readings.specs.Noting.{NotesOne}
 use Rattle.desk_readings.proofs.noting.note_all.Goals as goal

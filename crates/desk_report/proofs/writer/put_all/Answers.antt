@@ -1,6 +1,7 @@
 use Rattle.std.proofs.Common.{◌∷◌, [], take, drop, suc, get_or, rules}
 use Rattle.std.proofs.lemmas.List.{take_more}
-use Rattle.desk_report.proofs.Gathering.{Gathers-grows, WritesFront-stops, split_at, on_err}
+use Rattle.desk_base.proofs.Results.{on_err}
+use Rattle.desk_report.proofs.Gathering.{Gathers-grows, WritesFront-stops, split_at}
 use Rattle.desk_report.proofs.writer.put_all.Goals as goal
 
 pub returns-in_err-put-clause-err : goal.returns-in_err-put-clause-err

@@ -1,7 +1,9 @@
 use Rattle.std.proofs.Common.{take, drop, suc, get_or, rules}
 use Rattle.std.specs.List.{flat_map}
 use Rattle.desk_base.specs.Shown.{shown_byte}
-use Rattle.desk_report.proofs.Gathering.{Gathers-grows, WritesFront-stops, texts_more, texts_split, on_err}
+use Rattle.desk_base.proofs.Results.{on_err}
+use Rattle.desk_base.proofs.Lists.{texts_more}
+use Rattle.desk_report.proofs.Gathering.{Gathers-grows, WritesFront-stops, texts_split}
 use Rattle.desk_report.proofs.writer.put_bytes.Goals as goal
 
 pub returns-in_err-put_byte-clause-err : goal.returns-in_err-put_byte-clause-err

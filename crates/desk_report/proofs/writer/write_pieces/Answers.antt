@@ -1,6 +1,9 @@
-use Rattle.std.proofs.Common.{take, drop, suc, rules, [], sym, ap}
+use Rattle.std.proofs.Common.{take, drop, suc, rules, [], sym, ap, take_all}
+use Rattle.std.proofs.lemmas.Result.{on_err_weaker}
+use Rattle.desk_base.proofs.Results.{on_err}
+use Rattle.desk_base.proofs.Lists.{texts_more}
 use Rattle.desk_report.specs.Pieces.{piece_text, pieces_text}
-use Rattle.desk_report.proofs.Gathering.{Gathers-grows, WritesFront-stops, WritesFront-all, texts_more, texts_split, on_err, map_err, taken_all}
+use Rattle.desk_report.proofs.Gathering.{Gathers-grows, WritesFront-stops, WritesFront-all, texts_split}
 use Rattle.desk_report.proofs.writer.write_pieces.Goals as goal
 
 pub returns-in_err-put_piece-clause-err : goal.returns-in_err-put_piece-clause-err
@@ -21,4 +24,4 @@ loop-piece-preserved g c =
 
 pub returns-clause-err : goal.returns-clause-err
 returns-clause-err g c =
-    map_err c.flush.result (WritesFront-all _ _ _ _ _ _ (ap pieces_text (sym (taken_all c.args.pieces.now c.loop-piece.piece-index c.loop-piece-test.false))) c.loop-piece.invariant.gathered) c.flush.ensures.err
+    on_err_weaker c.flush.result (WritesFront-all _ _ _ _ _ _ (ap pieces_text (sym (take_all c.loop-piece.piece-index c.args.pieces.now c.loop-piece-test.false))) c.loop-piece.invariant.gathered) c.flush.ensures.err

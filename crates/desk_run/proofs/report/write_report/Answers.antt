@@ -2,7 +2,7 @@ use Rattle.std.proofs.Common.{rules, subst, ap, sym, ◌∙◌, length, length-a
 use Rattle.std.proofs.lemmas.Iterator.Adapters.{YieldsList-from_vec}
 use Rattle.std.proofs.lemmas.Iterator.Consumers.{YieldsList-end, YieldsList-so_far, YieldsList-turn}
 use Rattle.std.proofs.lemmas.Result.{on_ok_weaker, on_err_weaker}
-use Rattle.desk_batches.proofs.Steps.{on_err}
+use Rattle.desk_base.proofs.Results.{on_err}
 use Rattle.desk_run.proofs.Reporting.{line_front, line_more, totals_told, totals_front}
 use Rattle.desk_run.proofs.report.write_report.Goals as goal
 

@@ -1,7 +1,7 @@
 use Rattle.std.proofs.Common.{◌∙◌, sym, ap}
 use Rattle.std.specs.FinMap as map
+use Rattle.desk_base.proofs.TextEntries.{get_text}
 use Rattle.desk_folders.specs.InMemory.{InMemory}
-use Rattle.desk_folders.proofs.Entries.{get_text}
 use Rattle.desk_folders.proofs.memory.MemoryFolders.content.Goals as goal
 
 pub returns : goal.returns

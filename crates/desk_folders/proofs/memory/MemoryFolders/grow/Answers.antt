@@ -2,9 +2,11 @@ use Rattle.std.proofs.Common.{◌≡◌, ◌∙◌, ap, sym, ◌++◌, Some, Non
 use Rattle.std.specs.Prelude.{is_some}
 use Rattle.std.specs.FinMap as map
 use Rattle.desk_base.specs.Names.{Text}
+use Rattle.desk_base.proofs.Results.{on_err}
+use Rattle.desk_base.proofs.TextEntries.{get_text}
 use Rattle.desk_folders.specs.Contents.{Contents, bytes_at, setting}
 use Rattle.desk_folders.specs.InMemory.{InMemory, leaving}
-use Rattle.desk_folders.proofs.Entries.{one_left, get_text, setting-same, leaves, on_err}
+use Rattle.desk_folders.proofs.Entries.{one_left, setting-same, leaves}
 use Rattle.desk_folders.proofs.memory.MemoryFolders.grow.Goals as goal
 
 pub returns-in_err-append-clause-err : goal.returns-in_err-append-clause-err

@@ -1,9 +1,9 @@
 use Rattle.std.proofs.Common.{rules, arith, ◌≡◌, ◌∙◌, ap, sym, Some, None, []}
 use Rattle.std.proofs.lemmas.Grind.{common_steps}
 use Rattle.std.specs.FinMap as map
+use Rattle.desk_base.proofs.TextEntries.{get_text}
 use Rattle.desk_folders.specs.Contents.{bytes_at}
 use Rattle.desk_folders.specs.InMemory.{InMemory}
-use Rattle.desk_folders.proofs.Entries.{get_text}
 use Rattle.desk_folders.proofs.memory.MemoryFolders.part.Goals as goal
 
 pub returns-in-Some : goal.returns-in-Some

@@ -2,9 +2,9 @@ use Rattle.std.proofs.Common.{◌≡◌, ◌∙◌, ap, sym, length, Some, None,
 use Rattle.std.specs.Prelude.{option_map}
 use Rattle.std.specs.FinMap as map
 use Rattle.desk_base.specs.Names.{Text}
+use Rattle.desk_base.proofs.TextEntries.{get_text}
 use Rattle.desk_folders.specs.Contents.{size_at}
 use Rattle.desk_folders.specs.InMemory.{InMemory}
-use Rattle.desk_folders.proofs.Entries.{get_text}
 use Rattle.desk_folders.proofs.memory.MemoryFolders.size_of.Goals as goal
 
 pub returns-in-Some : goal.returns-in-Some

@@ -1,6 +1,7 @@
 use Rattle.std.proofs.Common.{Some, ◌++◌, refl}
+use Rattle.desk_base.proofs.Results.{on_err}
 use Rattle.desk_folders.specs.Contents.{bytes_at}
-use Rattle.desk_folders.proofs.Entries.{ChangesOnly-called, ChangesOnly-leaving, on_err}
+use Rattle.desk_folders.proofs.Entries.{ChangesOnly-called, ChangesOnly-leaving}
 use Rattle.desk_folders.proofs.memory.MemoryFoldersFolders.append.Goals as goal
 
 pub returns-in_err-grow-clause-err : goal.returns-in_err-grow-clause-err

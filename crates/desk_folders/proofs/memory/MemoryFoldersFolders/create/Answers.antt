@@ -1,5 +1,6 @@
 use Rattle.std.proofs.Common.{refl}
-use Rattle.desk_folders.proofs.Entries.{ChangesOnly-called, on_err}
+use Rattle.desk_base.proofs.Results.{on_err}
+use Rattle.desk_folders.proofs.Entries.{ChangesOnly-called}
 use Rattle.desk_folders.proofs.memory.MemoryFoldersFolders.create.Goals as goal
 
 pub returns-in_err-empty-clause-err : goal.returns-in_err-empty-clause-err

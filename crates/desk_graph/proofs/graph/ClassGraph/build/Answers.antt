@@ -1,12 +1,13 @@
 use Rattle.std.proofs.Common.{◌≡◌, ◌∙◌, sym, ap, None, option_map}
 use Rattle.std.specs.List.{Contains}
+use Rattle.desk_base.proofs.Results.{at_some}
 use Rattle.desk_rename.specs.Images.{cls}
 use Rattle.desk_graph.specs.Application.{name_clash, stranded}
 use Rattle.desk_graph.specs.Clashes.{clash_pair}
 use Rattle.desk_graph.specs.Strandings.{stranding_pair}
 use Rattle.desk_graph.specs.Tables.{IsKnownBy}
 use Rattle.desk_graph.specs.declared.clashes.NameClash.{NameClash}
-use Rattle.desk_graph.proofs.Building.{built, graph_made, graph_is, clash_told, stranding_told, clash_found, stranding_found, known_image, of_some}
+use Rattle.desk_graph.proofs.Building.{built, graph_made, graph_is, clash_told, stranding_told, clash_found, stranding_found, known_image}
 use Rattle.desk_graph.proofs.Laws.{one_image, none_stranded}
 use Rattle.desk_graph.proofs.graph.ClassGraph.build.Goals as goal
 
@@ -29,7 +30,7 @@ returns-in-Some-clause-fault c =
     c.in_ok-names.ensures c.in_ok-known.ensures c.as_slice.ensures.value c.in_ok-nodes.ensures in
     let pair = (clash_told f c.args.scanned.items c.in_ok-known.known.items c.as_slice-2.result.now c.in_ok-nodes.nodes.items c.as_slice-3.result.now c.in_ok-clash.field-0 b c.as_slice-2.ensures.value c.as_slice-3.ensures.value c.in_ok-clash.ensures.pair) in
     let by : IsKnownBy f c.as_slice-2.result.now = rw c.as_slice-2.ensures.value b.images in
-    let there = of_some (λ (k : NameClash). Contains c.as_slice-2.result.now k.defined.now) c.in_ok-clash.field-0 c.in-Some.clash c.in-Some.is c.in_ok-clash.ensures.known in
+    let there = at_some (λ (k : NameClash). Contains c.as_slice-2.result.now k.defined.now) c.in_ok-clash.field-0 c.in-Some.clash c.in-Some.is c.in_ok-clash.ensures.known in
     clash_found f c.args.scanned.items c.in_ok-clash.field-0 c.in-Some.clash c.in_ok-from_bytes.field-0 c.in_ok-from_bytes-2.field-0 c.in_ok-from_bytes-3.field-0 c.in-Some.is pair
     (known_image f c.as_slice-2.result.now c.in-Some.clash.defined.now by there)
     (c.in_ok-from_bytes.ensures ∙ c.name.ensures) (c.in_ok-from_bytes-2.ensures ∙ c.name-in-Some.ensures) (c.in_ok-from_bytes-3.ensures ∙ c.image.ensures)

@@ -1,8 +1,8 @@
 use Rattle.std.proofs.Common.{◌≡◌, ◌∙◌, ap, sym, Some, None, rules}
 use Rattle.std.specs.Prelude.{option_map}
 use Rattle.std.specs.FinMap as fin
+use Rattle.desk_base.proofs.TextEntries.{get_text}
 use Rattle.desk_ledger.specs.Ledger.{Ledger, row_at}
-use Rattle.desk_ledger.proofs.Entries.{get_text}
 use Rattle.desk_ledger.proofs.contents.Contents.find.Goals as goal
 
 pub returns-in_ok-row_of-in-Some : goal.returns-in_ok-row_of-in-Some

@@ -1,7 +1,7 @@
 use Rattle.std.proofs.Common.{◌≡◌, ◌∙◌, ap, sym, rules}
 use Rattle.std.specs.FinMap as fin
+use Rattle.desk_base.proofs.TextEntries.{entry_at, get_text, one_inserted}
 use Rattle.desk_ledger.specs.Ledger.{Ledger, Rows, held_in, with_row}
-use Rattle.desk_ledger.proofs.Entries.{entry_at, get_text, one_inserted}
 use Rattle.desk_ledger.proofs.contents.Contents.put.Goals as goal
 
 pub returns-clause-earlier : goal.returns-clause-earlier

@@ -1,6 +1,6 @@
 use Rattle.std.proofs.Common.{sym, ◌∙◌}
 use Rattle.desk_clashes.proofs.Sets.{meets_name, meets_folder, meets_below}
-use Rattle.desk_clashes.proofs.known.Known.meets.Goals as goal
+use Rattle.desk_clashes.proofs.known.SeenTargets.meets.Goals as goal
 
 pub returns-then-holds : goal.returns-then-holds
 returns-then-holds c = λ seen known. meets_name c.args.self.now.names c.args.self.now.folders c.args.target.now seen known (sym c.holds.ensures ∙ c.if-holds.true)

@@ -1,6 +1,6 @@
 use Rattle.std.proofs.Common.{arith}
 use Rattle.desk_disk.proofs.Listings.{IsLonger-refl, IsLonger-more, IsLooked-count}
-use Rattle.desk_disk.proofs.walk.Listing.enter.Goals as goal
+use Rattle.desk_disk.proofs.walk.FolderWalk.enter.Goals as goal
 
 pub loop-entry-init : goal.loop-entry-init
 loop-entry-init c = record { longer = IsLonger-refl c.args.self.now; most = λ h. h }
