@@ -39,11 +39,22 @@ def best(mode, path):
     return min(seconds(mode, TIMES, path) - seconds(mode, 0, path) for _ in range(ROUNDS))
 
 
-def building(count):
-    """The least time to build the rule set of so many exact renames, of which none leads to another."""
-    path = os.path.join(folder, f"exact-{count}")
+def apart(count):
+    """So many exact renames, of which none leads to another."""
+    return [f"a{i}=b{i}\n" for i in range(count)]
+
+
+def one_target(count):
+    """So many exact renames: half of them to one package, and half of packages two segments below it, of which none leads to another."""
+    half = count // 2
+    return [f"a{i}=b\n" for i in range(half)] + [f"b.x{i}.y=c{i}\n" for i in range(count - half)]
+
+
+def building(shape, count):
+    """The least time to build the rule set of so many renames of a shape."""
+    path = os.path.join(folder, f"{shape.__name__}-{count}")
     with open(path, "w") as file:
-        file.writelines(f"a{i}=b{i}\n" for i in range(count))
+        file.writelines(shape(count))
     least = float("inf")
     for _ in range(ROUNDS):
         before = resource.getrusage(resource.RUSAGE_CHILDREN).ru_utime
@@ -59,5 +70,6 @@ print(f"hashing {NAMES} names: {hashing / TIMES * 1000:.2f} ms a pass")
 print(f"among 10 rules: {ten / hashing:.2f} times hashing, {NAMES * TIMES / ten / 1e6:.1f} million look-ups a second (aim: at most 4)")
 print(f"among 1,000 rules: {thousand / hashing:.2f} times hashing, {NAMES * TIMES / thousand / 1e6:.1f} million look-ups a second (aim: at most 4)")
 print(f"1,000 rules against 10: {thousand / ten:.2f} (aim: at most 2)")
-fewer, more = building(15_000), building(60_000)
-print(f"building 60,000 exact renames: {more:.2f} s, {more / fewer:.1f} times 15,000 (aim: at most 5)")
+for shape, what in ((apart, "exact renames"), (one_target, "renames to one package and of packages below it")):
+    fewer, more = building(shape, 15_000), building(shape, 60_000)
+    print(f"building 60,000 {what}: {more:.2f} s, {more / fewer:.1f} times 15,000 (aim: at most 5)")
