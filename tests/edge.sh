@@ -276,7 +276,7 @@ badrules() {
 badrules 'no renames' 'migrate: 22 no renames' 'has no `renames.properties`' ''
 badrules 'bytes' 'migrate: 22 properties renames.properties not-utf8 1' "isn't in UTF-8" 'a\xff=b\n'
 badrules 'an escape' 'migrate: 22 properties renames.properties escape 2' 'four hexadecimal digits' 'a=\\u12\n'
-badrules 'a key' 'migrate: 22 bad key renames.properties a..b' "a key of a rule file hasn't" 'a..b=c\n'
+badrules 'a key' 'migrate: 22 bad key renames.properties a..b' "a key of \`renames.properties\` isn't a package" 'a..b=c\n'
 badrules 'a value' 'migrate: 22 bad value renames.properties a' "a value of a rule file hasn't" 'a=b..c\n'
 badrules 'a chain' 'migrate: 22 chain 1 a b' 'the first rename gives a package that the second renames' 'a=b\nb=c\n'
 
