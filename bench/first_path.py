@@ -1,9 +1,9 @@
 """Times the program against a plain copy of the same files, side by side."""
 
 import os
-import subprocess
 import sys
-import time
+
+from timing import timed
 
 FILES, SIZE, ROUNDS = 1000, 65536, 5
 
@@ -23,24 +23,14 @@ def make(place):
             file.write(content)
 
 
-def timed(words):
-    start = time.perf_counter()
-    process = subprocess.Popen(words, stdout=subprocess.DEVNULL)
-    _, status, usage = os.wait4(process.pid, 0)
-    if status:
-        sys.exit(f"{words[0]} ended with {status}")
-    return time.perf_counter() - start, usage.ru_maxrss
-
-
 def copied(place, turn):
-    copy, _ = timed(["cp", "-r", f"{place}/app", f"{place}/copy{turn}"])
-    read, _ = timed(["sh", "-c", f"cat {place}/copy{turn}/*.bin {place}/copy{turn}/META-INF/services/* > /dev/null"])
+    copy = timed(["cp", "-r", f"{place}/app", f"{place}/copy{turn}"]).seconds
+    read = timed(["sh", "-c", f"cat {place}/copy{turn}/*.bin {place}/copy{turn}/META-INF/services/* > /dev/null"]).seconds
     return copy + read
 
 
 def digested(place):
-    seconds, _ = timed(["sh", "-c", f"sha256sum {place}/app/*.bin {place}/app/META-INF/services/*"])
-    return seconds
+    return timed(["sh", "-c", f"sha256sum {place}/app/*.bin {place}/app/META-INF/services/*"]).seconds
 
 
 def migrated(program, place, turn):
@@ -54,9 +44,9 @@ def main():
     for turn in range(ROUNDS):
         plain.append(copied(place, turn))
         digest.append(digested(place))
-        seconds, kib = migrated(program, place, turn)
-        desk.append(seconds)
-        peak = max(peak, kib * 1024)
+        run = migrated(program, place, turn)
+        desk.append(run.seconds)
+        peak = max(peak, run.peak)
     size = FILES * SIZE
     print(f"time: {min(desk) / min(plain):.2f} times cp -r and reading once more ({min(desk):.3f} s to {min(plain):.3f} s; aim: at most 3)")
     print(f"beside it: sha256sum of the same files takes {min(digest) / min(plain):.2f} times that, and the digests are part of a run")

@@ -12,6 +12,8 @@ import subprocess
 import sys
 import tempfile
 
+from timing import timed
+
 program, *lists = sys.argv[1:]
 ROUNDS = 10
 FEW = 3_000
@@ -19,9 +21,7 @@ FEW = 3_000
 
 def once(mode, what):
     """The processor seconds of one run."""
-    before = resource.getrusage(resource.RUSAGE_CHILDREN).ru_utime
-    subprocess.run([program, "graph", mode, str(what)], stdout=subprocess.DEVNULL, check=True)
-    return resource.getrusage(resource.RUSAGE_CHILDREN).ru_utime - before
+    return timed([program, "graph", mode, str(what)]).used
 
 
 def best(modes, what):

@@ -1,18 +1,16 @@
 #!/usr/bin/env python3
 """Runs the bench program over files of texts and prints the times of reading as ratios to those of summing."""
 import os
-import resource
-import subprocess
 import sys
+
+from timing import timed
 
 program, folder = sys.argv[1], sys.argv[2]
 
 
 def seconds(mode, times, path):
-    before = resource.getrusage(resource.RUSAGE_CHILDREN).ru_utime
     with open(path, "rb") as file:
-        subprocess.run([program, "names", mode, str(times)], stdin=file, stdout=subprocess.DEVNULL, check=True)
-    return resource.getrusage(resource.RUSAGE_CHILDREN).ru_utime - before
+        return timed([program, "names", mode, str(times)], stdin=file).used
 
 
 def ratio(path):

@@ -2,9 +2,10 @@
 """Writes rule files of 10 and 1,000 rules, and prints the times of look-ups as ratios to those of hashing; and how the time
 to build a rule set grows with the number of exact renames."""
 import os
-import resource
 import subprocess
 import sys
+
+from timing import timed
 
 program, folder = sys.argv[1], sys.argv[2]
 NAMES, TIMES, ROUNDS = 100_000, 40, 5
@@ -29,10 +30,8 @@ def rules(count):
 
 
 def seconds(mode, times, path):
-    before = resource.getrusage(resource.RUSAGE_CHILDREN).ru_utime
     with open(os.path.join(folder, "names"), "rb") as file:
-        subprocess.run([program, "rules", mode, str(times), path], stdin=file, stdout=subprocess.DEVNULL, check=True)
-    return resource.getrusage(resource.RUSAGE_CHILDREN).ru_utime - before
+        return timed([program, "rules", mode, str(times), path], stdin=file).used
 
 
 def best(mode, path):
@@ -55,12 +54,7 @@ def building(shape, count):
     path = os.path.join(folder, f"{shape.__name__}-{count}")
     with open(path, "w") as file:
         file.writelines(shape(count))
-    least = float("inf")
-    for _ in range(ROUNDS):
-        before = resource.getrusage(resource.RUSAGE_CHILDREN).ru_utime
-        subprocess.run([program, "rules", "look", "0", path], stdin=subprocess.DEVNULL, stdout=subprocess.DEVNULL, check=True)
-        least = min(least, resource.getrusage(resource.RUSAGE_CHILDREN).ru_utime - before)
-    return least
+    return min(timed([program, "rules", "look", "0", path], stdin=subprocess.DEVNULL).used for _ in range(ROUNDS))
 
 
 few, many = rules(10), rules(1000)

@@ -2,9 +2,9 @@
 
 import os
 import shutil
-import subprocess
 import sys
-import time
+
+from timing import timed
 
 RULES = "java.util.*=renamed.util\njava.util=java.util\njavax.*=jakarta\njavax=javax\n"
 
@@ -28,18 +28,10 @@ def make(place, app, most):
     return len(chosen), size
 
 
-def timed(words):
-    """The seconds that a program takes, its peak memory in bytes, and its exit status."""
-    start = time.perf_counter()
-    process = subprocess.Popen(words, stdout=subprocess.DEVNULL)
-    _, status, usage = os.wait4(process.pid, 0)
-    return time.perf_counter() - start, usage.ru_maxrss * 1024, os.waitstatus_to_exitcode(status)
-
-
 def plain(place, app):
     """The seconds of a copy and of the digests of the same files."""
-    seconds = timed(["cp", "-r", app, f"{place}/copy"])[0]
-    seconds += timed(["sh", "-c", f"find {app} -type f -print0 | xargs -0 sha256sum"])[0]
+    seconds = timed(["cp", "-r", app, f"{place}/copy"]).seconds
+    seconds += timed(["sh", "-c", f"find {app} -type f -print0 | xargs -0 sha256sum"]).seconds
     shutil.rmtree(f"{place}/copy")
     return seconds
 
@@ -47,11 +39,11 @@ def plain(place, app):
 def migrated(program, place, app, workers):
     """The seconds of a run over the same files by so many workers, and its peak memory in bytes."""
     words = [program, "run", "--rules", f"{place}/rules", "--from", app, "--to", f"{place}/out", "--ledger", f"{place}/ledger"]
-    seconds, peak, status = timed(words + ["--workers", str(workers)])
-    if status not in (0, 2):
-        sys.exit(f"the program ended with {status}")
+    run = timed(words + ["--workers", str(workers)], may_fail=True)
+    if run.status not in (0, 2):
+        sys.exit(f"the program ended with {run.status}")
     shutil.rmtree(f"{place}/out")
     for name in ("ledger", "ledger-wal"):
         if os.path.exists(f"{place}/{name}"):
             os.remove(f"{place}/{name}")
-    return seconds, peak
+    return run.seconds, run.peak

@@ -6,18 +6,10 @@ The runs of the two alternate, and the least time of each counts. Both read the 
 import os
 import subprocess
 import sys
-import time
+
+from timing import timed
 
 ROUNDS = 5
-
-
-def timed(words, **more):
-    start = time.perf_counter()
-    process = subprocess.Popen(words, **more)
-    out, _ = process.communicate()
-    if process.returncode:
-        sys.exit(f"{words[0]} ended with {process.returncode}")
-    return time.perf_counter() - start, out
 
 
 def main():
@@ -26,10 +18,10 @@ def main():
         size = sum(os.path.getsize(path.rstrip("\n")) for path in paths)
     plain, desk, told = [], [], b""
     for _ in range(ROUNDS):
-        seconds, _ = timed(["xargs", "-a", files, "cat"], stdout=subprocess.DEVNULL)
-        plain.append(seconds)
-        seconds, told = timed([program, "scan", files], stdout=subprocess.PIPE)
-        desk.append(seconds)
+        plain.append(timed(["xargs", "-a", files, "cat"]).seconds)
+        run = timed([program, "scan", files], stdout=subprocess.PIPE)
+        desk.append(run.seconds)
+        told = run.out
     print(told.decode(), end="")
     rates = [size / 1e6 / min(times) for times in (desk, plain)]
     print(f"reader {min(desk):.2f} s, {rates[0]:.0f} MB/s; cat {min(plain):.2f} s, {rates[1]:.0f} MB/s; ratio {rates[0] / rates[1]:.2f}")

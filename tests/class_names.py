@@ -159,10 +159,12 @@ class Signature:
 
 
 class ClassFile:
-    """A class file: its `name` and the set `held` of the classes that it names, its own included."""
+    """A class file: its `name`, the set `held` of the classes that it names, its own included, and in `texts` the descriptors and
+    signatures of its members and its own signature, in the order of the file, each behind its kind: `f` and `m` are descriptors of
+    fields and methods, `F`, `M` and `C` signatures of fields, methods and classes."""
 
     def __init__(self, data):
-        self.held = set()
+        self.held, self.texts = set(), []
         self.bytes = Bytes(data)
         if self.bytes.number(4) != 0xCAFEBABE:
             raise ValueError("no class file")
@@ -175,7 +177,9 @@ class ClassFile:
         for kind in ("field", "method"):
             for _ in range(self.bytes.number(2)):
                 self.bytes.take(4)
-                self.descriptor(self.bytes.number(2))
+                index = self.bytes.number(2)
+                self.texts.append((kind[0], self.pool[index][1]))
+                self.descriptor(index)
                 self.attributes(self.bytes, kind)
         self.attributes(self.bytes, "class")
         if self.bytes.at != len(data):
@@ -228,7 +232,10 @@ class ClassFile:
                 self.descriptor(body.number(2))
                 self.attributes(body, "component")
         elif name == b"Signature":
-            self.signature(body.number(2), {"class": "class_", "method": "method"}.get(place, "field"))
+            index = body.number(2)
+            if place != "component":
+                self.texts.append((place[0].upper(), self.pool[index][1]))
+            self.signature(index, {"class": "class_", "method": "method"}.get(place, "field"))
         elif name.startswith(b"LocalVariable"):
             for _ in range(body.number(2)):
                 body.take(6)
