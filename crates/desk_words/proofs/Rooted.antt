@@ -11,15 +11,19 @@ use Rattle.desk_base.specs.Paths.{here, top, is_segment, is_relative_path, is_fu
 use Rattle.desk_base.proofs.Separated.{none_is, split_whole}
 use Rattle.desk_words.specs.declared.roots.Root.{Root}
 use Rattle.desk_words.specs.declared.words.Task.{Task}
-use Rattle.desk_words.specs.declared.words.Task.TheVariants.{Run, Generate}
+use Rattle.desk_words.specs.declared.words.Task.TheVariants.{Run, Generate, Calls, Invert}
 use Rattle.desk_options.specs.declared.values.RunValues.{RunValues}
 use Rattle.desk_options.specs.declared.values.GenerateValues.{GenerateValues}
-use Rattle.desk_options.specs.Values.{run_values, generate_values}
+use Rattle.desk_options.specs.declared.values.CallsValues.{CallsValues}
+use Rattle.desk_options.specs.declared.values.InvertValues.{InvertValues}
+use Rattle.desk_options.specs.Values.{run_values, generate_values, calls_values, invert_values}
 use Rattle.desk_words.specs.Numbers.{workers_of, count_of}
-use Rattle.desk_words.specs.Words.{parts, is_upward, is_dropped, named_parts, is_value, is_absolute, root_of, written as written_of, run_of, run_task, generate_of, generate_task, task_of}
+use Rattle.desk_words.specs.Packages.{package_of}
+use Rattle.desk_words.specs.Words.{parts, is_upward, is_dropped, named_parts, is_value, is_absolute, root_of, written as written_of, run_of, run_task, generate_of, generate_task, calls_of, calls_task, invert_of, invert_task, task_of}
 use Rattle.desk_words.specs.Words.{overlap, first_nested}
 use Rattle.desk_words.specs.declared.roots.Order.{Order}
 use Rattle.desk_words.specs.declared.roots.Order.TheVariants as order
+use Rattle.desk_words.specs.declared.roots.Query.TheVariants as query
 use Rattle.desk_words.specs.Roots.{order_apart, order_of_task, order_of_words}
 use Rattle.desk_words.specs.Roots.{AreWorkers, IsSound}
 use Rattle.desk_words.proofs.Digits.{number_bounds}
@@ -136,27 +140,47 @@ run_named : (o : Option RunValues) (task : Task) → option_and_then run_task o 
 run_named None task e = cc
 run_named (Some values) task e = named_by values.rules values.from values.to values.ledger values.workers _ _ _ _ _ values.verify task refl refl refl refl e
 
--- the roots that `generate` has are none of words
+-- a task whose roots are named; the roots that `generate` has are none of words
 pub data Named (task : Task) : Type 0 where
   of_run : AreNamed task → Named task
-  of_generate : (count workers : ℕ) → AreWorkers workers → task ≡ Generate count workers → Named task
+  of_generate : (count workers : ℕ) (sql : Bool) → AreWorkers workers → task ≡ Generate count workers sql → Named task
+  of_calls : (from : Root) (segments : List Text) → list_all is_named from.segments ≡ true → task ≡ Calls from segments → Named task
+  of_invert : (rules : Root) → list_all is_named rules.segments ≡ true → task ≡ Invert rules → Named task
 
 generate_named : (o : Option GenerateValues) (task : Task) → option_and_then generate_task o ≡ Some task → Named task
 generate_named None task e = cc
 generate_named (Some values) task e = by (count_of values.count) (workers_of values.workers) refl e where
-  by : (c w : Option ℕ) → workers_of values.workers ≡ w → generate_of c w ≡ Some task → Named task
-  by (Some c) (Some w) k f = of_generate c w (some_workers values.workers w k) (let h : Generate c w ≡ task = cc in sym h)
+  by : (c w : Option ℕ) → workers_of values.workers ≡ w → generate_of c w values.sql ≡ Some task → Named task
+  by (Some c) (Some w) k f = of_generate c w values.sql (some_workers values.workers w k) (let h : Generate c w values.sql ≡ task = cc in sym h)
   by None w k f = cc
   by (Some c) None k f = cc
+
+calls_named : (o : Option CallsValues) (task : Task) → option_and_then calls_task o ≡ Some task → Named task
+calls_named None task e = cc
+calls_named (Some values) task e = by (root_of values.from) (package_of values.«package») refl e where
+  by : (r : Option Root) (p : Option (List Text)) → root_of values.from ≡ r → calls_of r p ≡ Some task → Named task
+  by (Some from) (Some segments) k f = of_calls from segments (root_named values.from from k) (let h : Calls from segments ≡ task = cc in sym h)
+  by None p k f = cc
+  by (Some from) None k f = cc
+
+invert_named : (o : Option InvertValues) (task : Task) → option_and_then invert_task o ≡ Some task → Named task
+invert_named None task e = cc
+invert_named (Some values) task e = by (root_of values.rules) refl e where
+  by : (r : Option Root) → root_of values.rules ≡ r → invert_of r ≡ Some task → Named task
+  by (Some rules) k f = of_invert rules (root_named values.rules rules k) (let h : Invert rules ≡ task = cc in sym h)
+  by None k f = cc
 
 -- the task of words has such roots
 pub task_named : (words : List Text) (task : Task) → task_of words ≡ Some task → Named task
 task_named [] task e = cc
-task_named (first ∷ behind) task e = by (bytes_eq first (codes "run")) (bytes_eq first (codes "generate")) e where
-  by : (x y : Bool) → (if x then option_and_then run_task (run_values behind) else if y then option_and_then generate_task (generate_values behind) else None) ≡ Some task → Named task
-  by true y f = of_run (run_named (run_values behind) task f)
-  by false true f = generate_named (generate_values behind) task f
-  by false false f = cc
+task_named (first ∷ behind) task e = by (bytes_eq first (codes "run")) (bytes_eq first (codes "generate")) (bytes_eq first (codes "calls")) (bytes_eq first (codes "invert")) e where
+  by : (x y z w : Bool) → (if x then option_and_then run_task (run_values behind) else if y then option_and_then generate_task (generate_values behind)
+      else if z then option_and_then calls_task (calls_values behind) else if w then option_and_then invert_task (invert_values behind) else None) ≡ Some task → Named task
+  by true y z w f = of_run (run_named (run_values behind) task f)
+  by false true z w f = generate_named (generate_values behind) task f
+  by false false true w f = calls_named (calls_values behind) task f
+  by false false false true f = invert_named (invert_values behind) task f
+  by false false false false f = cc
 
 if_some_no : {X : Type 0} (b : Bool) (x : X) (o : Option X) → (if b then Some x else o) ≡ None → (b ≡ false) × (o ≡ None)
 if_some_no true x o e = cc
@@ -187,7 +211,15 @@ order_is_sound words given e = by (task_of words) refl e where
   by (Some task) f g = with_order (task_named words task f) where
     with_order : Named task → IsSound given
     with_order (of_run n) = roots_by n.rules n.from n.to n.ledger n.workers n.verify given (first_nested n.rules n.from n.to n.ledger) refl n.rules_named n.from_named n.to_named n.are_workers (ap (λ (t : Task). order_of_task (Some t)) (sym n.is) ∙ g)
-    with_order (of_generate count workers are is) =
-        let h : order_of_task (Some (Generate count workers)) ≡ Ok given = ap (λ (t : Task). order_of_task (Some t)) (sym is) ∙ g in
-        let k : order.Generate count workers ≡ given = cc in
+    with_order (of_generate count workers sql are is) =
+        let h : order_of_task (Some (Generate count workers sql)) ≡ Ok given = ap (λ (t : Task). order_of_task (Some t)) (sym is) ∙ g in
+        let k : order.Generate count workers sql ≡ given = cc in
         subst IsSound k are
+    with_order (of_calls from segments named is) =
+        let h : order_of_task (Some (Calls from segments)) ≡ Ok given = ap (λ (t : Task). order_of_task (Some t)) (sym is) ∙ g in
+        let k : order.Query (query.Calls (written_of from) segments) ≡ given = cc in
+        subst IsSound k (written_is_root from named)
+    with_order (of_invert rules named is) =
+        let h : order_of_task (Some (Invert rules)) ≡ Ok given = ap (λ (t : Task). order_of_task (Some t)) (sym is) ∙ g in
+        let k : order.Query (query.Invert (written_of rules)) ≡ given = cc in
+        subst IsSound k (written_is_root rules named)

@@ -6,10 +6,12 @@ use Rattle.desk_words.specs.declared.roots.Root.{Root}
 use Rattle.desk_words.specs.declared.roots.Roots.{Roots}
 use Rattle.desk_words.specs.declared.roots.Order.{Order}
 use Rattle.desk_words.specs.declared.roots.Order.TheVariants as order
+use Rattle.desk_words.specs.declared.roots.Query.{Query}
+use Rattle.desk_words.specs.declared.roots.Query.TheVariants as query
 use Rattle.desk_words.specs.declared.roots.RootsFault.{RootsFault}
 use Rattle.desk_words.specs.declared.roots.RootsFault.TheVariants.{Memory, Usage, Nested}
 use Rattle.desk_words.specs.declared.words.Task.{Task}
-use Rattle.desk_words.specs.declared.words.Task.TheVariants.{Run, Generate}
+use Rattle.desk_words.specs.declared.words.Task.TheVariants.{Run, Generate, Calls, Invert}
 use Rattle.desk_words.specs.Words.{task_of, first_nested, written}
 
 -- two roots, as they are written, of which one lies in the other
@@ -24,7 +26,9 @@ order_apart rules from to ledger workers verify (Some pair) = Err (nested_fault 
 abbrev pub order_of_task : Option Task → Result Order RootsFault
 order_of_task None = Err Usage
 order_of_task (Some (Run rules from to ledger workers verify)) = order_apart rules from to ledger workers verify (first_nested rules from to ledger)
-order_of_task (Some (Generate count workers)) = Ok (order.Generate count workers)
+order_of_task (Some (Generate count workers sql)) = Ok (order.Generate count workers sql)
+order_of_task (Some (Calls from segments)) = Ok (order.Query (query.Calls (written from) segments))
+order_of_task (Some (Invert rules)) = Ok (order.Query (query.Invert (written rules)))
 
 -- what words ask for
 abbrev pub order_of_words : List Text → Result Order RootsFault
@@ -57,7 +61,13 @@ pub record AreWorkers (workers : ℕ) : Type 0 where
   pub some : 0 < workers
   pub most : workers ≤ 64
 
--- the roots of a run are such, and so are the workers
+-- a query names a root
+abbrev pub IsSoundQuery : Query → Type 0
+IsSoundQuery (query.Calls from segments) = is_root from ≡ true
+IsSoundQuery (query.Invert rules) = is_root rules ≡ true
+
+-- the roots of a run are such, and so are the workers; and a query names a root
 abbrev pub IsSound : Order → Type 0
 IsSound (order.Run roots workers) = AreRoots roots × AreWorkers workers
-IsSound (order.Generate count workers) = AreWorkers workers
+IsSound (order.Generate count workers sql) = AreWorkers workers
+IsSound (order.Query asked) = IsSoundQuery asked

@@ -6,11 +6,14 @@
 //! // run --rules r --from in --to in/x --ledger l
 //! read_order(alloc, &others)               // Err(RootsFault::Nested { first: in, second: in/x })
 //! // generate --count=5000
-//! read_order(alloc, &more)?                // Order::Generate { count: 5000 }
+//! read_order(alloc, &more)?                // Order::Generate { count: 5000, workers: 1, sql: false }
+//! // calls --from in --package javax.servlet
+//! read_order(alloc, &calls)?               // Order::Calls { from: in, package: [javax, servlet] }
 //! ```
 #![tactic(auto)]
 
 mod numbers;
+mod packages;
 mod roots;
 mod words;
 

@@ -5,6 +5,8 @@ ghost use Rattle.std.specs.List.{list_any};
 ghost use Rattle.desk_base.specs.Names.{written as joined};
 ghost use Rattle.desk_words.specs.Words.{is_value, parts, is_upward, is_dropped, named_parts, root_of, written, lies_in, overlap, first_nested};
 ghost use Rattle.desk_words.specs.Roots.{IsSound, RefusedBy, nested_fault, order_apart, order_of_words};
+ghost use Rattle.desk_words.specs.declared.roots.Order.TheVariants as order;
+ghost use Rattle.desk_words.specs.declared.roots.Query.TheVariants as query;
 
 use crate::words::{Task, WordsFault, read_words};
 use desk_base::{Memory, Text, TextList};
@@ -152,8 +154,20 @@ pub struct Roots {
 pub enum Order {
     /// A run over these roots, by so many workers.
     Run { roots: Roots, workers: u32 },
-    /// A run over a generated application of so many classes, by so many workers.
-    Generate { count: u32, workers: u32 },
+    /// A run over a generated application of so many classes, by so many workers; whether its rows go into the ledger that is
+    /// handed in.
+    Generate { count: u32, workers: u32, sql: bool },
+    /// A question, which is answered without a change of folders and ledger.
+    Query(Query),
+}
+
+/// What words ask that is answered without a change of folders and ledger. A root is as it is written.
+#[derive(Debug, Drop)]
+pub enum Query {
+    /// Where the classes below this root use members of the classes of this package, or of one below it.
+    Calls { from: Text, package: TextList },
+    /// The inverse of the rules in this folder.
+    Invert { rules: Text },
 }
 
 /// Why words ask for nothing that can be done.
@@ -259,6 +273,22 @@ fn order_apart(
     }
 }
 
+/// What is asked of the classes below a root.
+fn calls_query(alloc: Global, from: &Root, package: TextList) -> Result<Order, Memory>
+    ensures { IfOk result (λ given. given ≡ order.Query (query.Calls (written from.now) «package»)) }
+{
+    let from = from.written(alloc)?;
+    Ok(Order::Query(Query::Calls { from, package }))
+}
+
+/// What is asked of the rules in a folder.
+fn invert_query(alloc: Global, rules: &Root) -> Result<Order, Memory>
+    ensures { IfOk result (λ given. given ≡ order.Query (query.Invert (written rules.now))) }
+{
+    let rules = rules.written(alloc)?;
+    Ok(Order::Query(Query::Invert { rules }))
+}
+
 /// What words ask for, or why they ask for nothing.
 fn order_of(alloc: Global, words: &[Text]) -> Result<Order, RootsFault>
     ensures ok { IfOk result (λ order. order_of_words words.now ≡ Ok order) }
@@ -275,14 +305,26 @@ fn order_of(alloc: Global, words: &[Text]) -> Result<Order, RootsFault>
                 verify,
             },
         ) => order_apart(alloc, &rules, &from, &to, &ledger, workers, verify),
-        Ok(Task::Generate { count, workers }) => Ok(Order::Generate { count, workers }),
+        Ok(
+            Task::Generate {
+                count,
+                workers,
+                sql,
+            },
+        ) => Ok(Order::Generate {
+            count,
+            workers,
+            sql,
+        }),
+        Ok(Task::Calls { from, package }) => Ok(calls_query(alloc, &from, package)?),
+        Ok(Task::Invert { rules }) => Ok(invert_query(alloc, &rules)?),
         Err(WordsFault::Usage) => Err(RootsFault::Usage),
         Err(WordsFault::Memory) => Err(RootsFault::Memory),
     }
 }
 
-/// What words ask for: a run over roots, as they are written, or a run over a generated application. The
-/// roots are such that paths stand below them, and source and target have no path in common; the workers are 1 to 64.
+/// What words ask for: a run over roots, as they are written, a run over a generated application, or a query. The
+/// roots are such that paths stand below them, and of a run source and target have no path in common; the workers are 1 to 64.
 /// The errors: `Usage` of words without a task; `Nested` with the first two roots of which one lies
 /// in the other; `Memory`, which may come at any words.
 pub fn read_order(alloc: Global, words: &[Text]) -> Result<Order, RootsFault>

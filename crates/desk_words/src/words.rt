@@ -2,13 +2,17 @@
 
 ghost use Rattle.std.specs.Prelude.{◌≡◌, Some, None, Err, IfOk};
 ghost use Rattle.std.specs.Option.{option_and_then};
-ghost use Rattle.desk_options.specs.Values.{run_values, generate_values};
-ghost use Rattle.desk_words.specs.Words.{run_task, generate_task, task_of};
+ghost use Rattle.desk_options.specs.Values.{run_values, generate_values, calls_values, invert_values};
+ghost use Rattle.desk_words.specs.Words.{run_task, generate_task, calls_task, invert_task, task_of};
 
 use crate::numbers::{count_of, workers_of};
+use crate::packages::package_of;
 use crate::roots::Root;
-use desk_base::{Memory, Text};
-use desk_options::{GenerateValues, RunValues, generate_values, run_values};
+use desk_base::{Memory, Text, TextList};
+use desk_options::{
+    CallsValues, GenerateValues, InvertValues, RunValues, calls_values, generate_values, invert_values,
+    run_values,
+};
 use std::alloc::Global;
 
 /// What words ask for.
@@ -28,6 +32,18 @@ pub enum Task {
     Generate {
         count: u32,
         workers: u32,
+        /// Whether the run keeps its rows in the ledger that the program hands in, in place of one of its own.
+        sql: bool,
+    },
+    /// Where the classes of an application use members of a package's classes.
+    Calls {
+        from: Root,
+        /// The segments of the package.
+        package: TextList,
+    },
+    /// The inverse of the rules in a folder.
+    Invert {
+        rules: Root,
     },
 }
 
@@ -78,8 +94,34 @@ fn generate_task(values: &GenerateValues) -> Option<Task>
     ensures { result ≡ generate_task values.now }
 {
     match (count_of(&values.count), workers_of(&values.workers)) {
-        (Some(count), Some(workers)) => Some(Task::Generate { count, workers }),
+        (Some(count), Some(workers)) => Some(Task::Generate {
+            count,
+            workers,
+            sql: values.sql,
+        }),
         _ => None,
+    }
+}
+
+/// The task of the values that `calls` is given, if they have one.
+fn calls_task(alloc: Global, values: &CallsValues) -> Result<Option<Task>, Memory>
+    ensures { IfOk result (λ task. task ≡ calls_task values.now) }
+{
+    let from = Root::read(alloc, values.from.as_bytes())?;
+    let package = package_of(alloc, &values.package)?;
+    match (from, package) {
+        (Some(from), Some(package)) => Ok(Some(Task::Calls { from, package })),
+        _ => Ok(None),
+    }
+}
+
+/// The task of the value that `invert` is given, if it has one.
+fn invert_task(alloc: Global, values: &InvertValues) -> Result<Option<Task>, Memory>
+    ensures { IfOk result (λ task. task ≡ invert_task values.now) }
+{
+    match Root::read(alloc, values.rules.as_bytes())? {
+        Some(rules) => Ok(Some(Task::Invert { rules })),
+        None => Ok(None),
     }
 }
 
@@ -103,6 +145,26 @@ fn generate_behind(alloc: Global, behind: &[Text]) -> Result<Option<Task>, Memor
     }
 }
 
+/// The task of words behind `calls`.
+fn calls_behind(alloc: Global, behind: &[Text]) -> Result<Option<Task>, Memory>
+    ensures { IfOk result (λ task. task ≡ option_and_then calls_task (calls_values behind.now)) }
+{
+    match calls_values(alloc, behind)? {
+        Some(values) => calls_task(alloc, &values),
+        None => Ok(None),
+    }
+}
+
+/// The task of words behind `invert`.
+fn invert_behind(alloc: Global, behind: &[Text]) -> Result<Option<Task>, Memory>
+    ensures { IfOk result (λ task. task ≡ option_and_then invert_task (invert_values behind.now)) }
+{
+    match invert_values(alloc, behind)? {
+        Some(values) => invert_task(alloc, &values),
+        None => Ok(None),
+    }
+}
+
 /// The task of words, if they have one.
 fn task_of(alloc: Global, words: &[Text]) -> Result<Option<Task>, Memory>
     ensures { IfOk result (λ task. task ≡ task_of words.now) }
@@ -113,6 +175,10 @@ fn task_of(alloc: Global, words: &[Text]) -> Result<Option<Task>, Memory>
                 run_behind(alloc, behind)
             } else if first.as_bytes() == b"generate".as_slice() {
                 generate_behind(alloc, behind)
+            } else if first.as_bytes() == b"calls".as_slice() {
+                calls_behind(alloc, behind)
+            } else if first.as_bytes() == b"invert".as_slice() {
+                invert_behind(alloc, behind)
             } else {
                 Ok(None)
             }
@@ -123,12 +189,13 @@ fn task_of(alloc: Global, words: &[Text]) -> Result<Option<Task>, Memory>
 
 /// Reads words: `run`, and behind it the options `--rules R`, `--from A`, `--to B`, `--ledger L` and, if
 /// they are wanted, `--workers N` and `--verify`, in any order; or `generate`, and behind it `--count N` and, if
-/// it is wanted, `--workers N`. An option with a value is two words, `--name value`, whose second doesn't
-/// begin with `-`, or one word, `--name=value`; `--verify` has no value. Each is given at most once.
+/// they are wanted, `--workers N` and `--sql`; or `calls`, and behind it `--from A` and `--package P`; or `invert`, and behind
+/// it `--rules R`. An option with a value is two words, `--name value`, whose second doesn't
+/// begin with `-`, or one word, `--name=value`; `--verify` and `--sql` have no value. Each is given at most once.
 ///
 /// A root isn't empty, has at most 1,024 bytes and no part `..`. The number of workers is 1 to 64, and 1
 /// where it isn't given; the count is 1 to 20,000. Numbers are decimal digits without a sign or a leading
-/// zero.
+/// zero. A package is written with dots, as in a rule file.
 ///
 /// Any other words, and words of which one isn't UTF-8, are the fault `Usage`; `Memory` may come at any
 /// words.
