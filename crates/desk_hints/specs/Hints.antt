@@ -9,6 +9,8 @@ use Rattle.desk_chains.specs.declared.ChainKind.{ChainKind}
 use Rattle.desk_chains.specs.declared.ChainKind.TheVariants as chain
 use Rattle.desk_rules.specs.declared.RuleFault.{RuleFault}
 use Rattle.desk_rules.specs.declared.RuleFault.TheVariants as rule
+use Rattle.desk_rules.specs.declared.InvertFault.{InvertFault}
+use Rattle.desk_rules.specs.declared.InvertFault.TheVariants as invert
 use Rattle.desk_report.specs.declared.status.LimitKind.{LimitKind}
 use Rattle.desk_report.specs.declared.status.LimitKind.TheVariants as limit
 use Rattle.desk_report.specs.declared.status.Status.{Status}
@@ -58,6 +60,9 @@ hint_text hint.OtherSourceRules = codes "migrate: the ledger belongs to a run wi
 hint_text hint.OtherSourceTarget = codes "migrate: the ledger belongs to a run with other source and target\n         name what it was made with, or another ledger: another one starts anew, and writes every file\n"
 hint_text hint.OtherSourceTargetRules = codes "migrate: the ledger belongs to a run with other source, target and rules\n         name what it was made with, or another ledger: another one starts anew, and writes every file\n"
 hint_text hint.Moved = codes "migrate: a file of the source changed while the run read it\n         run again once nothing writes to the source\n"
+hint_text hint.NotRenames = codes "migrate: the rules have more than renames, and only renames can be taken back\n         take that file out, or invert a folder that holds `renames.properties` alone\n"
+hint_text hint.NothingToInvert = codes "migrate: no rename of the rules changes its package, so there is nothing to take back\n"
+hint_text hint.Overlap = codes "migrate: two renames give one package, or a name in it, so it can not be told which of them to take back\n         give them targets of which neither is, or holds, what the other gives\n"
 
 -- the hint of a chain of rules, by its kind
 abbrev pub chain_hint : ChainKind → Hint
@@ -111,6 +116,12 @@ same_hint false false false = hint.OtherSourceTargetRules
 abbrev pub other_hint : Header → Header → Hint
 other_hint kept wanted = same_hint (bytes_eq kept.from wanted.from) (bytes_eq kept.to wanted.to) (bytes_eq kept.rules.0 wanted.rules.0)
 
+-- the hint of rules that have no inverse
+abbrev pub invert_hint : InvertFault → Hint
+invert_hint (invert.NotRenames file) = hint.NotRenames
+invert_hint invert.Nothing = hint.NothingToInvert
+invert_hint (invert.Overlap first second) = hint.Overlap
+
 -- the hint of a status
 abbrev pub hint_of : Status → Option Hint
 hint_of status.Done = None
@@ -128,3 +139,4 @@ hint_of (status.NameClash defined other image) = Some hint.NameClash
 hint_of (status.Stranded path name) = Some hint.Stranded
 hint_of (status.OtherRun kept wanted) = Some (other_hint kept wanted)
 hint_of (status.Moved path first second) = Some hint.Moved
+hint_of (status.NotInvertible fault) = Some (invert_hint fault)

@@ -1,12 +1,12 @@
 //! The hints behind a status: what stands against the run, and what to do.
 
 ghost use Rattle.std.specs.Prelude.{◌≡◌};
-ghost use Rattle.desk_hints.specs.Hints.{hint_text, hint_of, limit_hint, rule_hint, key_hint, chain_hint, other_hint};
+ghost use Rattle.desk_hints.specs.Hints.{hint_text, hint_of, limit_hint, rule_hint, key_hint, chain_hint, other_hint, invert_hint};
 ghost use Rattle.desk_hints.specs.declared.hints.Hint.TheVariants as case;
 
 use desk_ledger::Header;
 use desk_report::{LimitKind, Status};
-use desk_rules::{ChainKind, PropFault, RuleFault};
+use desk_rules::{ChainKind, InvertFault, PropFault, RuleFault};
 
 /// The rule file whose keys are packages alone.
 const RENAMES: &[u8] = b"renames.properties";
@@ -95,6 +95,12 @@ pub enum Hint {
     OtherSourceTargetRules,
     /// Status 28.
     Moved,
+    /// Status 31: the rules have more than renames.
+    NotRenames,
+    /// Status 31: no rename changes its package.
+    NothingToInvert,
+    /// Status 31: two renames give one package, or a name in it.
+    Overlap,
 }
 
 /// Every hint, in the order of the statuses that it is for.
@@ -139,6 +145,9 @@ pub const HINTS: &[Hint] = &[
     Hint::OtherSourceTarget,
     Hint::OtherSourceTargetRules,
     Hint::Moved,
+    Hint::NotRenames,
+    Hint::NothingToInvert,
+    Hint::Overlap,
 ];
 
 impl Hint {
@@ -227,6 +236,12 @@ impl Hint {
                 b"migrate: the ledger belongs to a run with other source, target and rules\n         name what it was made with, or another ledger: another one starts anew, and writes every file\n",
             Hint::Moved =>
                 b"migrate: a file of the source changed while the run read it\n         run again once nothing writes to the source\n",
+            Hint::NotRenames =>
+                b"migrate: the rules have more than renames, and only renames can be taken back\n         take that file out, or invert a folder that holds `renames.properties` alone\n",
+            Hint::NothingToInvert =>
+                b"migrate: no rename of the rules changes its package, so there is nothing to take back\n",
+            Hint::Overlap =>
+                b"migrate: two renames give one package, or a name in it, so it can not be told which of them to take back\n         give them targets of which neither is, or holds, what the other gives\n",
         }
     }
 }
@@ -310,6 +325,17 @@ fn other_hint(kept: &Header, wanted: &Header) -> Hint
     }
 }
 
+/// The hint of rules that have no inverse.
+fn invert_hint(fault: &InvertFault) -> Hint
+    ensures { result ≡ invert_hint fault.now }
+{
+    match fault {
+        InvertFault::NotRenames { .. } => Hint::NotRenames,
+        InvertFault::Nothing => Hint::NothingToInvert,
+        InvertFault::Overlap { .. } => Hint::Overlap,
+    }
+}
+
 /// The hint of a status; none of `Done`.
 pub fn hint_of(status: &Status) -> Option<Hint>
     ensures { result ≡ hint_of status.now }
@@ -330,5 +356,6 @@ pub fn hint_of(status: &Status) -> Option<Hint>
         Status::Stranded { .. } => Some(Hint::Stranded),
         Status::OtherRun { kept, wanted } => Some(other_hint(kept, wanted)),
         Status::Moved { .. } => Some(Hint::Moved),
+        Status::NotInvertible(fault) => Some(invert_hint(fault)),
     }
 }

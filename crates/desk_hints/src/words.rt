@@ -2,8 +2,8 @@
 
 use desk_base::{Memory, Text, show_byte};
 use desk_options::{
-    GenerateValues, RunValues, generate_values, is_flag, message_of_generate, message_of_run,
-    run_values,
+    CallsValues, GenerateValues, RunValues, calls_values, generate_values, invert_values, is_flag,
+    message_of_calls, message_of_generate, message_of_invert, message_of_run, run_values,
 };
 use std::alloc::Global;
 
@@ -46,7 +46,17 @@ const RUN: TaskOptions = TaskOptions {
 
 const GENERATE: TaskOptions = TaskOptions {
     task: b"generate",
-    names: &[b"count", b"workers"],
+    names: &[b"count", b"workers", b"sql"],
+};
+
+const CALLS: TaskOptions = TaskOptions {
+    task: b"calls",
+    names: &[b"from", b"package"],
+};
+
+const INVERT: TaskOptions = TaskOptions {
+    task: b"invert",
+    names: &[b"rules"],
 };
 
 /// The name of an option: what stands behind its dashes, before a `=`.
@@ -130,8 +140,12 @@ const HELP: &[u8] =
     b"migrate: migrates a compiled application to other packages, as from javax to jakarta (version 1.0)
          migrate run --rules R --from A --to B --ledger L [--workers N] [--verify]
            migrates the files below A to B by the rules in folder R, and notes each in the file L; prints a line a file
-         migrate generate --count N [--workers N]
-           migrates a made-up application of N classes in memory; prints the totals
+         migrate generate --count N [--workers N] [--sql]
+           migrates a made-up application of N classes in memory; prints the totals; with --sql its ledger is an SQL database
+         migrate calls --from A --package P
+           prints where the classes below A use members of the classes of package P, and of those below it
+         migrate invert --rules R
+           prints the rule file that takes the renames of folder R back
          as: migrate run --rules rules/jakarta-ee-9 --from app --to new --ledger ledger >report
          README.md and docs/REFERENCE.md of its repository say the rest
 ";
@@ -141,7 +155,7 @@ const NO_VALUE: &[u8] =
 
 const NO_OPTION: &[u8] = b"stands where an option is wanted, as `--rules R`";
 
-const NO_TASK: &[u8] = b"is no task: the first word is `run` or `generate`";
+const NO_TASK: &[u8] = b"is no task: the first word is `run`, `generate`, `calls` or `invert`";
 
 const UPWARD: &[u8] =
     b"leads to a folder above: a root holds no part `..`, so write its path without one";
@@ -151,6 +165,9 @@ const NO_ROOT: &[u8] = b"is no root: one has 1 to 1,024 bytes";
 const NO_WORKERS: &[u8] = b"is no number of workers: 1 to 64, in decimal digits";
 
 const NO_COUNT: &[u8] = b"is no count: 1 to 20,000, in decimal digits";
+
+const NO_PACKAGE: &[u8] =
+    b"is no package: one is written with dots, as `javax.servlet`, without `.*` at its end";
 
 /// Whether a path has a part `..`.
 fn leads_upward(path: &[u8]) -> bool {
@@ -230,13 +247,43 @@ fn generate_line(alloc: Global, words: &[Text]) -> Result<Option<Text>, Memory> 
     }
 }
 
+/// The line of the values of `calls`: of the package where the root is one.
+fn calls_value(alloc: Global, values: &CallsValues) -> Result<Option<Text>, Memory> {
+    match root_line(alloc, &values.from)? {
+        Some(line) => Ok(Some(line)),
+        None => Ok(Some(line_of(alloc, values.package.as_bytes(), NO_PACKAGE)?)),
+    }
+}
+
+/// The line of words behind `calls`.
+fn calls_line(alloc: Global, words: &[Text]) -> Result<Option<Text>, Memory> {
+    if let Some(line) = loose_word(alloc, &CALLS, words)? {
+        return Ok(Some(line));
+    }
+    match calls_values(alloc, words)? {
+        Some(values) => calls_value(alloc, &values),
+        None => message_of_calls(alloc, words),
+    }
+}
+
+/// The line of words behind `invert`.
+fn invert_line(alloc: Global, words: &[Text]) -> Result<Option<Text>, Memory> {
+    if let Some(line) = loose_word(alloc, &INVERT, words)? {
+        return Ok(Some(line));
+    }
+    match invert_values(alloc, words)? {
+        Some(values) => root_line(alloc, &values.rules),
+        None => message_of_invert(alloc, words),
+    }
+}
+
 /// Which word stands against words that ask for nothing (status 20), in a line of its own; where it is an option, in
 /// the words of `clap`. None where it can't be told. The only error is want of memory.
 pub fn words_hint(alloc: Global, words: &[Text]) -> Result<Option<Text>, Memory> {
     match words {
         [] => Ok(Some(Text::from_bytes(
             alloc,
-            b"migrate: no words are given: the first is `run` or `generate`\n",
+            b"migrate: no words are given: the first is `run`, `generate`, `calls` or `invert`\n",
         )?)),
         [first, behind @ ..] => {
             let first = first.as_bytes();
@@ -244,6 +291,10 @@ pub fn words_hint(alloc: Global, words: &[Text]) -> Result<Option<Text>, Memory>
                 run_line(alloc, behind)
             } else if first == GENERATE.task {
                 generate_line(alloc, behind)
+            } else if first == CALLS.task {
+                calls_line(alloc, behind)
+            } else if first == INVERT.task {
+                invert_line(alloc, behind)
             } else if asks_for_help(first) || first == b"help".as_slice() {
                 Ok(Some(Text::from_bytes(alloc, HELP)?))
             } else {

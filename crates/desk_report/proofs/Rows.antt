@@ -102,7 +102,7 @@ fault_12 = refl
 fault_13 : fault_text OutputFault ≡ codes "migrate: 13 output fault\n"
 fault_13 = refl
 
-fault_20 : fault_text Usage ≡ codes "migrate: 20 usage: migrate run --rules R --from A --to B --ledger L [--workers N] [--verify] or migrate generate --count N [--workers N]\n"
+fault_20 : fault_text Usage ≡ codes "migrate: 20 usage: migrate run --rules R --from A --to B --ledger L [--workers N] [--verify] or migrate generate --count N [--workers N] [--sql] or migrate calls --from A --package P or migrate invert --rules R\n"
 fault_20 = refl
 
 fault_21 : fault_text (NestedRoots (codes "in") (codes "in/x")) ≡ codes "migrate: 21 nested roots in in/x\n"

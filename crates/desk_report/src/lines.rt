@@ -10,7 +10,7 @@ ghost use Rattle.desk_report.specs.Texts.{detail_pieces, line_text, summary_text
 use crate::pieces::{Piece, Pieces};
 use crate::writer::write_pieces;
 use crate::{Sink, SinkFault};
-use desk_base::{Malformed, Text};
+use desk_base::{CodeFault, Malformed, Text};
 
 /// How a file's image came about, with the counts that its line has.
 #[derive(Clone, Copy, Debug, PartialEq, Eq)]
@@ -99,6 +99,9 @@ pub enum Reason {
     /// A text that a second migration would change again; `at` is the offset, from the start of the image, of the first
     /// place at which it would.
     Unsettled { at: u64 },
+    /// A class with a code array that doesn't read as instructions (JVMS 4.9.1): its fault, with the offset from the start of
+    /// the file. It is no reason of a run, which doesn't read code.
+    Code(CodeFault),
 }
 
 /// The line of one file of the source, by its relative path and its target.

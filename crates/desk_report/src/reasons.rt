@@ -1,14 +1,14 @@
 //! Why files are refused, as it is told.
 
 ghost use Rattle.std.specs.Prelude.{◌≡◌, ◌≤◌, length};
-ghost use Rattle.desk_report.specs.Joined.{joined, numbered_pieces};
+ghost use Rattle.desk_report.specs.Joined.{joined, numbered_pieces, placed_pieces};
 ghost use Rattle.desk_report.specs.Kinds.{kind_name};
 ghost use Rattle.desk_report.specs.Pieces.{pieces_text};
-ghost use Rattle.desk_report.specs.Texts.{reason_pieces};
+ghost use Rattle.desk_report.specs.Texts.{code_pieces, reason_pieces};
 
 use crate::lines::Reason;
 use crate::pieces::{Piece, Pieces};
-use desk_base::FaultKind;
+use desk_base::{CodeFault, FaultKind};
 
 /// The name of a kind of fault of a class, as it is written.
 pub fn kind_name(kind: FaultKind) -> &'static [u8]
@@ -52,6 +52,31 @@ fn two_numbers<'a>(front: &'a [u8], first: u64, middle: &'a [u8], second: u64) -
     ])
 }
 
+/// The pieces of a fault of a code array.
+fn code_pieces<'a>(fault: CodeFault) -> Pieces<'a>
+    ensures text { pieces_text result ≡ joined (code_pieces fault) }
+    ensures few { length result ≤ 5 }
+{
+    match fault {
+        CodeFault::Opcode { at } => code_fault(b" code opcode at=", at),
+        CodeFault::UnexpectedEnd { at } => code_fault(b" code short at=", at),
+        CodeFault::Switch { at } => code_fault(b" code switch at=", at),
+        CodeFault::Operand { at } => code_fault(b" code operand at=", at),
+    }
+}
+
+/// The pieces of a place behind what stands before it, at the end of a line.
+fn code_fault<'a>(front: &'a [u8], at: u32) -> Pieces<'a>
+    ensures text { pieces_text result ≡ joined (placed_pieces front.now at) }
+    ensures few { length result ≤ 5 }
+{
+    Pieces::of(&[
+        Piece::Plain(front),
+        Piece::Number(at as u64),
+        Piece::Plain(b"\n"),
+    ])
+}
+
 impl Reason {
     /// The pieces behind the path of a refused file.
     pub(crate) fn pieces<'a>(self) -> Pieces<'a>
@@ -90,6 +115,7 @@ impl Reason {
                 Piece::Number(at),
                 Piece::Plain(b"\n"),
             ]),
+            Reason::Code(fault) => code_pieces(fault),
         }
     }
 }

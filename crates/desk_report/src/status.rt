@@ -5,7 +5,7 @@ ghost use Rattle.desk_base.specs.Counts.{Rose};
 ghost use Rattle.desk_report.specs.Written.{writing, WritesFront};
 ghost use Rattle.desk_report.specs.Joined.{joined};
 ghost use Rattle.desk_report.specs.Pieces.{pieces_text};
-ghost use Rattle.desk_report.specs.Texts.{code_of, fault_text, limit_name};
+ghost use Rattle.desk_report.specs.Texts.{code_of, fault_text, invert_pieces, limit_name};
 ghost use Rattle.desk_report.specs.declared.status.Status.TheVariants as case;
 
 use crate::pieces::{Piece, Pieces};
@@ -14,11 +14,11 @@ use crate::writer::write_pieces;
 use crate::{Sink, SinkFault};
 use desk_base::Text;
 use desk_ledger::{Digest, Header};
-use desk_rules::RuleFault;
+use desk_rules::{InvertFault, RuleFault};
 
 /// The line of words without a task.
 const USAGE: &[u8] =
-    b"migrate: 20 usage: migrate run --rules R --from A --to B --ledger L [--workers N] [--verify] or migrate generate --count N [--workers N]\n";
+    b"migrate: 20 usage: migrate run --rules R --from A --to B --ledger L [--workers N] [--verify] or migrate generate --count N [--workers N] [--sql] or migrate calls --from A --package P or migrate invert --rules R\n";
 
 /// Which limit of a run is passed, by what it counts.
 #[derive(Clone, Copy, Debug, PartialEq, Eq)]
@@ -111,10 +111,12 @@ pub enum Status {
         first: Digest,
         second: Digest,
     },
+    /// The rules have no inverse.
+    NotInvertible(InvertFault),
 }
 
 impl Status {
-    /// The exit status that the program ends with: 0, 2, 10 to 13, or 20 to 28.
+    /// The exit status that the program ends with: 0, 2, 10 to 13, 20 to 28, or 31.
     pub fn code(&self) -> u8
         ensures { result ≡ code_of self.now }
     {
@@ -134,6 +136,7 @@ impl Status {
             Status::Stranded { .. } => 26,
             Status::OtherRun { .. } => 27,
             Status::Moved { .. } => 28,
+            Status::NotInvertible(_) => 31,
         }
     }
 
@@ -176,6 +179,7 @@ impl Status {
                 first,
                 second,
             } => moved(path, first, second),
+            Status::NotInvertible(fault) => not_invertible(fault),
         }
     }
 }
@@ -240,6 +244,23 @@ fn moved<'a>(path: &'a Text, first: &'a Digest, second: &'a Digest) -> Pieces<'a
         Piece::Hex(&second.0),
         Piece::Plain(b"\n"),
     ])
+}
+
+/// The pieces of the line of rules that have no inverse.
+fn not_invertible(fault: &InvertFault) -> Pieces<'_>
+    ensures { pieces_text result ≡ joined (invert_pieces fault.now) }
+{
+    match fault {
+        InvertFault::NotRenames { file } => Pieces::of(&[
+            Piece::Plain(b"migrate: 31 not renames "),
+            Piece::Shown(file.as_bytes()),
+            Piece::Plain(b"\n"),
+        ]),
+        InvertFault::Nothing => Pieces::plain(b"migrate: 31 nothing\n"),
+        InvertFault::Overlap { first, second } => {
+            Pieces::pair(b"migrate: 31 overlap ", first, second)
+        }
+    }
 }
 
 /// Writes the line of a status, in few writes; for `Done` and `Refusals` it does nothing. After an error a front of the

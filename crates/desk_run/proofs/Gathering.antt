@@ -15,7 +15,7 @@ use Rattle.desk_folders.specs.Contents.{Contents, file_at, files_below, paths_be
 use Rattle.desk_graph.specs.declared.scanned.Scanned.{Scanned}
 use Rattle.desk_ledger.specs.Ledger.{Ledger}
 use Rattle.desk_report.specs.declared.status.Status.{Status}
-use Rattle.desk_report.specs.declared.status.Status.TheVariants.{Done, Refusals, Memory, FolderFault, LedgerFault, OutputFault, Usage, NestedRoots, BadRules, Limit, PathClash, NameClash, Stranded, OtherRun, Moved}
+use Rattle.desk_report.specs.declared.status.Status.TheVariants.{Done, Refusals, Memory, FolderFault, LedgerFault, OutputFault, Usage, NestedRoots, BadRules, Limit, PathClash, NameClash, Stranded, OtherRun, Moved, NotInvertible}
 use Rattle.desk_rules.specs.Rules.{Rules}
 use Rattle.desk_second.specs.Second.{AreRules}
 use Rattle.desk_words.specs.declared.roots.Roots.{Roots}
@@ -51,6 +51,7 @@ reading_status asked (NestedRoots first second) e = cc
 reading_status asked (NameClash defined other image) e = cc
 reading_status asked (Stranded path held) e = cc
 reading_status asked (Moved path one other) e = cc
+reading_status asked (NotInvertible fault) e = cc
 reading_status asked (OtherRun kept wanted) e = cc
 
 reading_first : (names : Roots) (m : Contents) (l : Ledger) (status : Status) (r : Result Ruled Status) → reading_answer names m r ≡ Some status → answer_of_run m l (run_by_rules m names r) ≡ status

@@ -16,7 +16,7 @@ use Rattle.desk_ledger.specs.Ledger.{Ledger}
 use Rattle.desk_rename.specs.Images.{cls}
 use Rattle.desk_report.specs.declared.lines.Reason.{Reason}
 use Rattle.desk_report.specs.declared.status.Status.{Status}
-use Rattle.desk_report.specs.declared.status.Status.TheVariants.{Done, Refusals, Memory, FolderFault, LedgerFault, OutputFault, Usage, NestedRoots, BadRules, Limit, PathClash, NameClash, Stranded, OtherRun, Moved}
+use Rattle.desk_report.specs.declared.status.Status.TheVariants.{Done, Refusals, Memory, FolderFault, LedgerFault, OutputFault, Usage, NestedRoots, BadRules, Limit, PathClash, NameClash, Stranded, OtherRun, Moved, NotInvertible}
 use Rattle.desk_rules.specs.Rules.{Rules}
 use Rattle.desk_second.specs.Applications.{classes_of}
 use Rattle.desk_words.specs.Roots.{AreRoots}
@@ -135,6 +135,7 @@ ledger_status asked (PathClash first second) e = cc
 ledger_status asked (NameClash defined other image) e = cc
 ledger_status asked (Stranded path held) e = cc
 ledger_status asked (Moved path one other) e = cc
+ledger_status asked (NotInvertible fault) e = cc
 ledger_status asked Done e = cc
 ledger_status asked Refusals e = cc
 ledger_status asked Memory e = cc
@@ -148,6 +149,7 @@ names_status : (asked : Asked) (status : Status) → is_names_status status ≡ 
 names_status asked (NameClash defined other image) e = (refl, tt)
 names_status asked (Stranded path held) e = (refl, tt)
 names_status asked (Moved path one other) e = cc
+names_status asked (NotInvertible fault) e = cc
 names_status asked (OtherRun kept wanted) e = cc
 names_status asked (BadRules fault) e = cc
 names_status asked (Limit kind path) e = cc
@@ -209,6 +211,7 @@ early_status (PathClash first second) e = refl
 early_status (NameClash defined other image) e = cc
 early_status (Stranded path held) e = cc
 early_status (Moved path one other) e = cc
+early_status (NotInvertible fault) e = cc
 early_status Done e = cc
 early_status Refusals e = cc
 early_status Memory e = cc

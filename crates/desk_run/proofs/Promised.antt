@@ -8,7 +8,7 @@ use Rattle.desk_ledger.specs.declared.keeper.Header.{Header}
 use Rattle.desk_ledger.specs.Ledger.{Ledger, with_header}
 use Rattle.desk_report.specs.declared.sink.SinkFault.{SinkFault}
 use Rattle.desk_report.specs.declared.status.Status.{Status}
-use Rattle.desk_report.specs.declared.status.Status.TheVariants.{Done, Refusals, Memory, FolderFault, LedgerFault, OutputFault, Usage, NestedRoots, BadRules, Limit, PathClash, NameClash, Stranded, OtherRun, Moved}
+use Rattle.desk_report.specs.declared.status.Status.TheVariants.{Done, Refusals, Memory, FolderFault, LedgerFault, OutputFault, Usage, NestedRoots, BadRules, Limit, PathClash, NameClash, Stranded, OtherRun, Moved, NotInvertible}
 use Rattle.desk_report.specs.Texts.{fault_text}
 use Rattle.desk_report.specs.Written.{WritesFront, writing}
 use Rattle.desk_run.specs.Named.{Asked}
@@ -89,6 +89,7 @@ files_clause asked m0 l0 f k status t = record { m = t.m; l = t.l; folders = t.f
   by (NameClash defined other image) s = tt
   by (Stranded path held) s = tt
   by (Moved path one other) s = tt
+  by (NotInvertible fault) s = tt
 
 -- ---- classes
 
@@ -145,6 +146,7 @@ classes_clause asked m0 l0 f k status t = record { m = t.m; l = t.l; folders = t
   by (NameClash defined other image) s = tt
   by (Stranded path held) s = tt
   by (Moved path one other) s = tt
+  by (NotInvertible fault) s = tt
 
 keeps_ledger : (asked : Asked) (m0 : Contents) (l0 : Ledger) (m : Contents) (l : Ledger) (status : Status) → StandsAfter asked m0 l0 m l status → KeepsLedger asked m0 l0 m l status
 keeps_ledger asked m0 l0 m l status s = record {
@@ -182,6 +184,7 @@ keeps_ledger asked m0 l0 m l status s = record {
     by (NameClash defined other image) s = untouched s
     by (Stranded path held) s = untouched s
     by (Moved path one other) s = begun s.done s.stands
+    by (NotInvertible fault) s = untouched s
 
   true_then : IsDone asked m0 l0 m l → IsOkAnd (run_of_asked asked m0) (λ run. IsVerified run m0 l0 → TrueLedger run m l)
   true_then d = ok_and (run_of_asked asked m0) d.run (λ run. IsVerified run m0 l0 → TrueLedger run m l) d.ready.is (true_behind d.run m0 l0 m l d.stands)
@@ -202,6 +205,7 @@ keeps_ledger asked m0 l0 m l status s = record {
   behind (NameClash defined other image) s = tt
   behind (Stranded path held) s = tt
   behind (Moved path one other) s = tt
+  behind (NotInvertible fault) s = tt
 
   rows : (status : Status) → StandsAfter asked m0 l0 m l status → CompleteRows asked m0 l0 l status
   rows Done s = ok_and (run_of_asked asked m0) s.run (λ run. HoldsRows run m0 l0 l) s.ready.is (holds_rows s.run m0 l0 m l s.stands)
@@ -219,6 +223,7 @@ keeps_ledger asked m0 l0 m l status s = record {
   rows (NameClash defined other image) s = tt
   rows (Stranded path held) s = tt
   rows (Moved path one other) s = tt
+  rows (NotInvertible fault) s = tt
 
 pub ledger_clause : (asked : Asked) (f0 f : Option Contents) (k0 k : Option Ledger) (name0 name : Option Text) (status : Status)
     → WhereTold f0 k0 (λ m0 l0. Tells f k (λ m l. StandsAfter asked m0 l0 m l status)) → Named asked name0 name status → LedgerHolds asked f0 f k0 k name0 name status
@@ -255,6 +260,7 @@ remains_clause asked m0 l0 f k status t = record { m = t.m; l = t.l; folders = t
   by (NameClash defined other image) s = (s.folder, s.ledger)
   by (Stranded path held) s = (s.folder, s.ledger)
   by (Moved path one other) s = record { done = s.done; remains = remains_at asked m0 l0 t.m t.l s.done s.stands }
+  by (NotInvertible fault) s = (s.folder, s.ledger)
 
 -- what is final is the first answer, and what else is quiet is want of memory
 pub status_clause : (asked : Asked) (told : Option Contents) (m : Contents) (first status : Status) (f f' k k' o o' : ℕ) → told ≡ Some m → (is_final status ≡ true → status ≡ first) → HasCauses asked told status f f' k k' o o' → Exact first status f f' k k' o o'
@@ -275,6 +281,7 @@ status_clause asked told m first status f f' k k' o o' is h c = record { final =
   by (NameClash defined other image) h c a b d = inl (h refl)
   by (Stranded path held) h c a b d = inl (h refl)
   by (Moved path one other) h c a b d = let e : None ≡ Some m = sym c.1 ∙ is in cc
+  by (NotInvertible fault) h c a b d = inl (h refl)
 
 pub last_write : (line : Text) (old new : Option Text) (o o' : ℕ) (r : Result (Unit {0}) SinkFault) → OnOk r (new ≡ writing line old) → OnErr r (WritesFront line old new) → OnErr r (Rose o o')
     → (new ≡ writing line old) ⊎ (WritesFront line old new × Rose o o')
@@ -324,6 +331,7 @@ output_clause asked f0 k0 (PathClash first second) old mid new o o1 o2 le r w = 
 output_clause asked f0 k0 (NameClash defined other image) old mid new o o1 o2 le r w = plain (fault_text (NameClash defined other image)) old mid new o o1 o2 le r w
 output_clause asked f0 k0 (Stranded path held) old mid new o o1 o2 le r w = plain (fault_text (Stranded path held)) old mid new o o1 o2 le r w
 output_clause asked f0 k0 (Moved path one other) old mid new o o1 o2 le r w = plain (fault_text (Moved path one other)) old mid new o o1 o2 le r w
+output_clause asked f0 k0 (NotInvertible fault) old mid new o o1 o2 le r w = plain (fault_text (NotInvertible fault)) old mid new o o1 o2 le r w
 
 pub causes_after : (asked : Asked) (told : Option Contents) (status : Status) (f f' k k' o o1 o2 : ℕ) → o1 ≤ o2 → HasCauses asked told status f f' k k' o o1 → HasCauses asked told status f f' k k' o o2
 causes_after asked told OutputFault f f' k k' o o1 o2 le c = Rose-later o o1 o2 c le
@@ -341,6 +349,7 @@ causes_after asked told (PathClash first second) f f' k k' o o1 o2 le c = c
 causes_after asked told (NameClash defined other image) f f' k k' o o1 o2 le c = c
 causes_after asked told (Stranded path held) f f' k k' o o1 o2 le c = c
 causes_after asked told (Moved path one other) f f' k k' o o1 o2 le c = c
+causes_after asked told (NotInvertible fault) f f' k k' o o1 o2 le c = c
 
 -- where a run stands that halts early
 pub early_told : (asked : Asked) (f0 f' : Option Contents) (k0 k' : Option Ledger) (m : Contents) (l : Ledger) (a b c d : ℕ) (h : Halt) → f0 ≡ Some m → k0 ≡ Some l → f' ≡ f0
@@ -369,3 +378,4 @@ generates n (PathClash first second) old mid new o o1 o2 le t w = absurd t
 generates n (NameClash defined other image) old mid new o o1 o2 le t w = absurd t
 generates n (Stranded path held) old mid new o o1 o2 le t w = absurd t
 generates n (Moved path one other) old mid new o o1 o2 le t w = absurd t
+generates n (NotInvertible fault) old mid new o o1 o2 le t w = absurd t

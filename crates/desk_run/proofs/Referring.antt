@@ -13,7 +13,7 @@ use Rattle.desk_format.specs.Laws.{IsBytes}
 use Rattle.desk_graph.specs.Application.{Pair, name_clash, stranded}
 use Rattle.desk_rename.specs.Images.{cls}
 use Rattle.desk_report.specs.declared.status.Status.{Status}
-use Rattle.desk_report.specs.declared.status.Status.TheVariants.{Done, Refusals, Memory, FolderFault, LedgerFault, OutputFault, Usage, NestedRoots, BadRules, Limit, PathClash, NameClash, Stranded, OtherRun, Moved}
+use Rattle.desk_report.specs.declared.status.Status.TheVariants.{Done, Refusals, Memory, FolderFault, LedgerFault, OutputFault, Usage, NestedRoots, BadRules, Limit, PathClash, NameClash, Stranded, OtherRun, Moved, NotInvertible}
 use Rattle.desk_rules.specs.Rules.{Rules}
 use Rattle.desk_second.specs.Applications.{classes_of, targets_of, AreBytes}
 use Rattle.desk_second.specs.Second.{AreRules, Follows}
@@ -102,3 +102,4 @@ follow_clause asked m0 l0 f k status t = by status t.holds where
   by (NameClash defined other image) s = tt
   by (Stranded path held) s = tt
   by (Moved path one other) s = tt
+  by (NotInvertible fault) s = tt

@@ -13,7 +13,7 @@ use Rattle.desk_ledger.specs.declared.keeper.Held.{Held}
 use Rattle.desk_ledger.specs.Ledger.{Ledger, Rows}
 use Rattle.desk_report.specs.declared.lines.Reason.{Reason}
 use Rattle.desk_report.specs.declared.status.Status.{Status}
-use Rattle.desk_report.specs.declared.status.Status.TheVariants.{Done, Refusals, Memory, FolderFault, LedgerFault, OutputFault, Usage, NestedRoots, BadRules, Limit, PathClash, NameClash, Stranded, OtherRun, Moved}
+use Rattle.desk_report.specs.declared.status.Status.TheVariants.{Done, Refusals, Memory, FolderFault, LedgerFault, OutputFault, Usage, NestedRoots, BadRules, Limit, PathClash, NameClash, Stranded, OtherRun, Moved, NotInvertible}
 use Rattle.desk_second.specs.Applications.{classes_of}
 use Rattle.desk_words.specs.declared.roots.Roots.{Roots}
 use Rattle.desk_intake.specs.declared.rules.Ruled.{Ruled}
@@ -130,6 +130,7 @@ spares_stopped asked m0 l0 m l run e w = by w.status w.stopped w.remains where
   by (NameClash defined other image) s r = cc
   by (Stranded path held) s r = cc
   by (Moved path one other) s r = cc
+  by (NotInvertible fault) s r = cc
 
 -- ---- the run behind it
 
@@ -237,3 +238,4 @@ resume_clause asked m1 l1 f k status t =
       by m (NameClash defined other image) h = tt
       by m (Stranded path held) h = tt
       by m (Moved path one other) h = tt
+      by m (NotInvertible fault) h = tt

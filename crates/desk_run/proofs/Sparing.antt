@@ -19,7 +19,7 @@ use Rattle.desk_folders.proofs.Below.{paths_below-rise, paths_below-relative}
 use Rattle.desk_folders.proofs.Members.{same_text, same_text-is, same_text-itself, any_path}
 use Rattle.desk_ledger.specs.Ledger.{Ledger}
 use Rattle.desk_report.specs.declared.status.Status.{Status}
-use Rattle.desk_report.specs.declared.status.Status.TheVariants.{Done, Refusals, Memory, FolderFault, LedgerFault, OutputFault, Usage, NestedRoots, BadRules, Limit, PathClash, NameClash, Stranded, OtherRun, Moved}
+use Rattle.desk_report.specs.declared.status.Status.TheVariants.{Done, Refusals, Memory, FolderFault, LedgerFault, OutputFault, Usage, NestedRoots, BadRules, Limit, PathClash, NameClash, Stranded, OtherRun, Moved, NotInvertible}
 use Rattle.desk_words.specs.declared.roots.Roots.{Roots}
 use Rattle.desk_words.specs.declared.roots.Order.{Order}
 use Rattle.desk_words.specs.declared.roots.Order.TheVariants as order
@@ -166,6 +166,7 @@ spares roots m0 l0 m l Refusals are s = spares_done roots m0 l0 m l are s
 spares roots m0 l0 m l OutputFault are s = spares_done roots m0 l0 m l are s
 spares roots m0 l0 m l Memory are s = spares_at roots m0 l0 m l s.done are s.stands
 spares roots m0 l0 m l (Moved path one other) are s = spares_at roots m0 l0 m l s.done are s.stands
+spares roots m0 l0 m l (NotInvertible fault) are s = spares_unchanged roots m0 m s.folder
 spares roots m0 l0 m l (FolderFault done) are s = spares_at roots m0 l0 m l done are s
 spares roots m0 l0 m l (LedgerFault done) are s = spares_at roots m0 l0 m l done are s
 spares roots m0 l0 m l Usage are s = spares_unchanged roots m0 m s.folder
