@@ -9,27 +9,33 @@ use Rattle.desk_report.specs.declared.status.Status.TheVariants as status
 use Rattle.desk_words.specs.declared.roots.Roots.{Roots}
 use Rattle.desk_words.specs.declared.roots.Order.{Order}
 use Rattle.desk_words.specs.declared.roots.Order.TheVariants as order
+use Rattle.desk_words.specs.declared.roots.Query.{Query}
 use Rattle.desk_words.specs.declared.roots.RootsFault.{RootsFault}
 use Rattle.desk_words.specs.declared.roots.RootsFault.TheVariants.{Usage, Nested, Memory}
 use Rattle.desk_words.specs.Roots.{order_of_words, RefusedBy}
-use Rattle.desk_run.specs.Named.{Asked, asked_roots, asked_by, asked_of, status_of_words, UnlessGenerate, OfRun, WhereGenerate, OfGenerate}
+use Rattle.desk_run.specs.Named.{Asked, asked_roots, asked_by, asked_of, status_of_words, UnlessOther, OfRun, UnlessAnswered, OfMigration, WhereGenerate, OfGenerate, WhereSql, OfSql, WhereQuery, OfQuery}
 use Rattle.desk_run.specs.Answers.{first_answer}
 use Rattle.desk_run.specs.Endings.{WhereTold, Tells, StandsAfter, ReportedOf, Named, Committed, HasCauses, is_final}
 use Rattle.desk_run.specs.Generated.{TellsTotals}
+use Rattle.desk_run.specs.Queries.{LeavesAnswer}
 
 -- ---- of all words, and from one fact to another
 
-unless_any : (o : Result Order RootsFault) (P : Type 0) → P → UnlessGenerate o P
+unless_any : (o : Result Order RootsFault) (P : Type 0) → P → UnlessOther o P
 unless_any (Ok (order.Run roots workers)) P p = p
 unless_any (Ok (order.Generate count workers)) P p = tt
+unless_any (Ok (order.GenerateSql count workers)) P p = tt
+unless_any (Ok (order.Query asked)) P p = tt
 unless_any (Err fault) P p = p
 
 pub of_run_any : (words : List Text) (P : Type 0) → P → OfRun words P
 of_run_any words P p = unless_any (order_of_words words) P p
 
-unless_both : (o : Result Order RootsFault) (A B C : Type 0) → (A → B → C) → UnlessGenerate o A → UnlessGenerate o B → UnlessGenerate o C
+unless_both : (o : Result Order RootsFault) (A B C : Type 0) → (A → B → C) → UnlessOther o A → UnlessOther o B → UnlessOther o C
 unless_both (Ok (order.Run roots workers)) A B C h a b = h a b
 unless_both (Ok (order.Generate count workers)) A B C h a b = tt
+unless_both (Ok (order.GenerateSql count workers)) A B C h a b = tt
+unless_both (Ok (order.Query asked)) A B C h a b = tt
 unless_both (Err fault) A B C h a b = h a b
 
 pub of_run_both : (words : List Text) (A B C : Type 0) → (A → B → C) → OfRun words A → OfRun words B → OfRun words C
@@ -41,6 +47,8 @@ of_run_map words A B h a = of_run_both words A A B (λ x _. h x) a a
 where_map : (o : Result Order RootsFault) (P Q : ℕ → Type 0) → ((n : ℕ) → P n → Q n) → WhereGenerate o P → WhereGenerate o Q
 where_map (Ok (order.Run roots workers)) P Q h p = tt
 where_map (Ok (order.Generate count workers)) P Q h p = h count p
+where_map (Ok (order.GenerateSql count workers)) P Q h p = tt
+where_map (Ok (order.Query asked)) P Q h p = tt
 where_map (Err fault) P Q h p = tt
 
 pub of_generate_map : (words : List Text) (P Q : ℕ → Type 0) → ((n : ℕ) → P n → Q n) → OfGenerate words P → OfGenerate words Q
@@ -49,10 +57,32 @@ of_generate_map words P Q h p = where_map (order_of_words words) P Q h p
 where_any : (o : Result Order RootsFault) (P : ℕ → Type 0) → ((n : ℕ) → P n) → WhereGenerate o P
 where_any (Ok (order.Run roots workers)) P p = tt
 where_any (Ok (order.Generate count workers)) P p = p count
+where_any (Ok (order.GenerateSql count workers)) P p = tt
+where_any (Ok (order.Query asked)) P p = tt
 where_any (Err fault) P p = tt
 
 pub of_generate_any : (words : List Text) (P : ℕ → Type 0) → ((n : ℕ) → P n) → OfGenerate words P
 of_generate_any words P p = where_any (order_of_words words) P p
+
+answered_any : (o : Result Order RootsFault) (P : Type 0) → P → UnlessAnswered o P
+answered_any (Ok (order.Run roots workers)) P p = p
+answered_any (Ok (order.Generate count workers)) P p = p
+answered_any (Ok (order.GenerateSql count workers)) P p = tt
+answered_any (Ok (order.Query asked)) P p = tt
+answered_any (Err fault) P p = p
+
+pub of_migration_any : (words : List Text) (P : Type 0) → P → OfMigration words P
+of_migration_any words P p = answered_any (order_of_words words) P p
+
+answered_both : (o : Result Order RootsFault) (A B C : Type 0) → (A → B → C) → UnlessAnswered o A → UnlessAnswered o B → UnlessAnswered o C
+answered_both (Ok (order.Run roots workers)) A B C h a b = h a b
+answered_both (Ok (order.Generate count workers)) A B C h a b = h a b
+answered_both (Ok (order.GenerateSql count workers)) A B C h a b = tt
+answered_both (Ok (order.Query asked)) A B C h a b = tt
+answered_both (Err fault) A B C h a b = h a b
+
+pub of_migration_both : (words : List Text) (A B C : Type 0) → (A → B → C) → OfMigration words A → OfMigration words B → OfMigration words C
+of_migration_both words A B C h a b = answered_both (order_of_words words) A B C h a b
 
 -- ---- words of a run
 
@@ -68,7 +98,7 @@ pub at_generate : (words : List Text) (count workers : ℕ) (P : ℕ → Type 0)
 at_generate words count workers P e p = let Q : Result Order RootsFault → Type 0 = λ o. WhereGenerate o P in subst Q (sym e) p
 
 pub no_run : (words : List Text) (count workers : ℕ) (P : Type 0) → order_of_words words ≡ Ok (order.Generate count workers) → OfRun words P
-no_run words count workers P e = let Q : Result Order RootsFault → Type 0 = λ o. UnlessGenerate o P in subst Q (sym e) tt
+no_run words count workers P e = let Q : Result Order RootsFault → Type 0 = λ o. UnlessOther o P in subst Q (sym e) tt
 
 pub asked_generate : (words : List Text) (count workers : ℕ) (P : Asked → Type 0) → order_of_words words ≡ Ok (order.Generate count workers) → P (Err status.Done) → P (asked_of words)
 asked_generate words count workers P e p = let Q : Result Order RootsFault → Type 0 = λ o. P (asked_by o) in subst Q (sym e) p
@@ -92,7 +122,54 @@ totals_first n old new (status.Stranded path held) t e = absurd t
 totals_first n old new (status.Moved path one other) t e = absurd t
 totals_first n old new (status.NotInvertible fault) t e = absurd t
 
+-- ---- words that ask a query
+
+query_map : (o : Result Order RootsFault) (P Q : Query → Type 0) → ((asked : Query) → P asked → Q asked) → WhereQuery o P → WhereQuery o Q
+query_map (Ok (order.Run roots workers)) P Q h p = tt
+query_map (Ok (order.Generate count workers)) P Q h p = tt
+query_map (Ok (order.GenerateSql count workers)) P Q h p = tt
+query_map (Ok (order.Query asked)) P Q h p = h asked p
+query_map (Err fault) P Q h p = tt
+
+pub of_query_map : (words : List Text) (P Q : Query → Type 0) → ((asked : Query) → P asked → Q asked) → OfQuery words P → OfQuery words Q
+of_query_map words P Q h p = query_map (order_of_words words) P Q h p
+
+query_any : (o : Result Order RootsFault) (P : Query → Type 0) → ((asked : Query) → P asked) → WhereQuery o P
+query_any (Ok (order.Run roots workers)) P p = tt
+query_any (Ok (order.Generate count workers)) P p = tt
+query_any (Ok (order.GenerateSql count workers)) P p = tt
+query_any (Ok (order.Query asked)) P p = p asked
+query_any (Err fault) P p = tt
+
+pub of_query_any : (words : List Text) (P : Query → Type 0) → ((asked : Query) → P asked) → OfQuery words P
+of_query_any words P p = query_any (order_of_words words) P p
+
+pub of_query_at : (words : List Text) (asked : Query) (P : Query → Type 0) → order_of_words words ≡ Ok (order.Query asked) → P asked → OfQuery words P
+of_query_at words asked P e p = let Q : Result Order RootsFault → Type 0 = λ o. WhereQuery o P in subst Q (sym e) p
+
+-- of words that ask something else nothing is said of queries
+pub no_query : (words : List Text) (o : Result Order RootsFault) (P : Query → Type 0) → order_of_words words ≡ o → WhereQuery o P → OfQuery words P
+no_query words o P e p = let Q : Result Order RootsFault → Type 0 = λ o. WhereQuery o P in subst Q (sym e) p
+
+-- and of a query nothing is said that is said of other tasks
+pub of_run_at : (words : List Text) (asked : Query) (P : Type 0) → order_of_words words ≡ Ok (order.Query asked) → OfRun words P
+of_run_at words asked P e = let Q : Result Order RootsFault → Type 0 = λ o. UnlessOther o P in subst Q (sym e) tt
+
+pub of_migration_at : (words : List Text) (asked : Query) (P : Type 0) → order_of_words words ≡ Ok (order.Query asked) → OfMigration words P
+of_migration_at words asked P e = let Q : Result Order RootsFault → Type 0 = λ o. UnlessAnswered o P in subst Q (sym e) tt
+
+pub of_generate_at : (words : List Text) (asked : Query) (P : ℕ → Type 0) → order_of_words words ≡ Ok (order.Query asked) → OfGenerate words P
+of_generate_at words asked P e = let Q : Result Order RootsFault → Type 0 = λ o. WhereGenerate o P in subst Q (sym e) tt
+
 -- ---- words that ask for nothing
+
+pub refused_query : (words : List Text) (fault : RootsFault) (s : Status) (told : Option Contents) (o : Option Text) (f b : ℕ) → RefusedBy (order_of_words words) fault → s ≡ status_of_words fault
+    → OfQuery words (λ asked. LeavesAnswer asked told o o f f b b s)
+refused_query words fault s told o f b e is = let P : Status → Type 0 = λ s. OfQuery words (λ asked. LeavesAnswer asked told o o f f b b s) in subst P (sym is) (by fault e) where
+  by : (fault : RootsFault) → RefusedBy (order_of_words words) fault → OfQuery words (λ asked. LeavesAnswer asked told o o f f b b (status_of_words fault))
+  by Usage e = let Q : Result Order RootsFault → Type 0 = λ r. WhereQuery r (λ asked. LeavesAnswer asked told o o f f b b status.Usage) in subst Q (sym e) tt
+  by (Nested first second) e = let Q : Result Order RootsFault → Type 0 = λ r. WhereQuery r (λ asked. LeavesAnswer asked told o o f f b b (status.NestedRoots first second)) in subst Q (sym e) tt
+  by Memory e = of_query_any words (λ asked. LeavesAnswer asked told o o f f b b status.Memory) (λ asked. refl)
 
 pub refused_stands : (asked : Asked) (fault : RootsFault) (f : Option Contents) (k : Option Ledger) → WhereTold f k (λ m0 l0. Tells f k (λ m l. StandsAfter asked m0 l0 m l (status_of_words fault)))
 refused_stands asked Usage f k = λ m l ef ek. record { m = m; l = l; folders = ef; ledger = ek; holds = record { folder = refl; ledger = refl; none = refl } }

@@ -15,4 +15,5 @@ pub mod Resuming
 pub mod Finishing
 pub mod Referring
 pub mod Following
+pub mod Answering
 pub mod InMemory

@@ -106,6 +106,7 @@ class_of_run rules file image held settled bytes selected is there =
       holds = there ∙ ap Some (is.bytes ∙ ap (λ (i : Image). i.bytes) m.is);
       renamed = renamed;
       names = follow rules file.bytes m.class settled bytes m.reads renamed;
+      codes = kept (images_of rules) file.bytes m.class forms bytes m.reads m.accepted;
       again = unchanged_classes (images_of rules) file.bytes m.class forms (images_settled rules settled) bytes m.reads m.accepted;
     }
 
@@ -296,15 +297,15 @@ nothing_in_front : (front rest : Text) → [] ≡ front ++ rest → front ≡ []
 nothing_in_front [] rest e = refl
 nothing_in_front (x ∷ front) rest e = cc
 
-no_line : (old new : Option Text) (o o' : ℕ) → (new ≡ writing [] old) ⊎ (WritesFront [] old new × Rose o o') → new ≡ old
+pub no_line : (old new : Option Text) (o o' : ℕ) → (new ≡ writing [] old) ⊎ (WritesFront [] old new × Rose o o') → new ≡ old
 no_line old new o o' (inl e) = e ∙ writing_nothing old
 no_line old new o o' (inr w) = w.0.is ∙ ap (λ t. writing t old) (nothing_in_front w.0.front w.0.rest w.0.all) ∙ writing_nothing old
 
-front_of_line : (line : Text) (old new : Option Text) (o o' : ℕ) → (new ≡ writing line old) ⊎ (WritesFront line old new × Rose o o') → WritesFront line old new
+pub front_of_line : (line : Text) (old new : Option Text) (o o' : ℕ) → (new ≡ writing line old) ⊎ (WritesFront line old new × Rose o o') → WritesFront line old new
 front_of_line line old new o o' (inl e) = record { front = line; rest = []; all = sym (append-nil line); is = e }
 front_of_line line old new o o' (inr w) = w.0
 
-plain : (line : Text) (old mid new : Option Text) (o o1 o2 : ℕ) → o ≤ o1 → mid ≡ old → (new ≡ writing line mid) ⊎ (WritesFront line mid new × Rose o1 o2)
+pub plain : (line : Text) (old mid new : Option Text) (o o1 o2 : ℕ) → o ≤ o1 → mid ≡ old → (new ≡ writing line mid) ⊎ (WritesFront line mid new × Rose o1 o2)
     → (new ≡ writing line old) ⊎ (WritesFront line old new × Rose o o2)
 plain line old mid new o o1 o2 le e (inl w) = inl (w ∙ ap (writing line) e)
 plain line old mid new o o1 o2 le e (inr w) = inr (subst (λ m. WritesFront line m new) e w.0, Rose-earlier o o1 o2 le w.1)

@@ -186,6 +186,8 @@ asked_are_roots words roots e = by (order_of_words words) refl e where
       let is : given ≡ roots = cc in
       subst AreRoots is (order_is_sound words (order.Run given workers) f).0
   by (Ok (order.Generate count workers)) f g = cc
+  by (Ok (order.GenerateSql count workers)) f g = cc
+  by (Ok (order.Query asked)) f g = cc
   by (Err fault) f g = cc
 
 leaves_by : (asked : Asked) (m0 : Contents) (l0 : Ledger) (m : Contents) (l : Ledger) (status : Status) → ((roots : Roots) → asked ≡ Ok roots → AreRoots roots) → StandsAfter asked m0 l0 m l status → LeavesSources asked m0 m

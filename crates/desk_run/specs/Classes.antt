@@ -8,6 +8,7 @@ use Rattle.desk_format.specs.Classes.{Class, read_class}
 use Rattle.desk_format.specs.NewClass.{new_class, new_bytes}
 use Rattle.desk_follow.specs.RuleImages.{images_of}
 use Rattle.desk_laws.specs.Classes.{IsRenamedClass, IsUnchangedClass}
+use Rattle.desk_kept_code.specs.Kept.{KeepsCodes}
 use Rattle.desk_ledger.specs.Ledger.{Ledger}
 use Rattle.desk_file.specs.declared.images.Image.{Image}
 use Rattle.desk_paths.specs.Kinds.{kind_of}
@@ -30,13 +31,15 @@ is_selected_class rules path = selects rules.selection path && is_class_kind (ki
 
 -- Bytes are a well-formed class, and what is held is its new class: it is well-formed, its resolved tree is the renamed one,
 -- and its pool keeps the old positions and grows by the missing texts alone; it holds exactly the images of the class names
--- that the old one holds; renaming it once more changes nothing.
+-- that the old one holds; its code arrays are those of the old one, which read or fail alike, with the same instructions, and
+-- the index of each leads to the renamed value; renaming it once more changes nothing.
 pub record HoldsNewClass (rules : Rules) (bytes : Text) (held : Option Text) : Type 0 where
   pub class : Class
   pub reads : read_class bytes ≡ Ok class
   pub holds : held ≡ Some (new_bytes (images_of rules) bytes class)
   pub renamed : IsRenamedClass (images_of rules) bytes class
   pub names : HasImagesOfNames rules.renames class (new_class (images_of rules) class)
+  pub codes : KeepsCodes (images_of rules) bytes class
   pub again : IsUnchangedClass (images_of rules) (new_bytes (images_of rules) bytes class) (new_class (images_of rules) class)
 
 -- the target of each selected class that is accepted holds its new class; of a kept file where the ledger was true, or the run verifies

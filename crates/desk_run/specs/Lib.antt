@@ -4,6 +4,7 @@ pub mod Notes
 pub mod Truth
 pub mod Stands
 pub mod Stops
+pub mod Queries
 pub mod Reports
 pub mod Named
 pub mod Meaning

@@ -1,11 +1,13 @@
 -- What words ask for: the roots of a run, or the status that tells why they name none.
 use Rattle.std.specs.Prelude.{ℕ, List, Result, Ok, Err}
-use Rattle.desk_base.specs.Names.{Text}
+use Rattle.desk_base.specs.Names.{Text, Package}
 use Rattle.desk_report.specs.declared.status.Status.{Status}
 use Rattle.desk_report.specs.declared.status.Status.TheVariants as status
 use Rattle.desk_words.specs.declared.roots.Roots.{Roots}
 use Rattle.desk_words.specs.declared.roots.Order.{Order}
 use Rattle.desk_words.specs.declared.roots.Order.TheVariants as order
+use Rattle.desk_words.specs.declared.roots.Query.{Query}
+use Rattle.desk_words.specs.declared.roots.Query.TheVariants as query
 use Rattle.desk_words.specs.declared.roots.RootsFault.{RootsFault}
 use Rattle.desk_words.specs.declared.roots.RootsFault.TheVariants.{Usage, Nested, Memory}
 use Rattle.desk_words.specs.Roots.{order_of_words}
@@ -24,22 +26,36 @@ status_of_words Usage = status.Usage
 status_of_words (Nested first second) = status.NestedRoots first second
 status_of_words Memory = status.Memory
 
--- `generate` names no roots, and nothing stands against it
+-- of other tasks than a run nothing stands against the words: `generate` names no roots, and a query has answers of its own
 abbrev pub asked_by : Result Order RootsFault → Asked
 asked_by (Ok (order.Run roots workers)) = Ok roots
 asked_by (Ok (order.Generate count workers)) = Err status.Done
+asked_by (Ok (order.GenerateSql count workers)) = Err status.Done
+asked_by (Ok (order.Query asked)) = Err status.Done
 asked_by (Err fault) = Err (status_of_words fault)
 
 abbrev pub asked_of : List Text → Asked
 asked_of words = asked_by (order_of_words words)
 
-abbrev pub UnlessGenerate : Result Order RootsFault → Type 0 → Type 0
-UnlessGenerate (Ok (order.Generate count workers)) P = Unit {0}
-UnlessGenerate _ P = P
+abbrev pub UnlessOther : Result Order RootsFault → Type 0 → Type 0
+UnlessOther (Ok (order.Generate count workers)) P = Unit {0}
+UnlessOther (Ok (order.GenerateSql count workers)) P = Unit {0}
+UnlessOther (Ok (order.Query asked)) P = Unit {0}
+UnlessOther _ P = P
 
--- of all words but those that ask for a generated application
+-- of all words but those that ask for another task than a run
 abbrev pub OfRun : List Text → Type 0 → Type 0
-OfRun words P = UnlessGenerate (order_of_words words) P
+OfRun words P = UnlessOther (order_of_words words) P
+
+abbrev pub UnlessAnswered : Result Order RootsFault → Type 0 → Type 0
+UnlessAnswered (Ok (order.GenerateSql count workers)) P = Unit {0}
+UnlessAnswered (Ok (order.Query asked)) P = Unit {0}
+UnlessAnswered _ P = P
+
+-- of all words but those of a task that has answers of its own: a generated application whose rows go into the ledger that is
+-- handed in, and a query
+abbrev pub OfMigration : List Text → Type 0 → Type 0
+OfMigration words P = UnlessAnswered (order_of_words words) P
 
 abbrev pub WhereGenerate : Result Order RootsFault → (ℕ → Type 0) → Type 0
 WhereGenerate (Ok (order.Generate count workers)) P = P count
@@ -48,3 +64,35 @@ WhereGenerate _ P = Unit {0}
 -- of words that ask for a generated application of so many classes
 abbrev pub OfGenerate : List Text → (ℕ → Type 0) → Type 0
 OfGenerate words P = WhereGenerate (order_of_words words) P
+
+abbrev pub WhereSql : Result Order RootsFault → (ℕ → Type 0) → Type 0
+WhereSql (Ok (order.GenerateSql count workers)) P = P count
+WhereSql _ P = Unit {0}
+
+-- of words that ask for a generated application of so many classes whose rows go into the ledger that is handed in
+abbrev pub OfSql : List Text → (ℕ → Type 0) → Type 0
+OfSql words P = WhereSql (order_of_words words) P
+
+abbrev pub WhereQuery : Result Order RootsFault → (Query → Type 0) → Type 0
+WhereQuery (Ok (order.Query asked)) P = P asked
+WhereQuery _ P = Unit {0}
+
+-- of words that ask a query
+abbrev pub OfQuery : List Text → (Query → Type 0) → Type 0
+OfQuery words P = WhereQuery (order_of_words words) P
+
+abbrev pub WhereCalls : (Text → Package → Type 0) → Query → Type 0
+WhereCalls P (query.Calls from scope) = P from scope
+WhereCalls P _ = Unit {0}
+
+-- of words that ask where the classes below a root use members of a package
+abbrev pub OfCalls : List Text → (Text → Package → Type 0) → Type 0
+OfCalls words P = OfQuery words (WhereCalls P)
+
+abbrev pub WhereInvert : (Text → Type 0) → Query → Type 0
+WhereInvert P (query.Invert rules) = P rules
+WhereInvert P _ = Unit {0}
+
+-- of words that ask for the inverse of the rules in a folder
+abbrev pub OfInvert : List Text → (Text → Type 0) → Type 0
+OfInvert words P = OfQuery words (WhereInvert P)

@@ -16,7 +16,9 @@ ghost use Rattle.desk_run.specs.Clauses.{Exact, Files, LedgerHolds, Left, Output
 ghost use Rattle.desk_run.specs.Endings.{Committed, HasCauses, Named, ReportedOf, StandsAfter, Tells, WhereTold, is_final};
 ghost use Rattle.desk_run.specs.Follows.{Follow};
 ghost use Rattle.desk_run.specs.Generated.{Generates, TellsTotals};
-ghost use Rattle.desk_run.specs.Named.{OfGenerate, OfRun, asked_of};
+ghost use Rattle.desk_run.specs.Named.{OfCalls, OfGenerate, OfInvert, OfMigration, OfQuery, OfRun, asked_of};
+ghost use Rattle.desk_run.specs.Queries.{AnswersQuery, LeavesAnswer};
+ghost use Rattle.desk_words.specs.declared.roots.Query.TheVariants as query;
 ghost use Rattle.desk_run.specs.Resuming.{LeavesSources, Resumes};
 
 mod clash;
@@ -26,6 +28,7 @@ mod gather;
 mod generate;
 mod opening;
 mod planning;
+mod queries;
 mod report;
 mod stops;
 
@@ -39,6 +42,7 @@ pub use desk_workers::FreeGate;
 use desk_workers::Gate;
 use finish::run;
 use generate::run_generated;
+use queries::run_query;
 use std::alloc::Global;
 use std::thread::Threads;
 use stops::status_of_words;
@@ -54,13 +58,15 @@ fn follow<R: Threads + Sync, F: Folders, K: Keeper, O: Sink, G: Gate + Sync>(
     gate: &G,
 ) -> Status
     ensures stands { OfRun words.now (WhereTold (F.told folders.old) (K.told keeper.old) (λ m0 l0. Tells (F.told folders.new) (K.told keeper.new) (λ m l. StandsAfter (asked_of words.now) m0 l0 m l result))) }
-    ensures first { WhereTold (F.told folders.old) (K.told keeper.old) (λ m l. is_final result ≡ true → result ≡ first_answer (asked_of words.now) m l) }
+    ensures first { OfMigration words.now (WhereTold (F.told folders.old) (K.told keeper.old) (λ m l. is_final result ≡ true → result ≡ first_answer (asked_of words.now) m l)) }
     ensures output { OfRun words.now (ReportedOf (asked_of words.now) (F.told folders.old) (K.told keeper.old) (O.told out.old) (O.told out.new) result) }
     ensures named { OfRun words.now (Named (asked_of words.now) (K.attached keeper.old) (K.attached keeper.new) result) }
     ensures committed { OfRun words.now (Committed (K.waiting keeper.new) result) }
     ensures untouched { OfGenerate words.now (λ _. (folders.new ≡ folders.old) × (keeper.new ≡ keeper.old)) }
     ensures generate { OfGenerate words.now (λ count. TellsTotals count (O.told out.old) (O.told out.new) result) }
-    ensures causes { HasCauses (asked_of words.now) (F.told folders.old) result (F.faults folders.old) (F.faults folders.new) (K.faults keeper.old) (K.faults keeper.new) (O.faults out.old) (O.faults out.new) }
+    ensures query { OfQuery words.now (λ asked. LeavesAnswer asked (F.told folders.old) (O.told out.old) (O.told out.new) (F.faults folders.old) (F.faults folders.new) (O.faults out.old) (O.faults out.new) result) }
+    ensures unchanged { OfQuery words.now (λ _. (F.told folders.new ≡ F.told folders.old) × (keeper.new ≡ keeper.old)) }
+    ensures causes { OfMigration words.now (HasCauses (asked_of words.now) (F.told folders.old) result (F.faults folders.old) (F.faults folders.new) (K.faults keeper.old) (K.faults keeper.new) (O.faults out.old) (O.faults out.new)) }
     ensures counts_f { F.faults folders.old ≤ F.faults folders.new }
     ensures counts_k { K.faults keeper.old ≤ K.faults keeper.new }
     ensures counts_o { O.faults out.old ≤ O.faults out.new }
@@ -72,6 +78,7 @@ fn follow<R: Threads + Sync, F: Folders, K: Keeper, O: Sink, G: Gate + Sync>(
         Ok(Order::Generate { count, workers }) => {
             run_generated(rt, alloc, count, workers, out, gate)
         }
+        Ok(Order::Query(asked)) => run_query(rt, alloc, &asked, folders, out, gate),
         Err(fault) => status_of_words(fault),
     }
 }
@@ -115,9 +122,9 @@ pub fn desk<R: Threads + Sync, F: Folders, K: Keeper, O: Sink, G: Gate + Sync>(
     ensures ledger { OfRun words.now (LedgerHolds (asked_of words.now) (F.told folders.old) (F.told folders.new) (K.told keeper.old) (K.told keeper.new) (K.attached keeper.old) (K.attached keeper.new) result) }
     ensures committed { OfRun words.now (Committed (K.waiting keeper.new) result) }
     ensures output { OfRun words.now (Output (asked_of words.now) (F.told folders.old) (K.told keeper.old) (O.told out.old) (O.told out.new) (O.faults out.old) (O.faults out.new) result) }
-    ensures status { WhereTold (F.told folders.old) (K.told keeper.old) (λ m l. Exact (first_answer (asked_of words.now) m l) result
-        (F.faults folders.old) (F.faults folders.new) (K.faults keeper.old) (K.faults keeper.new) (O.faults out.old) (O.faults out.new)) }
-    ensures causes { HasCauses (asked_of words.now) (F.told folders.old) result (F.faults folders.old) (F.faults folders.new) (K.faults keeper.old) (K.faults keeper.new) (O.faults out.old) (O.faults out.new) }
+    ensures status { OfMigration words.now (WhereTold (F.told folders.old) (K.told keeper.old) (λ m l. Exact (first_answer (asked_of words.now) m l) result
+        (F.faults folders.old) (F.faults folders.new) (K.faults keeper.old) (K.faults keeper.new) (O.faults out.old) (O.faults out.new))) }
+    ensures causes { OfMigration words.now (HasCauses (asked_of words.now) (F.told folders.old) result (F.faults folders.old) (F.faults folders.new) (K.faults keeper.old) (K.faults keeper.new) (O.faults out.old) (O.faults out.new)) }
     ensures remains { OfRun words.now (WhereTold (F.told folders.old) (K.told keeper.old) (λ m0 l0. Tells (F.told folders.new) (K.told keeper.new) (λ m l. Left (asked_of words.now) m0 l0 m l result))) }
     ensures sources { OfRun words.now (WhereTold (F.told folders.old) (K.told keeper.old) (λ m0 _. Tells (F.told folders.new) (K.told keeper.new) (λ m _. LeavesSources (asked_of words.now) m0 m))) }
     ensures resume { OfRun words.now (WhereTold (F.told folders.old) (K.told keeper.old) (λ m1 l1. Tells (F.told folders.new) (K.told keeper.new) (λ m _. Resumes (asked_of words.now) m1 l1 m result))) }
@@ -125,6 +132,11 @@ pub fn desk<R: Threads + Sync, F: Folders, K: Keeper, O: Sink, G: Gate + Sync>(
     ensures follow { OfRun words.now (WhereTold (F.told folders.old) (K.told keeper.old) (λ m0 _. Follow (asked_of words.now) m0 result)) }
     ensures untouched { OfGenerate words.now (λ _. (folders.new ≡ folders.old) × (keeper.new ≡ keeper.old)) }
     ensures generate { OfGenerate words.now (λ count. Generates count (O.told out.old) (O.told out.new) (O.faults out.old) (O.faults out.new) result) }
+    ensures calls { OfCalls words.now (λ from scope. AnswersQuery (query.Calls from scope) (F.told folders.old) (O.told out.old) (O.told out.new)
+        (F.faults folders.old) (F.faults folders.new) (O.faults out.old) (O.faults out.new) result) }
+    ensures invert { OfInvert words.now (λ rules. AnswersQuery (query.Invert rules) (F.told folders.old) (O.told out.old) (O.told out.new)
+        (F.faults folders.old) (F.faults folders.new) (O.faults out.old) (O.faults out.new) result) }
+    ensures unchanged { OfQuery words.now (λ _. (F.told folders.new ≡ F.told folders.old) × (keeper.new ≡ keeper.old)) }
 {
     let status = follow(rt, alloc, words, folders, keeper, out, gate);
     let _ = write_fault(&status, out);

@@ -24,7 +24,7 @@ use Rattle.desk_words.specs.Words.{overlap, first_nested}
 use Rattle.desk_words.specs.declared.roots.Order.{Order}
 use Rattle.desk_words.specs.declared.roots.Order.TheVariants as order
 use Rattle.desk_words.specs.declared.roots.Query.TheVariants as query
-use Rattle.desk_words.specs.Roots.{order_apart, order_of_task, order_of_words}
+use Rattle.desk_words.specs.Roots.{generate_order, order_apart, order_of_task, order_of_words}
 use Rattle.desk_words.specs.Roots.{AreWorkers, IsSound}
 use Rattle.desk_words.proofs.Digits.{number_bounds}
 use Rattle.desk_words.proofs.Apart.{is_named, before, full_relative, full_absolute, roots_apart as apart_roots}
@@ -212,9 +212,13 @@ order_is_sound words given e = by (task_of words) refl e where
     with_order : Named task → IsSound given
     with_order (of_run n) = roots_by n.rules n.from n.to n.ledger n.workers n.verify given (first_nested n.rules n.from n.to n.ledger) refl n.rules_named n.from_named n.to_named n.are_workers (ap (λ (t : Task). order_of_task (Some t)) (sym n.is) ∙ g)
     with_order (of_generate count workers sql are is) =
-        let h : order_of_task (Some (Generate count workers sql)) ≡ Ok given = ap (λ (t : Task). order_of_task (Some t)) (sym is) ∙ g in
-        let k : order.Generate count workers sql ≡ given = cc in
-        subst IsSound k are
+        let h : Ok (generate_order count workers sql) ≡ Ok given = ap (λ (t : Task). order_of_task (Some t)) (sym is) ∙ g in
+        let k : generate_order count workers sql ≡ given = cc in
+        subst IsSound k (generates sql)
+      where
+        generates : (b : Bool) → IsSound (generate_order count workers b)
+        generates true = are
+        generates false = are
     with_order (of_calls from segments named is) =
         let h : order_of_task (Some (Calls from segments)) ≡ Ok given = ap (λ (t : Task). order_of_task (Some t)) (sym is) ∙ g in
         let k : order.Query (query.Calls (written_of from) segments) ≡ given = cc in

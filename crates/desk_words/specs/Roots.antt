@@ -1,5 +1,5 @@
 -- What words ask for, with the roots of a run as they are written, or the fault that stands against them; and what is known of such roots.
-use Rattle.std.specs.Prelude.{◌≡◌, ◌≢◌, ◌<◌, ◌≤◌, ℕ, Bool, true, List, Option, Some, None, Result, Ok, Err}
+use Rattle.std.specs.Prelude.{◌≡◌, ◌≢◌, ◌<◌, ◌≤◌, ℕ, Bool, true, false, List, Option, Some, None, Result, Ok, Err}
 use Rattle.desk_base.specs.Names.{Text}
 use Rattle.desk_base.specs.Paths.{is_root, is_relative_path, is_full_path, full}
 use Rattle.desk_words.specs.declared.roots.Root.{Root}
@@ -23,10 +23,15 @@ abbrev pub order_apart : Root → Root → Root → Root → ℕ → Bool → Op
 order_apart rules from to ledger workers verify None = Ok (order.Run (record { rules = written rules; from = written from; to = written to; ledger = written ledger; verify = verify }) workers)
 order_apart rules from to ledger workers verify (Some pair) = Err (nested_fault pair)
 
+-- a run over a generated application, with a ledger of its own, or with the one that is handed in
+abbrev pub generate_order : ℕ → ℕ → Bool → Order
+generate_order count workers false = order.Generate count workers
+generate_order count workers true = order.GenerateSql count workers
+
 abbrev pub order_of_task : Option Task → Result Order RootsFault
 order_of_task None = Err Usage
 order_of_task (Some (Run rules from to ledger workers verify)) = order_apart rules from to ledger workers verify (first_nested rules from to ledger)
-order_of_task (Some (Generate count workers sql)) = Ok (order.Generate count workers sql)
+order_of_task (Some (Generate count workers sql)) = Ok (generate_order count workers sql)
 order_of_task (Some (Calls from segments)) = Ok (order.Query (query.Calls (written from) segments))
 order_of_task (Some (Invert rules)) = Ok (order.Query (query.Invert (written rules)))
 
@@ -69,5 +74,6 @@ IsSoundQuery (query.Invert rules) = is_root rules ≡ true
 -- the roots of a run are such, and so are the workers; and a query names a root
 abbrev pub IsSound : Order → Type 0
 IsSound (order.Run roots workers) = AreRoots roots × AreWorkers workers
-IsSound (order.Generate count workers sql) = AreWorkers workers
+IsSound (order.Generate count workers) = AreWorkers workers
+IsSound (order.GenerateSql count workers) = AreWorkers workers
 IsSound (order.Query asked) = IsSoundQuery asked

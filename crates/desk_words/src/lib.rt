@@ -6,7 +6,7 @@
 //! // run --rules r --from in --to in/x --ledger l
 //! read_order(alloc, &others)               // Err(RootsFault::Nested { first: in, second: in/x })
 //! // generate --count=5000
-//! read_order(alloc, &more)?                // Order::Generate { count: 5000, workers: 1, sql: false }
+//! read_order(alloc, &more)?                // Order::Generate { count: 5000, workers: 1 }
 //! // calls --from in --package javax.servlet
 //! read_order(alloc, &calls)?               // Order::Calls { from: in, package: [javax, servlet] }
 //! ```

@@ -4,7 +4,7 @@ ghost use Rattle.std.specs.Prelude.{◌≡◌, Some, Ok, Err, IfOk, IfErr, OnOk,
 ghost use Rattle.std.specs.List.{list_any};
 ghost use Rattle.desk_base.specs.Names.{written as joined};
 ghost use Rattle.desk_words.specs.Words.{is_value, parts, is_upward, is_dropped, named_parts, root_of, written, lies_in, overlap, first_nested};
-ghost use Rattle.desk_words.specs.Roots.{IsSound, RefusedBy, nested_fault, order_apart, order_of_words};
+ghost use Rattle.desk_words.specs.Roots.{IsSound, RefusedBy, generate_order, nested_fault, order_apart, order_of_words};
 ghost use Rattle.desk_words.specs.declared.roots.Order.TheVariants as order;
 ghost use Rattle.desk_words.specs.declared.roots.Query.TheVariants as query;
 
@@ -154,9 +154,10 @@ pub struct Roots {
 pub enum Order {
     /// A run over these roots, by so many workers.
     Run { roots: Roots, workers: u32 },
-    /// A run over a generated application of so many classes, by so many workers; whether its rows go into the ledger that is
-    /// handed in.
-    Generate { count: u32, workers: u32, sql: bool },
+    /// A run over a generated application of so many classes, by so many workers.
+    Generate { count: u32, workers: u32 },
+    /// The same, whose rows go into the ledger that is handed in.
+    GenerateSql { count: u32, workers: u32 },
     /// A question, which is answered without a change of folders and ledger.
     Query(Query),
 }
@@ -273,6 +274,17 @@ fn order_apart(
     }
 }
 
+/// A run over a generated application, with a ledger of its own or, by `sql`, with the one that is handed in.
+fn generate_order(count: u32, workers: u32, sql: bool) -> Order
+    ensures { result ≡ generate_order count workers sql }
+{
+    if sql {
+        Order::GenerateSql { count, workers }
+    } else {
+        Order::Generate { count, workers }
+    }
+}
+
 /// What is asked of the classes below a root.
 fn calls_query(alloc: Global, from: &Root, package: TextList) -> Result<Order, Memory>
     ensures { IfOk result (λ given. given ≡ order.Query (query.Calls (written from.now) «package»)) }
@@ -311,11 +323,7 @@ fn order_of(alloc: Global, words: &[Text]) -> Result<Order, RootsFault>
                 workers,
                 sql,
             },
-        ) => Ok(Order::Generate {
-            count,
-            workers,
-            sql,
-        }),
+        ) => Ok(generate_order(count, workers, sql)),
         Ok(Task::Calls { from, package }) => Ok(calls_query(alloc, &from, package)?),
         Ok(Task::Invert { rules }) => Ok(invert_query(alloc, &rules)?),
         Err(WordsFault::Usage) => Err(RootsFault::Usage),

@@ -1,6 +1,7 @@
 use Rattle.desk_run.specs.Named.{asked_of}
 use Rattle.desk_run.proofs.Promised.{files_clause, classes_clause, ledger_clause, remains_clause, status_clause, output_clause, last_write, causes_after, generates}
-use Rattle.desk_run.proofs.Following.{of_run_map, of_run_both, of_generate_map}
+use Rattle.desk_run.proofs.Answering.{answers_of, calls_clause, invert_clause}
+use Rattle.desk_run.proofs.Following.{of_run_map, of_run_both, of_generate_map, of_migration_both, of_query_map}
 use Rattle.desk_run.proofs.Referring.{follow_clause}
 use Rattle.desk_run.proofs.Resuming.{resume_clause}
 use Rattle.desk_run.proofs.Sparing.{sources_clause}
@@ -25,12 +26,14 @@ returns-clause-generate g c =
     (last_write _ _ _ _ _ c.write_fault.result c.write_fault.ensures.ok c.write_fault.ensures.err c.write_fault.ensures.failed)) c.follow-status.ensures.generate
 
 pub returns-clause-causes : goal.returns-clause-causes
-returns-clause-causes g c = causes_after (asked_of c.args.words.now) _ c.follow-status.result _ _ _ _ _ _ _ c.write_fault.ensures.counts c.follow-status.ensures.causes
+returns-clause-causes g c =
+    of_migration_both c.args.words.now _ _ _ (λ h _. causes_after (asked_of c.args.words.now) _ c.follow-status.result _ _ _ _ _ _ _ c.write_fault.ensures.counts h) c.follow-status.ensures.causes c.follow-status.ensures.causes
 
 pub returns-clause-status : goal.returns-clause-status
-returns-clause-status g c = λ m l ef ek.
-    status_clause (asked_of c.args.words.now) _ m _ c.follow-status.result _ _ _ _ _ _ ef (c.follow-status.ensures.first m l ef ek)
-    (causes_after (asked_of c.args.words.now) _ c.follow-status.result _ _ _ _ _ _ _ c.write_fault.ensures.counts c.follow-status.ensures.causes)
+returns-clause-status g c =
+    of_migration_both c.args.words.now _ _ _ (λ first h. λ m l ef ek.
+    status_clause (asked_of c.args.words.now) _ m _ c.follow-status.result _ _ _ _ _ _ ef (first m l ef ek)
+    (causes_after (asked_of c.args.words.now) _ c.follow-status.result _ _ _ _ _ _ _ c.write_fault.ensures.counts h)) c.follow-status.ensures.first c.follow-status.ensures.causes
 
 pub returns-clause-remains : goal.returns-clause-remains
 returns-clause-remains g c =
@@ -51,3 +54,13 @@ returns-clause-sources g c =
 pub returns-clause-resume : goal.returns-clause-resume
 returns-clause-resume g c =
     of_run_map c.args.words.now _ _ (λ s m l ef ek. resume_clause (asked_of c.args.words.now) m l _ _ _ (s m l ef ek)) c.follow-status.ensures.stands
+
+pub returns-clause-calls : goal.returns-clause-calls
+returns-clause-calls g c =
+    of_query_map c.args.words.now _ _ (λ asked a. calls_clause asked _ _ _ _ _ _ _ c.follow-status.result (answers_of asked _ c.follow-status.result _ _ _ _ _ _ _ _ c.follow-status.ensures.counts_o a
+    (last_write _ _ _ _ _ c.write_fault.result c.write_fault.ensures.ok c.write_fault.ensures.err c.write_fault.ensures.failed))) c.follow-status.ensures.query
+
+pub returns-clause-invert : goal.returns-clause-invert
+returns-clause-invert g c =
+    of_query_map c.args.words.now _ _ (λ asked a. invert_clause asked _ _ _ _ _ _ _ c.follow-status.result (answers_of asked _ c.follow-status.result _ _ _ _ _ _ _ _ c.follow-status.ensures.counts_o a
+    (last_write _ _ _ _ _ c.write_fault.result c.write_fault.ensures.ok c.write_fault.ensures.err c.write_fault.ensures.failed))) c.follow-status.ensures.query

@@ -2,7 +2,8 @@ use Rattle.std.proofs.Common.{◌≡◌, refl, rules, Ok}
 use Rattle.desk_words.specs.declared.roots.Order.TheVariants as order
 use Rattle.desk_words.specs.Roots.{order_of_words}
 use Rattle.desk_run.specs.Generated.{TellsTotals}
-use Rattle.desk_run.proofs.Following.{of_run_any, no_run, no_generate, at_generate, of_generate_any, run_stands, run_first, run_reported, run_named, run_causes, generate_first, generate_causes, err_stands, err_first, err_reported, err_named, err_committed, err_causes, err_tells}
+use Rattle.desk_run.specs.Queries.{LeavesAnswer}
+use Rattle.desk_run.proofs.Following.{of_migration_any, of_run_at, of_migration_at, of_generate_at, of_query_at, of_query_any, no_query, refused_query, of_run_any, no_run, no_generate, at_generate, of_generate_any, run_stands, run_first, run_reported, run_named, run_causes, generate_first, generate_causes, err_stands, err_first, err_reported, err_named, err_committed, err_causes, err_tells}
 use Rattle.desk_run.proofs.follow.Goals as goal
 
 pub returns-in-Ok-Run-clause-stands : goal.returns-in-Ok-Run-clause-stands
@@ -11,9 +12,10 @@ returns-in-Ok-Run-clause-stands g c =
     run_stands c.args.words.now c.in-Ok-Run.roots c.in-Ok-Run.workers _ _ _ _ _ e c.run.ensures.stands
 
 pub returns-in-Ok-Run-clause-first : goal.returns-in-Ok-Run-clause-first
-returns-in-Ok-Run-clause-first g c = λ m l ef ek.
+returns-in-Ok-Run-clause-first g c =
+    of_migration_any c.args.words.now _ (λ m l ef ek.
     let e : order_of_words c.args.words.now ≡ Ok (order.Run c.in-Ok-Run.roots c.in-Ok-Run.workers) = search rules in
-    run_first c.args.words.now c.in-Ok-Run.roots c.in-Ok-Run.workers m l _ e (c.run.ensures.first m l ef ek)
+    run_first c.args.words.now c.in-Ok-Run.roots c.in-Ok-Run.workers m l _ e (c.run.ensures.first m l ef ek))
 
 pub returns-in-Ok-Run-clause-output : goal.returns-in-Ok-Run-clause-output
 returns-in-Ok-Run-clause-output g c =
@@ -41,7 +43,7 @@ returns-in-Ok-Run-clause-generate g c =
 pub returns-in-Ok-Run-clause-causes : goal.returns-in-Ok-Run-clause-causes
 returns-in-Ok-Run-clause-causes g c =
     let e : order_of_words c.args.words.now ≡ Ok (order.Run c.in-Ok-Run.roots c.in-Ok-Run.workers) = search rules in
-    run_causes c.args.words.now c.in-Ok-Run.roots c.in-Ok-Run.workers _ _ _ _ _ _ _ _ e c.run.ensures.causes
+    of_migration_any c.args.words.now _ (run_causes c.args.words.now c.in-Ok-Run.roots c.in-Ok-Run.workers _ _ _ _ _ _ _ _ e c.run.ensures.causes)
 
 pub returns-in-Ok-Generate-clause-stands : goal.returns-in-Ok-Generate-clause-stands
 returns-in-Ok-Generate-clause-stands g c =
@@ -49,9 +51,10 @@ returns-in-Ok-Generate-clause-stands g c =
     no_run c.args.words.now c.in-Ok-Generate.count c.in-Ok-Generate.workers _ e
 
 pub returns-in-Ok-Generate-clause-first : goal.returns-in-Ok-Generate-clause-first
-returns-in-Ok-Generate-clause-first g c = λ m l ef ek.
+returns-in-Ok-Generate-clause-first g c =
+    of_migration_any c.args.words.now _ (λ m l ef ek.
     let e : order_of_words c.args.words.now ≡ Ok (order.Generate c.in-Ok-Generate.count c.in-Ok-Generate.workers) = search rules in
-    generate_first c.args.words.now c.in-Ok-Generate.count c.in-Ok-Generate.workers m l _ _ _ e c.run_generated.ensures.told
+    generate_first c.args.words.now c.in-Ok-Generate.count c.in-Ok-Generate.workers m l _ _ _ e c.run_generated.ensures.told)
 
 pub returns-in-Ok-Generate-clause-output : goal.returns-in-Ok-Generate-clause-output
 returns-in-Ok-Generate-clause-output g c =
@@ -79,13 +82,14 @@ returns-in-Ok-Generate-clause-generate g c =
 pub returns-in-Ok-Generate-clause-causes : goal.returns-in-Ok-Generate-clause-causes
 returns-in-Ok-Generate-clause-causes g c =
     let e : order_of_words c.args.words.now ≡ Ok (order.Generate c.in-Ok-Generate.count c.in-Ok-Generate.workers) = search rules in
-    generate_causes c.args.words.now c.in-Ok-Generate.count c.in-Ok-Generate.workers _ _ _ _ _ _ _ _ e c.run_generated.ensures.told c.run_generated.ensures.causes
+    of_migration_any c.args.words.now _ (generate_causes c.args.words.now c.in-Ok-Generate.count c.in-Ok-Generate.workers _ _ _ _ _ _ _ _ e c.run_generated.ensures.told c.run_generated.ensures.causes)
 
 pub returns-in-Err-clause-stands : goal.returns-in-Err-clause-stands
 returns-in-Err-clause-stands g c = err_stands c.args.words.now c.in-Err.fault _ _ _ c.status_of_words.ensures
 
 pub returns-in-Err-clause-first : goal.returns-in-Err-clause-first
-returns-in-Err-clause-first g c = λ m l ef ek. err_first c.args.words.now c.in-Err.fault _ m l c.in-Err.ensures.err c.status_of_words.ensures
+returns-in-Err-clause-first g c =
+    of_migration_any c.args.words.now _ (λ m l ef ek. err_first c.args.words.now c.in-Err.fault _ m l c.in-Err.ensures.err c.status_of_words.ensures)
 
 pub returns-in-Err-clause-output : goal.returns-in-Err-clause-output
 returns-in-Err-clause-output g c = err_reported c.args.words.now c.in-Err.fault _ _ _ _ c.status_of_words.ensures
@@ -103,4 +107,80 @@ pub returns-in-Err-clause-generate : goal.returns-in-Err-clause-generate
 returns-in-Err-clause-generate g c = err_tells c.args.words.now c.in-Err.fault _ _ c.in-Err.ensures.err c.status_of_words.ensures
 
 pub returns-in-Err-clause-causes : goal.returns-in-Err-clause-causes
-returns-in-Err-clause-causes g c = err_causes c.args.words.now c.in-Err.fault _ _ _ _ _ c.in-Err.ensures.err c.status_of_words.ensures
+returns-in-Err-clause-causes g c =
+    of_migration_any c.args.words.now _ (err_causes c.args.words.now c.in-Err.fault _ _ _ _ _ c.in-Err.ensures.err c.status_of_words.ensures)
+
+pub returns-in-Ok-Run-clause-query : goal.returns-in-Ok-Run-clause-query
+returns-in-Ok-Run-clause-query g c =
+    let e : order_of_words c.args.words.now ≡ Ok (order.Run c.in-Ok-Run.roots c.in-Ok-Run.workers) = search rules in
+    no_query c.args.words.now (Ok (order.Run c.in-Ok-Run.roots c.in-Ok-Run.workers)) _ e tt
+
+pub returns-in-Ok-Run-clause-unchanged : goal.returns-in-Ok-Run-clause-unchanged
+returns-in-Ok-Run-clause-unchanged g c =
+    let e : order_of_words c.args.words.now ≡ Ok (order.Run c.in-Ok-Run.roots c.in-Ok-Run.workers) = search rules in
+    no_query c.args.words.now (Ok (order.Run c.in-Ok-Run.roots c.in-Ok-Run.workers)) _ e tt
+
+pub returns-in-Ok-Generate-clause-query : goal.returns-in-Ok-Generate-clause-query
+returns-in-Ok-Generate-clause-query g c =
+    let e : order_of_words c.args.words.now ≡ Ok (order.Generate c.in-Ok-Generate.count c.in-Ok-Generate.workers) = search rules in
+    no_query c.args.words.now (Ok (order.Generate c.in-Ok-Generate.count c.in-Ok-Generate.workers)) _ e tt
+
+pub returns-in-Ok-Generate-clause-unchanged : goal.returns-in-Ok-Generate-clause-unchanged
+returns-in-Ok-Generate-clause-unchanged g c =
+    let e : order_of_words c.args.words.now ≡ Ok (order.Generate c.in-Ok-Generate.count c.in-Ok-Generate.workers) = search rules in
+    no_query c.args.words.now (Ok (order.Generate c.in-Ok-Generate.count c.in-Ok-Generate.workers)) _ e tt
+
+pub returns-in-Ok-Query-clause-stands : goal.returns-in-Ok-Query-clause-stands
+returns-in-Ok-Query-clause-stands g c =
+    let e : order_of_words c.args.words.now ≡ Ok (order.Query c.in-Ok-Query.asked) = search rules in
+    of_run_at c.args.words.now c.in-Ok-Query.asked _ e
+
+pub returns-in-Ok-Query-clause-output : goal.returns-in-Ok-Query-clause-output
+returns-in-Ok-Query-clause-output g c =
+    let e : order_of_words c.args.words.now ≡ Ok (order.Query c.in-Ok-Query.asked) = search rules in
+    of_run_at c.args.words.now c.in-Ok-Query.asked _ e
+
+pub returns-in-Ok-Query-clause-named : goal.returns-in-Ok-Query-clause-named
+returns-in-Ok-Query-clause-named g c =
+    let e : order_of_words c.args.words.now ≡ Ok (order.Query c.in-Ok-Query.asked) = search rules in
+    of_run_at c.args.words.now c.in-Ok-Query.asked _ e
+
+pub returns-in-Ok-Query-clause-committed : goal.returns-in-Ok-Query-clause-committed
+returns-in-Ok-Query-clause-committed g c =
+    let e : order_of_words c.args.words.now ≡ Ok (order.Query c.in-Ok-Query.asked) = search rules in
+    of_run_at c.args.words.now c.in-Ok-Query.asked _ e
+
+pub returns-in-Ok-Query-clause-first : goal.returns-in-Ok-Query-clause-first
+returns-in-Ok-Query-clause-first g c =
+    let e : order_of_words c.args.words.now ≡ Ok (order.Query c.in-Ok-Query.asked) = search rules in
+    of_migration_at c.args.words.now c.in-Ok-Query.asked _ e
+
+pub returns-in-Ok-Query-clause-causes : goal.returns-in-Ok-Query-clause-causes
+returns-in-Ok-Query-clause-causes g c =
+    let e : order_of_words c.args.words.now ≡ Ok (order.Query c.in-Ok-Query.asked) = search rules in
+    of_migration_at c.args.words.now c.in-Ok-Query.asked _ e
+
+pub returns-in-Ok-Query-clause-untouched : goal.returns-in-Ok-Query-clause-untouched
+returns-in-Ok-Query-clause-untouched g c =
+    let e : order_of_words c.args.words.now ≡ Ok (order.Query c.in-Ok-Query.asked) = search rules in
+    of_generate_at c.args.words.now c.in-Ok-Query.asked _ e
+
+pub returns-in-Ok-Query-clause-generate : goal.returns-in-Ok-Query-clause-generate
+returns-in-Ok-Query-clause-generate g c =
+    let e : order_of_words c.args.words.now ≡ Ok (order.Query c.in-Ok-Query.asked) = search rules in
+    of_generate_at c.args.words.now c.in-Ok-Query.asked _ e
+
+pub returns-in-Ok-Query-clause-query : goal.returns-in-Ok-Query-clause-query
+returns-in-Ok-Query-clause-query g c =
+    let e : order_of_words c.args.words.now ≡ Ok (order.Query c.in-Ok-Query.asked) = search rules in
+    of_query_at c.args.words.now c.in-Ok-Query.asked (λ asked. LeavesAnswer asked _ _ _ _ _ _ _ _) e c.run_query.ensures.answer
+
+pub returns-in-Ok-Query-clause-unchanged : goal.returns-in-Ok-Query-clause-unchanged
+returns-in-Ok-Query-clause-unchanged g c =
+    of_query_any c.args.words.now _ (λ _. (c.run_query.ensures.told, refl))
+
+pub returns-in-Err-clause-query : goal.returns-in-Err-clause-query
+returns-in-Err-clause-query g c = refused_query c.args.words.now c.in-Err.fault _ _ _ _ _ c.in-Err.ensures.err c.status_of_words.ensures
+
+pub returns-in-Err-clause-unchanged : goal.returns-in-Err-clause-unchanged
+returns-in-Err-clause-unchanged g c = of_query_any c.args.words.now _ (λ _. (refl, refl))

@@ -1,0 +1,10 @@
+mod Table
+mod OneByOne
+pub mod Nexts
+pub mod Within
+mod Rows
+mod Gathers
+pub mod BareTrees
+mod BareLayouts
+pub mod Placing
+pub mod Whole

@@ -1,0 +1,22 @@
+//! The code of a class: where the code arrays of its methods stand, and the instructions in one (JVMS 4.7.3, 4.9, 6.5).
+//!
+//! ```text
+//! for place in codes(alloc, &class)?.iter() {
+//!     let code = &class.bytes()[place.at as usize..][..place.length as usize];
+//!     let mut reader = CodeReader::new(code, class.pool());
+//!     while let Some(instruction) = reader.next()? { .. }
+//! }
+//! ```
+#![tactic(auto)]
+
+mod array;
+mod codes;
+mod gathering;
+mod opcodes;
+mod reader;
+mod steps;
+
+pub use codes::{CodeAt, codes};
+pub use desk_base::CodeFault;
+pub use opcodes::{Operand, Shape, shape_of};
+pub use reader::{CodeReader, Instruction};

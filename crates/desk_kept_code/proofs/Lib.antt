@@ -1,0 +1,4 @@
+mod Instructions
+mod Arrays
+mod Methods
+mod Whole

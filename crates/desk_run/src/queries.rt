@@ -1,0 +1,151 @@
+//! Answers queries: what words ask that changes neither folders nor ledger.
+
+ghost use Rattle.std.specs.Prelude.{◌≡◌, ◌≤◌, Ok, IfOk, IfErr, IfSome, if◌then◌else◌};
+ghost use Rattle.desk_report.specs.Written.{WritesFront};
+ghost use Rattle.desk_run.specs.Queries.{HaltsQuery, IsEnd, LeavesAnswer, WritesText, answer_of, calls_told, halt_of_inverse, inverse_told};
+ghost use Rattle.desk_words.specs.Roots.{IsSoundQuery};
+ghost use Rattle.desk_words.specs.declared.roots.Query.TheVariants as query;
+
+use crate::stops::status_of_halt;
+use desk_base::{Text, TextList};
+use desk_calls::find_calls;
+use desk_folders::Folders;
+use desk_intake::{Halt, read_rules};
+use desk_invert::{InvertError, invert};
+use desk_report::{Sink, Status};
+use desk_words::Query;
+use desk_workers::Gate;
+use std::alloc::Global;
+use std::thread::Threads;
+
+/// What a query is answered with.
+#[derive(Debug, Drop)]
+pub struct Reply {
+    /// What is written.
+    pub text: Text,
+    /// The status behind it, `Done` or `Refusals`.
+    pub status: Status,
+}
+
+/// The status behind the call sites of classes: `Refusals` where a class was refused.
+fn calls_status(refused: bool) -> Status
+    ensures status { result ≡ (if refused then Status.Refusals else Status.Done) }
+    ensures end { IsEnd result }
+{
+    if refused {
+        Status::Refusals
+    } else {
+        Status::Done
+    }
+}
+
+/// Where the classes below a root use members of a package.
+fn reply_calls<R: Threads + Sync, F: Folders, G: Gate + Sync>(
+    rt: &R,
+    alloc: Global,
+    folders: &mut F,
+    gate: &G,
+    from: &Text,
+    package: &TextList,
+) -> Result<Reply, Halt>
+    requires { IsSoundQuery (query.Calls from.now «package».now) }
+    ensures told { F.told folders.new ≡ F.told folders.old }
+    ensures ok { IfOk result (λ reply. IfSome (F.told folders.old) (λ m. calls_told from.now «package».now m ≡ Ok (reply.text, reply.status))) }
+    ensures ends { IfOk result (λ reply. IsEnd reply.status) }
+    ensures err { IfErr result (HaltsQuery (query.Calls from.now «package».now) (F.told folders.old) (F.faults folders.old) (F.faults folders.new)) }
+    ensures counts { F.faults folders.old ≤ F.faults folders.new }
+{
+    let calls = find_calls(rt, alloc, folders, gate, from, package)?;
+    Ok(Reply {
+        text: calls.text,
+        status: calls_status(calls.refused),
+    })
+}
+
+/// How a rule set without an inverse is told.
+fn halt_of_inverse(error: InvertError) -> Halt
+    ensures { result ≡ halt_of_inverse error }
+{
+    match error {
+        InvertError::Fault(fault) => Halt::Answer(Status::NotInvertible(fault)),
+        InvertError::Memory => Halt::Memory,
+    }
+}
+
+/// The rule file of the inverse of the rules in a folder.
+fn reply_inverse<F: Folders>(
+    alloc: Global,
+    folders: &mut F,
+    rules: &Text,
+) -> Result<Reply, Halt>
+    requires { IsSoundQuery (query.Invert rules.now) }
+    ensures told { F.told folders.new ≡ F.told folders.old }
+    ensures ok { IfOk result (λ reply. IfSome (F.told folders.old) (λ m. inverse_told rules.now m ≡ Ok (reply.text, reply.status))) }
+    ensures ends { IfOk result (λ reply. IsEnd reply.status) }
+    ensures err { IfErr result (HaltsQuery (query.Invert rules.now) (F.told folders.old) (F.faults folders.old) (F.faults folders.new)) }
+    ensures counts { F.faults folders.old ≤ F.faults folders.new }
+{
+    let ruled = read_rules(alloc, folders, rules)?;
+    match invert(alloc, &ruled.rules) {
+        Ok(text) => Ok(Reply {
+            text,
+            status: Status::Done,
+        }),
+        Err(error) => Err(halt_of_inverse(error)),
+    }
+}
+
+/// The answer of a query, or why there is none.
+fn reply_of<R: Threads + Sync, F: Folders, G: Gate + Sync>(
+    rt: &R,
+    alloc: Global,
+    folders: &mut F,
+    gate: &G,
+    asked: &Query,
+) -> Result<Reply, Halt>
+    requires { IsSoundQuery asked.now }
+    ensures told { F.told folders.new ≡ F.told folders.old }
+    ensures ok { IfOk result (λ reply. IfSome (F.told folders.old) (λ m. answer_of asked.now m ≡ Ok (reply.text, reply.status))) }
+    ensures ends { IfOk result (λ reply. IsEnd reply.status) }
+    ensures err { IfErr result (HaltsQuery asked.now (F.told folders.old) (F.faults folders.old) (F.faults folders.new)) }
+    ensures counts { F.faults folders.old ≤ F.faults folders.new }
+{
+    match asked {
+        Query::Calls { from, package } => reply_calls(rt, alloc, folders, gate, from, package),
+        Query::Invert { rules } => reply_inverse(alloc, folders, rules),
+    }
+}
+
+/// Writes the text of a reply: the status is the one behind it, or `OutputFault`.
+fn tell_reply<O: Sink>(out: &mut O, reply: Reply) -> Status
+    requires { IsEnd reply.status }
+    ensures told { WritesText reply.text reply.status (O.told out.old) (O.told out.new) (O.faults out.old) (O.faults out.new) result }
+    ensures counts { O.faults out.old ≤ O.faults out.new }
+{
+    match out.write(reply.text.as_bytes()) {
+        Ok(()) => reply.status,
+        Err(_) => Status::OutputFault,
+    }
+}
+
+/// Answers a query, without the line of a fault. Its text is written once all is read, so that before a fault of the folders and
+/// before want of memory nothing is.
+pub(crate) fn run_query<R: Threads + Sync, F: Folders, O: Sink, G: Gate + Sync>(
+    rt: &R,
+    alloc: Global,
+    asked: &Query,
+    folders: &mut F,
+    out: &mut O,
+    gate: &G,
+) -> Status
+    requires { IsSoundQuery asked.now }
+    ensures told { F.told folders.new ≡ F.told folders.old }
+    ensures answer { LeavesAnswer asked.now (F.told folders.old) (O.told out.old) (O.told out.new) (F.faults folders.old) (F.faults folders.new) (O.faults out.old) (O.faults out.new) result }
+    ensures counts_f { F.faults folders.old ≤ F.faults folders.new }
+    ensures counts_o { O.faults out.old ≤ O.faults out.new }
+{
+    match reply_of(rt, alloc, folders, gate, asked) {
+        Ok(reply) => tell_reply(out, reply),
+        Err(halt) => status_of_halt(halt),
+    }
+}

@@ -1,0 +1,3 @@
+mod Dimensions
+mod Segments
+mod Found

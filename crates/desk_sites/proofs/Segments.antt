@@ -1,0 +1,78 @@
+-- The segments of a class name, one after the other, beside those of a package.
+use Rattle.std.specs.Prelude.{◌==◌, ◌&&◌}
+use Rattle.std.proofs.Common.{◌≡◌, ℕ, suc, ◌+◌, ◌<◌, ◌≤◌, Bool, true, false, not, cond, List, [], ◌∷◌, length, take, drop, get_or, refl, sym, ap, ap₂, ◌∙◌, arith}
+use Rattle.std.specs.List.{slice_split, onto_first, before_first, after_first, position_or_len}
+use Rattle.std.specs.Str.{bytes_eq}
+use Rattle.std.proofs.lemmas.List.{drop_more, drop_all}
+use Rattle.std.proofs.lemmas.List.Splits.{slice_split_first}
+use Rattle.desk_base.specs.Names.{Text, Package, segments, begins_with, front, slash}
+use Rattle.desk_sites.specs.Packages.{is_slash, lies_in}
+
+-- ---- all segments but the last
+
+-- a list with a first element
+abbrev IsSome : List Text → Type 0
+IsSome xs = (y : Text) × (ys : List Text) × (xs ≡ y ∷ ys)
+
+parts_some : (bs : Text) → IsSome (slice_split is_slash bs)
+parts_some [] = ([], ([], refl))
+parts_some (b ∷ bs) =
+    let more : IsSome (slice_split is_slash bs) = parts_some bs in
+    elim (is_slash b) as (λ (x : Bool). IsSome (cond x ([] ∷ slice_split is_slash bs) (onto_first b (slice_split is_slash bs)))) [
+      | true ↦ ([], (slice_split is_slash bs, refl))
+      | false ↦ (b ∷ more.0, (more.1.0, ap (onto_first b) more.1.1))
+    ]
+
+front_more : (x : Text) (ys : List Text) → IsSome ys → front (x ∷ ys) ≡ x ∷ front ys
+front_more x [] h = absurd cc
+front_more x (y ∷ ys) h = refl
+
+-- the empty text has no segments, and so none but the last
+front_parts : (bs : Text) → front (segments slash bs) ≡ front (slice_split is_slash bs)
+front_parts [] = refl
+front_parts (b ∷ bs) = refl
+
+front_first : (t : Text) → position_or_len is_slash t < length t → front (segments slash t) ≡ before_first is_slash t ∷ front (segments slash (after_first is_slash t))
+front_first t h =
+    front_parts t ∙ ap front (slice_split_first is_slash t 0 h)
+    ∙ front_more (before_first is_slash t) (slice_split is_slash (after_first is_slash t)) (parts_some (after_first is_slash t))
+    ∙ ap (λ (xs : List Text). before_first is_slash t ∷ xs) (sym (front_parts (after_first is_slash t)))
+
+whole : (t : Text) → length t ≤ position_or_len is_slash t → slice_split is_slash t ≡ t ∷ []
+whole [] h = refl
+whole (b ∷ bs) h = by (is_slash b) h where
+  by : (x : Bool) → length (b ∷ bs) ≤ cond (not x) (1 + position_or_len is_slash bs) 0 → cond x ([] ∷ slice_split is_slash bs) (onto_first b (slice_split is_slash bs)) ≡ (b ∷ bs) ∷ []
+  by true k = absurd (omega arith)
+  by false k = ap (onto_first b) (whole bs (omega arith))
+
+front_whole : (t : Text) → length t ≤ position_or_len is_slash t → front (segments slash t) ≡ []
+front_whole t h = front_parts t ∙ ap front (whole t h)
+
+-- ---- one segment after the other
+
+pub lies_end : (rest : Text) (scope : Package) (i : ℕ) → length scope ≤ i → lies_in (drop i scope) rest ≡ true
+lies_end rest scope i h = ap (λ (p : Package). lies_in p rest) (drop_all i scope h)
+
+-- no segment is left of the name
+pub lies_over : (rest : Text) (scope : Package) (i end : ℕ) → i < length scope → end ≡ position_or_len is_slash rest → end ≡ length rest → lies_in (drop i scope) rest ≡ false
+lies_over rest scope i end within is over =
+    ap₂ (λ (p q : Package). begins_with q p) (drop_more scope i [] within) (front_whole rest (omega arith))
+
+abbrev ahead : Text → Text → Package → Bool
+ahead rest segment more = bytes_eq segment (before_first is_slash rest) && lies_in more (after_first is_slash rest)
+
+lies_step : (rest : Text) (scope : Package) (i : ℕ) → i < length scope → position_or_len is_slash rest < length rest → lies_in (drop i scope) rest ≡ ahead rest (get_or scope i []) (drop (i + 1) scope)
+lies_step rest scope i within cut = ap₂ (λ (p q : Package). begins_with q p) (drop_more scope i [] within) (front_first rest cut)
+
+pub lies_apart : (rest : Text) (scope : Package) (i end : ℕ) → i < length scope → end ≡ position_or_len is_slash rest → end < length rest → bytes_eq (get_or scope i []) (take end rest) ≡ false → lies_in (drop i scope) rest ≡ false
+lies_apart rest scope i end within is cut differs =
+    let e : bytes_eq (get_or scope i []) (before_first is_slash rest) ≡ false = ap (λ (n : ℕ). bytes_eq (get_or scope i []) (take n rest)) (sym is) ∙ differs in
+    lies_step rest scope i within (omega arith) ∙ ap (λ (x : Bool). x && lies_in (drop (i + 1) scope) (after_first is_slash rest)) e
+
+pub lies_on : (rest : Text) (scope : Package) (i end : ℕ) → i < length scope → end ≡ position_or_len is_slash rest → end < length rest → bytes_eq (get_or scope i []) (take end rest) ≡ true
+    → lies_in (drop i scope) rest ≡ lies_in (drop (i + 1) scope) (drop (end + 1) rest)
+lies_on rest scope i end within is cut same =
+    let e : bytes_eq (get_or scope i []) (before_first is_slash rest) ≡ true = ap (λ (n : ℕ). bytes_eq (get_or scope i []) (take n rest)) (sym is) ∙ same in
+    lies_step rest scope i within (omega arith)
+    ∙ ap (λ (x : Bool). x && lies_in (drop (i + 1) scope) (after_first is_slash rest)) e
+    ∙ ap (λ (n : ℕ). lies_in (drop (i + 1) scope) (drop (n + 1) rest)) (sym is)

@@ -1,0 +1,9 @@
+pub mod Packages
+pub mod Members
+pub mod Faults
+pub mod Sites
+pub mod Stops
+pub mod Hex
+pub mod Pieces
+pub mod Lines
+pub mod Answers
