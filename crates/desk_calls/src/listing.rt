@@ -41,10 +41,7 @@ fn first_long(paths: &[Text]) -> Option<&Text>
 
 /// The paths below a root: the answer is `Limit` where there are more than 200,000, and else where one has more than 1,024 bytes,
 /// with the first such path. The other halts are a fault of the folders and want of memory.
-pub(crate) fn list_paths<F: Folders>(
-    folders: &mut F,
-    from: &Text,
-) -> Result<TextList, Halt>
+pub(crate) fn list_paths<F: Folders>(folders: &mut F, from: &Text) -> Result<TextList, Halt>
     requires { IsTrue (is_root from.now) }
     ensures told { F.told folders.new ≡ F.told folders.old }
     ensures paths { IfOk result (λ paths. IfSome (F.told folders.old) (λ m. paths ≡ paths_below from.now m)) }

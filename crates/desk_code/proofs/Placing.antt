@@ -16,7 +16,7 @@ use Rattle.desk_format.proofs.Steps.{ok_is, then_ok, member_ok}
 use Rattle.desk_format.proofs.Exact.{Taken, exact}
 use Rattle.desk_class.specs.Scan.{member_layout, member_ahead}
 use Rattle.desk_class.proofs.Heads.{member_read}
-use Rattle.desk_code.specs.declared.codes.CodeAt.{CodeAt}
+use Rattle.desk_code.specs.declared.places.CodeAt.{CodeAt}
 use Rattle.desk_code.specs.Codes.{CodeArray, code_arrays, code_at, codes_of_members, method_codes}
 use Rattle.desk_code.specs.Gathering.{MemberCode, Found, none_found, found_in, number_behind, placed_code}
 use Rattle.desk_code.proofs.BareTrees.{Bare, BareLayout, member_code, Finds, finds, no_arrays, bare}

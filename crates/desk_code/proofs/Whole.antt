@@ -15,7 +15,7 @@ use Rattle.desk_format.proofs.Exact.{IsBytes-drop}
 use Rattle.desk_laws.proofs.Header.{ClassParts, class_ok}
 use Rattle.desk_laws.proofs.Spelled.{Spelled, pool_spelled}
 use Rattle.desk_class.specs.Parts.{pool_in, body_at_in, body_at_of}
-use Rattle.desk_code.specs.declared.codes.CodeAt.{CodeAt}
+use Rattle.desk_code.specs.declared.places.CodeAt.{CodeAt}
 use Rattle.desk_code.specs.Codes.{method_codes, codes_in}
 use Rattle.desk_code.specs.Gathering.{MemberCode, none_found, found_in, placed_code}
 use Rattle.desk_code.proofs.Placing.{Good, body_codes, body_good}

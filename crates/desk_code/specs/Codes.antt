@@ -4,7 +4,7 @@ use Rattle.desk_format.specs.declared.members.Member.{Member}
 use Rattle.desk_format.specs.Trees.{Tree, Use, print}
 use Rattle.desk_format.specs.Members.{member_in}
 use Rattle.desk_format.specs.Classes.{Class, read_class, list_in}
-use Rattle.desk_code.specs.declared.codes.CodeAt.{CodeAt}
+use Rattle.desk_code.specs.declared.places.CodeAt.{CodeAt}
 
 -- a code array: its offset from the start of the file, and its bytes
 pub record CodeArray : Type 0 where

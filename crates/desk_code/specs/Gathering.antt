@@ -4,7 +4,7 @@ use Rattle.std.specs.Int.{Width, w16, byte_len, from_be_bytes}
 use Rattle.desk_base.specs.Entries.{Pool, text_at}
 use Rattle.desk_format.specs.Trees.{Tree, Use, print}
 use Rattle.desk_parts.specs.Steps.{Steps}
-use Rattle.desk_code.specs.declared.codes.CodeAt.{CodeAt}
+use Rattle.desk_code.specs.declared.places.CodeAt.{CodeAt}
 
 -- ---- what is gathered
 

@@ -10,13 +10,13 @@
 #![tactic(auto)]
 
 mod array;
-mod codes;
 mod gathering;
 mod opcodes;
+mod places;
 mod reader;
 mod steps;
 
-pub use codes::{CodeAt, codes};
 pub use desk_base::CodeFault;
 pub use opcodes::{Operand, Shape, shape_of};
+pub use places::{CodeAt, codes};
 pub use reader::{CodeReader, Instruction};

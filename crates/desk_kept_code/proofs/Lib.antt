@@ -1,4 +1,4 @@
 mod Instructions
 mod Arrays
 mod Methods
-mod Whole
+pub mod Whole

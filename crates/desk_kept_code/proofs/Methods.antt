@@ -1,5 +1,5 @@
 -- The code arrays of the methods of a class, and those of its new class.
-use Rattle.std.proofs.Common.{◌≡◌, ℕ, ◌+◌, ◌-◌, ◌<◌, ◌≤◌, Bool, true, false, cond, List, [], ◌∷◌, ◌++◌, length, map, take, drop, refl, sym, ap, ap₂, subst, ◌∙◌, arith}
+use Rattle.std.proofs.Common.{◌≡◌, ℕ, ◌+◌, ◌-◌, ◌<◌, ◌≤◌, Bool, true, false, cond, List, [], ◌∷◌, ◌++◌, length, map, take, drop, refl, sym, ap, subst, arith}
 use Rattle.std.specs.List.{AllZip}
 use Rattle.desk_base.specs.declared.kinds.UseKind.{UseKind}
 use Rattle.desk_base.specs.declared.kinds.UseKind.TheVariants as kinds
@@ -7,15 +7,14 @@ use Rattle.desk_base.specs.Entries.{Pool, text_at}
 use Rattle.desk_format.specs.declared.members.Member.{Member}
 use Rattle.desk_format.specs.Trees.{Tree, Use, Each, map_tree, print}
 use Rattle.desk_format.specs.Members.{Named, named_in, member_of, member_by, member_in}
-use Rattle.desk_format.specs.Values.{Value}
 use Rattle.desk_format.specs.Resolved.{Images, value, renamed_value}
 use Rattle.desk_format.specs.Exchange.{Change, moved, exchanged, exchange}
 use Rattle.desk_format.specs.NewClass.{renamed_in}
 use Rattle.desk_format.proofs.Follows.{length-print}
 use Rattle.desk_laws.proofs.Pairs.{Same, Alike, Leads, members_alike, new_naming}
-use Rattle.desk_code.specs.declared.codes.CodeAt.{CodeAt}
-use Rattle.desk_code.specs.Codes.{CodeArray, code_arrays, code_at, codes_of_member, codes_of_members, method_codes}
-use Rattle.desk_code.proofs.Placing.{IsMember, Good}
+use Rattle.desk_code.specs.declared.places.CodeAt.{CodeAt}
+use Rattle.desk_code.specs.Codes.{CodeArray, code_arrays, code_at, codes_of_members, method_codes}
+use Rattle.desk_code.proofs.Placing.{Good}
 use Rattle.desk_kept_code.proofs.Arrays.{zip_append, zip_map, Stands, stands_first, stands_second, SameArray, same_arrays}
 
 -- ---- what the indices of a body lead to
@@ -89,7 +88,7 @@ module _ (im : Images) (old_pool new_pool : Pool) (g : Change) (old new : List �
   -- one member came from one
   one_member : (m : Member) (ms : List Member) → Alike (renamed_in im old_pool) (named_in new_pool) (m ∷ []) ms → (m' : Member) × (ms ≡ m' ∷ []) × Same (renamed_in im old_pool) (named_in new_pool) m m'
   one_member m [] h = absurd h
-  one_member m (m' ∷ []) h = (m', (refl, h.0))
+  one_member m (m' ∷ []) h = (m', refl, h.0)
   one_member m (m' ∷ (x ∷ ms)) h = absurd h.1
 
   same_member : (at to : ℕ) (a : Tree Use) (m m' : Member) → 0 < g.from → g.from ≤ at → m.at ≡ at → member_in a ≡ m ∷ [] → member_in (exchange g a) ≡ m' ∷ []
@@ -109,9 +108,9 @@ module _ (im : Images) (old_pool new_pool : Pool) (g : Change) (old new : List �
       let alike : Alike (renamed_in im old_pool) (named_in new_pool) (member_in a) (member_in (exchange g a)) =
       members_alike im old_pool new_pool g (renamed_in im old_pool) (named_in new_pool) (new_naming im old_pool new_pool) (Tree.member a) leads in
       let one = one_member m (member_in (exchange g a)) (subst (λ (ms : List Member). Alike (renamed_in im old_pool) (named_in new_pool) ms (member_in (exchange g a))) only alike) in
-      let s : SameMember m one.0 = same_member at to a m one.0 some low place only one.1.0 one.1.1 in
+      let s : SameMember m one.0 = same_member at to a m one.0 some low place only one.1 one.2 in
       subst (λ (ms : List Member). AllZip IsMoved (codes_of_members ms (code_arrays at a)) (codes_of_members (member_in (exchange g a)) (code_arrays to (exchange g a)))) (sym only)
-      (subst (λ (ms : List Member). AllZip IsMoved (codes_of_members (m ∷ []) (code_arrays at a)) (codes_of_members ms (code_arrays to (exchange g a)))) (sym one.1.0)
+      (subst (λ (ms : List Member). AllZip IsMoved (codes_of_members (m ∷ []) (code_arrays at a)) (codes_of_members ms (code_arrays to (exchange g a)))) (sym one.1)
       (by_method m one.0 s m.method one.0.method s.method (code_arrays at a) (code_arrays to (exchange g a)) arrays))
 
   pub moved_codes : 0 < g.from → (t : Tree Use) (at to : ℕ) → g.from ≤ at → to ≡ moved g at → Good old at t → Each (Leads im old_pool new_pool g) t → Stands old at (print t) → Stands new to (print (exchange g t))

@@ -1,21 +1,18 @@
 -- The code arrays of a class and of its new class.
-use Rattle.std.proofs.Common.{◌≡◌, ℕ, ◌+◌, ◌<◌, ◌≤◌, List, [], ◌∷◌, ◌++◌, length, take, drop, Ok, refl, sym, ap, ap₂, subst, ◌∙◌, append-nil, arith, length-append}
-use Rattle.std.specs.List.{AllByRecursion, AllZip}
-use Rattle.std.proofs.lemmas.List.{take_at, drop_at}
-use Rattle.desk_base.specs.Entries.{Pool}
-use Rattle.desk_format.specs.Trees.{Tree, Use, IsPlaced, uses, print, map_tree}
-use Rattle.desk_format.specs.Values.{Value}
+use Rattle.std.proofs.Common.{◌≡◌, ℕ, ◌+◌, ◌<◌, List, [], ◌++◌, length, take, drop, Ok, refl, sym, ap, subst, ◌∙◌, append-nil, arith, length-append}
+use Rattle.std.specs.List.{AllZip}
+use Rattle.std.proofs.lemmas.List.{drop_at}
+use Rattle.desk_format.specs.Trees.{IsPlaced, uses, print}
 use Rattle.desk_format.specs.Resolved.{Images}
 use Rattle.desk_format.specs.PoolBytes.{two, print_pool}
 use Rattle.desk_format.specs.Laws.{IsBytes}
-use Rattle.desk_format.specs.Exchange.{Change, exchange, patch}
+use Rattle.desk_format.specs.Exchange.{exchange, patch}
 use Rattle.desk_format.specs.Classes.{Class, magic, read_class, list_in, class_uses}
 use Rattle.desk_format.specs.NewClass.{ResolvedClass, pool_of, new_body_at, change_of, new_class, new_bytes}
 use Rattle.desk_format.proofs.Patched.{patch_tree}
 use Rattle.desk_laws.specs.Classes.{IsPrintedClass, IsRenamedClass}
-use Rattle.desk_laws.proofs.Pairs.{Leads}
 use Rattle.desk_laws.proofs.Whole.{printed_classes, renamed_classes}
-use Rattle.desk_code.specs.declared.codes.CodeAt.{CodeAt}
+use Rattle.desk_code.specs.declared.places.CodeAt.{CodeAt}
 use Rattle.desk_code.specs.Codes.{codes_of, codes_in, code_bytes}
 use Rattle.desk_code.specs.Instructions.{instructions_of}
 use Rattle.desk_code.proofs.Whole.{placed_members}

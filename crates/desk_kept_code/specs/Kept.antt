@@ -9,7 +9,7 @@ use Rattle.desk_format.specs.Exchange.{moved}
 use Rattle.desk_format.specs.Classes.{Class, read_class}
 use Rattle.desk_format.specs.NewClass.{pool_of, change_of, new_bytes, refusal}
 use Rattle.desk_laws.specs.NewPools.{KeepsForms}
-use Rattle.desk_code.specs.declared.codes.CodeAt.{CodeAt}
+use Rattle.desk_code.specs.declared.places.CodeAt.{CodeAt}
 use Rattle.desk_code.specs.declared.reader.Instruction.{Instruction}
 use Rattle.desk_code.specs.Codes.{codes_in, code_bytes}
 use Rattle.desk_code.specs.Instructions.{instructions_of}

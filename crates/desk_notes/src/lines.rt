@@ -16,6 +16,8 @@ pub enum Said<'a> {
         reason: &'a [u8],
         kind: &'a [u8],
     },
+    /// A call site of a package.
+    Site,
     /// Anything else.
     Other,
 }
@@ -32,6 +34,7 @@ pub fn read_line(line: &[u8]) -> Said<'_> {
             reason,
             kind: kind.unwrap_or(b""),
         },
+        (Some(b"site"), ..) => Said::Site,
         _ => Said::Other,
     }
 }

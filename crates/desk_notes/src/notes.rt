@@ -94,6 +94,8 @@ pub struct Notes {
     pub refusals: Refusals,
     /// How many files were kept from an earlier run.
     pub kept: u32,
+    /// How many call sites were found.
+    pub sites: u64,
 }
 
 impl Notes {
@@ -107,6 +109,7 @@ impl Notes {
             versions: Names::new(alloc),
             refusals: Refusals::none(),
             kept: 0,
+            sites: 0,
         }
     }
 
@@ -139,6 +142,10 @@ impl Notes {
             Said::Refused { path, reason, kind } => self.refused(path, reason, kind),
             Said::Kept => {
                 self.kept = self.kept.saturating_add(1);
+                Ok(())
+            }
+            Said::Site => {
+                self.sites = self.sites.saturating_add(1);
                 Ok(())
             }
             Said::Other => Ok(()),
@@ -180,11 +187,22 @@ impl Notes {
         Ok(())
     }
 
+    /// Adds what to do about the call sites that were found, where there are some.
+    fn append_sites(&self, text: &mut Text) -> Result<(), Memory> {
+        if self.sites > 0 {
+            text.append(b"migrate: ")?;
+            text.append(Buffer::new().format(self.sites).as_bytes())?;
+            text.append(SITES)?;
+        }
+        Ok(())
+    }
+
     /// Adds what was noted, in lines that begin with `migrate: `. The only error is want of memory.
     pub fn append_to(&self, text: &mut Text) -> Result<(), Memory> {
         self.append_refusals(text)?;
         self.archives.append_to(text, ARCHIVES)?;
-        self.signatures.append_to(text, SIGNATURES)
+        self.signatures.append_to(text, SIGNATURES)?;
+        self.append_sites(text)
     }
 }
 
@@ -193,3 +211,6 @@ const ARCHIVES: &[u8] =
 
 const SIGNATURES: &[u8] =
     b"signature files no longer fit what they sign; remove them, or sign anew, the first of them:";
+
+const SITES: &[u8] =
+    b" instructions use members of the package; migrate the application by rules that rename it, and look again in the target\n";

@@ -9,6 +9,6 @@ mod values;
 pub use joining::is_flag;
 pub use telling::{message_of_calls, message_of_generate, message_of_invert, message_of_run};
 pub use values::{
-    CallsValues, GenerateValues, InvertValues, RunValues, calls_values, generate_values, invert_values,
-    run_values,
+    CallsValues, GenerateValues, InvertValues, RunValues, calls_values, generate_values,
+    invert_values, run_values,
 };

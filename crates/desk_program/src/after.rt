@@ -88,9 +88,8 @@ fn noted(rt: &HostRuntime, notes: &Notes) -> Result<Text, Memory> {
     Ok(text)
 }
 
-/// Tells what stands beside a report.
+/// Tells what stands beside the report of a run.
 fn tell_report(rt: &HostRuntime, roots: &Roots, notes: &Notes) {
-    tell_text(rt, &noted(rt, notes));
     tell_releases(rt, roots, notes);
     tell_kept(rt, roots, notes);
     tell_keys(rt, roots);
@@ -131,7 +130,11 @@ pub fn tell_end(rt: &HostRuntime, ending: &Ending<'_>) {
     }
     tell_hint(rt, ending.status);
     match (ending.status, ending.roots) {
-        (Status::Done | Status::Refusals, Some(roots)) => tell_report(rt, roots, ending.notes),
+        (Status::Done | Status::Refusals, Some(roots)) => {
+            tell_text(rt, &noted(rt, ending.notes));
+            tell_report(rt, roots, ending.notes);
+        }
+        (Status::Done | Status::Refusals, None) => tell_text(rt, &noted(rt, ending.notes)),
         _ => {}
     }
 }

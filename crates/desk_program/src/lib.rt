@@ -4,7 +4,7 @@
 //!
 //! ```text
 //! let words = read_words(&rt)?;                            // what stands behind the program's name
-//! let roots = roots_of(alloc, &words)?;                    // the roots, where the words ask for a run
+//! let asked = asked_of(alloc, &words)?;                    // the roots, where the words ask for a run
 //! guarded(&rt, &roots, &mut folders)                       // the status that a run ends with before it begins, if it does
 //! exit_of(&status)
 //! ```
@@ -20,4 +20,4 @@ pub use after::{Ending, tell_end};
 pub use before::guarded;
 pub use streams::Streams;
 pub use telling::tell_unread;
-pub use words::{exit_of, read_words, roots_of, unread};
+pub use words::{Asked, asked_of, exit_of, read_words, unread};

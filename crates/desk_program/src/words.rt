@@ -56,12 +56,24 @@ pub fn unread(kind: ErrorKind) -> Status
     }
 }
 
-/// The roots of words that ask for a run; none of others. The only error is want of memory.
-pub fn roots_of(alloc: Global, words: &[Text]) -> Result<Option<Roots>, Memory> {
+/// What the program does for words around the desk.
+#[derive(Debug, Drop)]
+pub enum Asked {
+    /// A run over these roots.
+    Run(Roots),
+    /// A run over a generated application, whose rows go into an SQL database.
+    Sql,
+    /// Anything else, or nothing.
+    Other,
+}
+
+/// What words ask for. The only error is want of memory.
+pub fn asked_of(alloc: Global, words: &[Text]) -> Result<Asked, Memory> {
     match read_order(alloc, words) {
-        Ok(Order::Run { roots, .. }) => Ok(Some(roots)),
+        Ok(Order::Run { roots, .. }) => Ok(Asked::Run(roots)),
+        Ok(Order::GenerateSql { .. }) => Ok(Asked::Sql),
         Err(RootsFault::Memory) => Err(Memory),
-        _ => Ok(None),
+        _ => Ok(Asked::Other),
     }
 }
 

@@ -17,6 +17,7 @@ use Rattle.desk_run.specs.Named.{Asked, asked_roots, asked_by, asked_of, status_
 use Rattle.desk_run.specs.Answers.{first_answer}
 use Rattle.desk_run.specs.Endings.{WhereTold, Tells, StandsAfter, ReportedOf, Named, Committed, HasCauses, is_final}
 use Rattle.desk_run.specs.Generated.{TellsTotals}
+use Rattle.desk_run.specs.GeneratedSql.{LeavesSql}
 use Rattle.desk_run.specs.Queries.{LeavesAnswer}
 
 -- ---- of all words, and from one fact to another
@@ -151,17 +152,50 @@ of_query_at words asked P e p = let Q : Result Order RootsFault → Type 0 = λ 
 pub no_query : (words : List Text) (o : Result Order RootsFault) (P : Query → Type 0) → order_of_words words ≡ o → WhereQuery o P → OfQuery words P
 no_query words o P e p = let Q : Result Order RootsFault → Type 0 = λ o. WhereQuery o P in subst Q (sym e) p
 
--- and of a query nothing is said that is said of other tasks
-pub of_run_at : (words : List Text) (asked : Query) (P : Type 0) → order_of_words words ≡ Ok (order.Query asked) → OfRun words P
-of_run_at words asked P e = let Q : Result Order RootsFault → Type 0 = λ o. UnlessOther o P in subst Q (sym e) tt
+-- ---- words of a generated application with an SQL ledger
 
-pub of_migration_at : (words : List Text) (asked : Query) (P : Type 0) → order_of_words words ≡ Ok (order.Query asked) → OfMigration words P
-of_migration_at words asked P e = let Q : Result Order RootsFault → Type 0 = λ o. UnlessAnswered o P in subst Q (sym e) tt
+sql_map : (o : Result Order RootsFault) (P Q : ℕ → Type 0) → ((n : ℕ) → P n → Q n) → WhereSql o P → WhereSql o Q
+sql_map (Ok (order.Run roots workers)) P Q h p = tt
+sql_map (Ok (order.Generate count workers)) P Q h p = tt
+sql_map (Ok (order.GenerateSql count workers)) P Q h p = h count p
+sql_map (Ok (order.Query asked)) P Q h p = tt
+sql_map (Err fault) P Q h p = tt
 
-pub of_generate_at : (words : List Text) (asked : Query) (P : ℕ → Type 0) → order_of_words words ≡ Ok (order.Query asked) → OfGenerate words P
-of_generate_at words asked P e = let Q : Result Order RootsFault → Type 0 = λ o. WhereGenerate o P in subst Q (sym e) tt
+pub of_sql_map : (words : List Text) (P Q : ℕ → Type 0) → ((n : ℕ) → P n → Q n) → OfSql words P → OfSql words Q
+of_sql_map words P Q h p = sql_map (order_of_words words) P Q h p
+
+sql_any : (o : Result Order RootsFault) (P : ℕ → Type 0) → ((n : ℕ) → P n) → WhereSql o P
+sql_any (Ok (order.Run roots workers)) P p = tt
+sql_any (Ok (order.Generate count workers)) P p = tt
+sql_any (Ok (order.GenerateSql count workers)) P p = p count
+sql_any (Ok (order.Query asked)) P p = tt
+sql_any (Err fault) P p = tt
+
+pub of_sql_any : (words : List Text) (P : ℕ → Type 0) → ((n : ℕ) → P n) → OfSql words P
+of_sql_any words P p = sql_any (order_of_words words) P p
+
+-- what words ask for says what is said of them
+pub sql_of : (words : List Text) (o : Result Order RootsFault) (P : ℕ → Type 0) → order_of_words words ≡ o → WhereSql o P → OfSql words P
+sql_of words o P e p = let Q : Result Order RootsFault → Type 0 = λ o. WhereSql o P in subst Q (sym e) p
+
+pub run_of : (words : List Text) (o : Result Order RootsFault) (P : Type 0) → order_of_words words ≡ o → UnlessOther o P → OfRun words P
+run_of words o P e p = let Q : Result Order RootsFault → Type 0 = λ o. UnlessOther o P in subst Q (sym e) p
+
+pub migration_of : (words : List Text) (o : Result Order RootsFault) (P : Type 0) → order_of_words words ≡ o → UnlessAnswered o P → OfMigration words P
+migration_of words o P e p = let Q : Result Order RootsFault → Type 0 = λ o. UnlessAnswered o P in subst Q (sym e) p
+
+pub generate_of : (words : List Text) (o : Result Order RootsFault) (P : ℕ → Type 0) → order_of_words words ≡ o → WhereGenerate o P → OfGenerate words P
+generate_of words o P e p = let Q : Result Order RootsFault → Type 0 = λ o. WhereGenerate o P in subst Q (sym e) p
 
 -- ---- words that ask for nothing
+
+pub refused_sql : (words : List Text) (fault : RootsFault) (s : Status) (k : Option Ledger) (a b : ℕ) (o : Option Text) → RefusedBy (order_of_words words) fault → s ≡ status_of_words fault
+    → OfSql words (λ n. LeavesSql n k k a a o o b b s)
+refused_sql words fault s k a b o e is = let P : Status → Type 0 = λ s. OfSql words (λ n. LeavesSql n k k a a o o b b s) in subst P (sym is) (by fault e) where
+  by : (fault : RootsFault) → RefusedBy (order_of_words words) fault → OfSql words (λ n. LeavesSql n k k a a o o b b (status_of_words fault))
+  by Usage e = sql_of words (Err Usage) (λ n. LeavesSql n k k a a o o b b status.Usage) e tt
+  by (Nested first second) e = sql_of words (Err (Nested first second)) (λ n. LeavesSql n k k a a o o b b (status.NestedRoots first second)) e tt
+  by Memory e = of_sql_any words (λ n. LeavesSql n k k a a o o b b status.Memory) (λ n. (tt, refl))
 
 pub refused_query : (words : List Text) (fault : RootsFault) (s : Status) (told : Option Contents) (o : Option Text) (f b : ℕ) → RefusedBy (order_of_words words) fault → s ≡ status_of_words fault
     → OfQuery words (λ asked. LeavesAnswer asked told o o f f b b s)

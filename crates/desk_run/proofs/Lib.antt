@@ -16,4 +16,5 @@ pub mod Finishing
 pub mod Referring
 pub mod Following
 pub mod Answering
+pub mod GeneratingSql
 pub mod InMemory

@@ -11,6 +11,7 @@ use Rattle.desk_report.specs.declared.status.Status.{Status}
 use Rattle.desk_report.specs.declared.status.Status.TheVariants.{Done, Refusals, Memory, FolderFault, LedgerFault, OutputFault, Usage, NestedRoots, BadRules, Limit, PathClash, NameClash, Stranded, OtherRun, Moved, NotInvertible}
 use Rattle.desk_report.specs.Texts.{fault_text}
 use Rattle.desk_report.specs.Written.{WritesFront, writing}
+use Rattle.desk_kept_code.proofs.Whole.{kept_codes}
 use Rattle.desk_run.specs.Named.{Asked}
 use Rattle.desk_batches.specs.Works.{Work}
 use Rattle.desk_intake.specs.declared.halts.Halt.{Halt}
@@ -54,7 +55,7 @@ holds_files run m0 l0 m l b =
       paths = λ path h. r.paths path (λ before rest file e le. h before rest file e);
     }
 
-holds_rows : (run : Run) (m0 : Contents) (l0 : Ledger) (m : Contents) (l : Ledger) → Between run m0 l0 m l (length (files_below run.from m0)) → HoldsRows run m0 l0 l
+pub holds_rows : (run : Run) (m0 : Contents) (l0 : Ledger) (m : Contents) (l : Ledger) → Between run m0 l0 m l (length (files_below run.from m0)) → HoldsRows run m0 l0 l
 holds_rows run m0 l0 m l b =
     let r = remains_of run m0 l0 m l (length (files_below run.from m0)) (inr (inl b)) in
     record {
@@ -63,7 +64,7 @@ holds_rows run m0 l0 m l b =
       others = λ target h. r.others target (λ before rest file e le. h before rest file e);
     }
 
-ok_and : {T E : Type 0} (r : Result T E) (x : T) (P : T → Type 0) → r ≡ Ok x → P x → IsOkAnd r P
+pub ok_and : {T E : Type 0} (r : Result T E) (x : T) (P : T → Type 0) → r ≡ Ok x → P x → IsOkAnd r P
 ok_and r x P e p = subst (λ r. IsOkAnd r P) (sym e) p
 
 same_ok : {T E : Type 0} (r : Result T E) (x y : T) → r ≡ Ok x → r ≡ Ok y → x ≡ y
@@ -106,7 +107,7 @@ class_of_run rules file image held settled bytes selected is there =
       holds = there ∙ ap Some (is.bytes ∙ ap (λ (i : Image). i.bytes) m.is);
       renamed = renamed;
       names = follow rules file.bytes m.class settled bytes m.reads renamed;
-      codes = kept (images_of rules) file.bytes m.class forms bytes m.reads m.accepted;
+      codes = kept_codes (images_of rules) file.bytes m.class forms bytes m.reads m.accepted;
       again = unchanged_classes (images_of rules) file.bytes m.class forms (images_settled rules settled) bytes m.reads m.accepted;
     }
 
@@ -235,7 +236,7 @@ ledger_clause asked f0 f k0 k name0 name status stands named = record {
   attached = named;
 }
 
-remains_at : (asked : Asked) (m0 : Contents) (l0 : Ledger) (m : Contents) (l : Ledger) (done : ℕ) → StandsAt asked m0 l0 m l done → RemainsAt asked m0 l0 m l done
+pub remains_at : (asked : Asked) (m0 : Contents) (l0 : Ledger) (m : Contents) (l : Ledger) (done : ℕ) → StandsAt asked m0 l0 m l done → RemainsAt asked m0 l0 m l done
 remains_at asked m0 l0 m l done (inl u) = by (run_of_asked asked m0) where
   by : (r : Result Run Status) → MatchResult r (λ run. Remains run m0 l0 m l done) (λ _. Unchanged m0 l0 m l done)
   by (Ok run) = remains_of run m0 l0 m l done (inl u)
@@ -310,7 +311,7 @@ pub plain : (line : Text) (old mid new : Option Text) (o o1 o2 : ℕ) → o ≤ 
 plain line old mid new o o1 o2 le e (inl w) = inl (w ∙ ap (writing line) e)
 plain line old mid new o o1 o2 le e (inr w) = inr (subst (λ m. WritesFront line m new) e w.0, Rose-earlier o o1 o2 le w.1)
 
-ok_map : {T E : Type 0} (r : Result T E) (P Q : T → Type 0) → ((x : T) → P x → Q x) → IsOkAnd r P → IsOkAnd r Q
+pub ok_map : {T E : Type 0} (r : Result T E) (P Q : T → Type 0) → ((x : T) → P x → Q x) → IsOkAnd r P → IsOkAnd r Q
 ok_map (Ok x) P Q h p = h x p
 ok_map (Err e) P Q h p = p
 

@@ -16,3 +16,4 @@ pub mod Follows
 pub mod Clauses
 pub mod Resuming
 pub mod Generated
+pub mod GeneratedSql

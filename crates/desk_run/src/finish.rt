@@ -14,6 +14,7 @@ ghost use Rattle.desk_rename.specs.Images.{cls};
 ghost use Rattle.desk_report.specs.declared.status.Status.TheVariants.{Done};
 ghost use Rattle.desk_run.specs.Answers.{first_answer, names_answer, other_run};
 ghost use Rattle.desk_run.specs.Endings.{Committed, HasCauses, HasGathered, IsSilent, IsTold, IsWritten, Named, Reported, ReportedOf, StandsAfter, Tells, WhereTold, is_final};
+ghost use Rattle.desk_run.specs.GeneratedSql.{Completes, TellsLedger};
 ghost use Rattle.desk_run.specs.Halts.{HaltsPlan, NamedAtPlan};
 ghost use Rattle.desk_run.specs.Meaning.{finds_in, run_of_asked};
 ghost use Rattle.desk_run.specs.Named.{asked_roots};
@@ -31,7 +32,6 @@ use crate::opening::open_ledger;
 use crate::planning::plan_files;
 use crate::report::{has_refused, summary_of, write_report};
 use crate::stops::{status_of_halt, status_of_stop};
-use desk_base::Memory;
 use desk_batches::{Noted, Outcome, Stopped, write_all};
 use desk_folders::Folders;
 use desk_graph::ClassGraph;
@@ -309,7 +309,7 @@ pub(crate) fn run<R: Threads + Sync, F: Folders, K: Keeper, O: Sink, G: Gate + S
     }
 }
 
-/// The totals of a run over roots that completes; want of memory of any other.
+/// The totals of a run over roots that completes, or how it ends before its report.
 pub(crate) fn totals_of_run<R: Threads + Sync, F: Folders, K: Keeper, G: Gate + Sync>(
     rt: &R,
     alloc: Global,
@@ -318,13 +318,18 @@ pub(crate) fn totals_of_run<R: Threads + Sync, F: Folders, K: Keeper, G: Gate + 
     folders: &mut F,
     keeper: &mut K,
     gate: &G,
-) -> Result<Summary, Memory>
+) -> Result<Summary, Status>
     requires roots { AreRoots names.now }
     requires workers { AreWorkers workers }
-    ensures { IfOk result (λ totals. WhereTold (F.told folders.old) (K.told keeper.old) (λ m l. IsOkAnd (run_of_asked (asked_roots names.now) m) (λ run. totals ≡ summary_of run l.rows (files_below run.from m)))) }
+    ensures totals { IfOk result (λ totals. WhereTold (F.told folders.old) (K.told keeper.old) (λ m l. IsOkAnd (run_of_asked (asked_roots names.now) m) (λ run. totals ≡ summary_of run l.rows (files_below run.from m)))) }
+    ensures completes { IfOk result (λ totals. WhereTold (F.told folders.old) (K.told keeper.old) (λ m0 l0. TellsLedger (K.told keeper.new) (λ l. Completes (asked_roots names.now) m0 l0 l (λ t. totals ≡ t)))) }
+    ensures stopped { IfErr result (λ s. WhereTold (F.told folders.old) (K.told keeper.old) (λ m0 l0. Tells (F.told folders.new) (K.told keeper.new) (λ m l. StandsAfter (asked_roots names.now) m0 l0 m l s))) }
+    ensures first { IfErr result (λ s. WhereTold (F.told folders.old) (K.told keeper.old) (λ m l. is_final s ≡ true → s ≡ first_answer (asked_roots names.now) m l)) }
+    ensures causes { IfErr result (λ s. HasCauses (asked_roots names.now) (F.told folders.old) s (F.faults folders.old) (F.faults folders.new) (K.faults keeper.old) (K.faults keeper.new) 0 0) }
+    ensures counts_k { K.faults keeper.old ≤ K.faults keeper.new }
 {
     match write_files(rt, alloc, folders, keeper, gate, names, workers) {
         Ok(written) => Ok(summary_of(&written.outcomes)),
-        Err(_) => Err(Memory),
+        Err(status) => Err(status),
     }
 }

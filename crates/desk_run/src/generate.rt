@@ -1,18 +1,19 @@
 //! A run over a generated application, in folders and with a ledger of its own.
 
-ghost use Rattle.std.specs.Prelude.{◌≡◌, ◌≤◌, true, None, Err, Ok, IfOk, map};
+ghost use Rattle.std.specs.Prelude.{◌≡◌, ◌≤◌, true, None, Err, Ok, IfErr, IfOk, IfSome, map};
 ghost use Rattle.std.specs.List.{list_all};
 ghost use Rattle.desk_base.specs.Paths.{is_full_path};
 ghost use Rattle.desk_report.specs.declared.status.Status.TheVariants.{Done};
 ghost use Rattle.desk_run.specs.Endings.{HasCauses};
 ghost use Rattle.desk_words.specs.Roots.{AreWorkers};
-ghost use Rattle.desk_run.specs.Generated.{TellsTotals, generated_files, generated_roots, generated_totals, placed};
+ghost use Rattle.desk_run.specs.Generated.{TellsTotals, generated_contents, generated_files, generated_roots, generated_totals, placed};
+ghost use Rattle.desk_run.specs.GeneratedSql.{CompletesGenerated, LeavesSql, StopsGenerated, TellsResult, kept_status};
 
 use crate::finish::totals_of_run;
 use desk_base::{Memory, Text};
 use desk_folders::{GenFile, MemoryFolders};
 use desk_gen::{generate, rule_file};
-use desk_ledger::MemoryKeeper;
+use desk_ledger::{Keeper, MemoryKeeper};
 use desk_readings::full_path;
 use desk_report::{Sink, Status, Summary, write_summary};
 use desk_words::Roots;
@@ -88,7 +89,108 @@ fn totals<R: Threads + Sync, G: Gate + Sync>(
     let files = files_in_memory(alloc, &roots, count)?;
     let mut folders = MemoryFolders::new(alloc, files, Vec::new(alloc))?;
     let mut keeper = MemoryKeeper::new(alloc, Vec::new(alloc))?;
-    totals_of_run(rt, alloc, &roots, workers, &mut folders, &mut keeper, gate)
+    match totals_of_run(rt, alloc, &roots, workers, &mut folders, &mut keeper, gate) {
+        Ok(totals) => Ok(totals),
+        Err(_) => Err(Memory),
+    }
+}
+
+/// A generated application: of how many classes, and by how many workers it is migrated.
+#[derive(Clone, Copy, Debug)]
+pub(crate) struct Generation {
+    /// How many classes it has.
+    pub(crate) count: u32,
+    /// How many workers migrate it.
+    pub(crate) workers: u32,
+}
+
+/// The folders of the run: the application below `in`, and its rule file below `rules`.
+fn folders_in_memory(alloc: Global, roots: &Roots, count: u32) -> Result<MemoryFolders, Memory>
+    requires { roots.now ≡ generated_roots }
+    ensures { IfOk result (λ folders. folders.contents ≡ generated_contents count) }
+{
+    let files = files_in_memory(alloc, roots, count)?;
+    MemoryFolders::new(alloc, files, Vec::new(alloc))
+}
+
+/// How a stop of the run is told: folders in memory have no faults, and nothing of a generated application stands against it.
+fn kept_status(status: Status) -> Status
+    ensures { result ≡ kept_status status }
+{
+    match status {
+        Status::OtherRun { kept, wanted } => Status::OtherRun { kept, wanted },
+        Status::LedgerFault { done } => Status::LedgerFault { done },
+        _ => Status::Memory,
+    }
+}
+
+/// The totals of the run whose rows go into this ledger, or how it ends before them.
+fn totals_kept<R: Threads + Sync, K: Keeper, G: Gate + Sync>(
+    rt: &R,
+    alloc: Global,
+    generation: Generation,
+    roots: &Roots,
+    keeper: &mut K,
+    gate: &G,
+) -> Result<Summary, Status>
+    requires workers { AreWorkers generation.workers }
+    requires roots { roots.now ≡ generated_roots }
+    ensures completes { IfOk result (λ totals. IfSome (K.told keeper.old) (λ l0. CompletesGenerated generation.count l0 (K.told keeper.new) (λ t. totals ≡ t))) }
+    ensures stopped { IfErr result (StopsGenerated generation.count (K.told keeper.old) (K.told keeper.new) (K.faults keeper.old) (K.faults keeper.new)) }
+    ensures counts { K.faults keeper.old ≤ K.faults keeper.new }
+{
+    let Generation { count, workers } = generation;
+    match folders_in_memory(alloc, roots, count) {
+        Ok(folders) => {
+            let mut folders = folders;
+            match totals_of_run(rt, alloc, roots, workers, &mut folders, keeper, gate) {
+                Ok(totals) => Ok(totals),
+                Err(status) => Err(kept_status(status)),
+            }
+        }
+        Err(Memory) => Err(Status::Memory),
+    }
+}
+
+/// Writes the totals of a run, or hands on how it ended before them.
+fn tell_totals<O: Sink>(out: &mut O, totals: Result<Summary, Status>) -> Status
+    ensures { TellsResult totals (O.told out.old) (O.told out.new) (O.faults out.old) (O.faults out.new) result }
+    ensures counts { O.faults out.old ≤ O.faults out.new }
+{
+    match totals {
+        Ok(totals) => match write_summary(&totals, out) {
+            Ok(()) => Status::Done,
+            Err(_) => Status::OutputFault,
+        },
+        Err(status) => status,
+    }
+}
+
+/// Runs over a generated application of so many classes by so many workers, in folders in memory, with its rows in this ledger,
+/// and writes the line of the totals alone.
+///
+/// The statuses: `Done`; `OtherRun` where the ledger belongs to another run; `LedgerFault`; `OutputFault` where the line could not
+/// be written; `Memory`.
+pub(crate) fn run_generated_sql<R: Threads + Sync, K: Keeper, O: Sink, G: Gate + Sync>(
+    rt: &R,
+    alloc: Global,
+    generation: Generation,
+    keeper: &mut K,
+    out: &mut O,
+    gate: &G,
+) -> Status
+    requires { AreWorkers generation.workers }
+    ensures told { LeavesSql generation.count (K.told keeper.old) (K.told keeper.new) (K.faults keeper.old) (K.faults keeper.new) (O.told out.old) (O.told out.new) (O.faults out.old) (O.faults out.new) result }
+    ensures counts_k { K.faults keeper.old ≤ K.faults keeper.new }
+    ensures counts { O.faults out.old ≤ O.faults out.new }
+{
+    match roots_in_memory(alloc) {
+        Ok(roots) => tell_totals(
+            out,
+            totals_kept(rt, alloc, generation, &roots, keeper, gate),
+        ),
+        Err(Memory) => Status::Memory,
+    }
 }
 
 /// Runs over a generated application of so many classes by so many workers, in folders and with a ledger in memory, and

@@ -16,7 +16,8 @@ ghost use Rattle.desk_run.specs.Clauses.{Exact, Files, LedgerHolds, Left, Output
 ghost use Rattle.desk_run.specs.Endings.{Committed, HasCauses, Named, ReportedOf, StandsAfter, Tells, WhereTold, is_final};
 ghost use Rattle.desk_run.specs.Follows.{Follow};
 ghost use Rattle.desk_run.specs.Generated.{Generates, TellsTotals};
-ghost use Rattle.desk_run.specs.Named.{OfCalls, OfGenerate, OfInvert, OfMigration, OfQuery, OfRun, asked_of};
+ghost use Rattle.desk_run.specs.GeneratedSql.{GeneratesSql, LeavesSql};
+ghost use Rattle.desk_run.specs.Named.{OfCalls, OfGenerate, OfInvert, OfMigration, OfQuery, OfRun, OfSql, asked_of};
 ghost use Rattle.desk_run.specs.Queries.{AnswersQuery, LeavesAnswer};
 ghost use Rattle.desk_words.specs.declared.roots.Query.TheVariants as query;
 ghost use Rattle.desk_run.specs.Resuming.{LeavesSources, Resumes};
@@ -41,7 +42,7 @@ pub use desk_words::{Root, Task, WordsFault, read_words};
 pub use desk_workers::FreeGate;
 use desk_workers::Gate;
 use finish::run;
-use generate::run_generated;
+use generate::{Generation, run_generated, run_generated_sql};
 use queries::run_query;
 use std::alloc::Global;
 use std::thread::Threads;
@@ -64,6 +65,8 @@ fn follow<R: Threads + Sync, F: Folders, K: Keeper, O: Sink, G: Gate + Sync>(
     ensures committed { OfRun words.now (Committed (K.waiting keeper.new) result) }
     ensures untouched { OfGenerate words.now (λ _. (folders.new ≡ folders.old) × (keeper.new ≡ keeper.old)) }
     ensures generate { OfGenerate words.now (λ count. TellsTotals count (O.told out.old) (O.told out.new) result) }
+    ensures sql { OfSql words.now (λ count. LeavesSql count (K.told keeper.old) (K.told keeper.new) (K.faults keeper.old) (K.faults keeper.new) (O.told out.old) (O.told out.new) (O.faults out.old) (O.faults out.new) result) }
+    ensures apart { OfSql words.now (λ _. folders.new ≡ folders.old) }
     ensures query { OfQuery words.now (λ asked. LeavesAnswer asked (F.told folders.old) (O.told out.old) (O.told out.new) (F.faults folders.old) (F.faults folders.new) (O.faults out.old) (O.faults out.new) result) }
     ensures unchanged { OfQuery words.now (λ _. (F.told folders.new ≡ F.told folders.old) × (keeper.new ≡ keeper.old)) }
     ensures causes { OfMigration words.now (HasCauses (asked_of words.now) (F.told folders.old) result (F.faults folders.old) (F.faults folders.new) (K.faults keeper.old) (K.faults keeper.new) (O.faults out.old) (O.faults out.new)) }
@@ -77,6 +80,10 @@ fn follow<R: Threads + Sync, F: Folders, K: Keeper, O: Sink, G: Gate + Sync>(
         }
         Ok(Order::Generate { count, workers }) => {
             run_generated(rt, alloc, count, workers, out, gate)
+        }
+        Ok(Order::GenerateSql { count, workers }) => {
+            let generation = Generation { count, workers };
+            run_generated_sql(rt, alloc, generation, keeper, out, gate)
         }
         Ok(Order::Query(asked)) => run_query(rt, alloc, &asked, folders, out, gate),
         Err(fault) => status_of_words(fault),
@@ -132,6 +139,9 @@ pub fn desk<R: Threads + Sync, F: Folders, K: Keeper, O: Sink, G: Gate + Sync>(
     ensures follow { OfRun words.now (WhereTold (F.told folders.old) (K.told keeper.old) (λ m0 _. Follow (asked_of words.now) m0 result)) }
     ensures untouched { OfGenerate words.now (λ _. (folders.new ≡ folders.old) × (keeper.new ≡ keeper.old)) }
     ensures generate { OfGenerate words.now (λ count. Generates count (O.told out.old) (O.told out.new) (O.faults out.old) (O.faults out.new) result) }
+    ensures sql { OfSql words.now (λ count. GeneratesSql count (K.told keeper.old) (K.told keeper.new) (K.faults keeper.old) (K.faults keeper.new)
+        (O.told out.old) (O.told out.new) (O.faults out.old) (O.faults out.new) result) }
+    ensures apart { OfSql words.now (λ _. folders.new ≡ folders.old) }
     ensures calls { OfCalls words.now (λ from scope. AnswersQuery (query.Calls from scope) (F.told folders.old) (O.told out.old) (O.told out.new)
         (F.faults folders.old) (F.faults folders.new) (O.faults out.old) (O.faults out.new) result) }
     ensures invert { OfInvert words.now (λ rules. AnswersQuery (query.Invert rules) (F.told folders.old) (O.told out.old) (O.told out.new)

@@ -73,11 +73,7 @@ fn halt_of_inverse(error: InvertError) -> Halt
 }
 
 /// The rule file of the inverse of the rules in a folder.
-fn reply_inverse<F: Folders>(
-    alloc: Global,
-    folders: &mut F,
-    rules: &Text,
-) -> Result<Reply, Halt>
+fn reply_inverse<F: Folders>(alloc: Global, folders: &mut F, rules: &Text) -> Result<Reply, Halt>
     requires { IsSoundQuery (query.Invert rules.now) }
     ensures told { F.told folders.new ≡ F.told folders.old }
     ensures ok { IfOk result (λ reply. IfSome (F.told folders.old) (λ m. inverse_told rules.now m ≡ Ok (reply.text, reply.status))) }

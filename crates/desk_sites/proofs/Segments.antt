@@ -15,16 +15,16 @@ abbrev IsSome : List Text → Type 0
 IsSome xs = (y : Text) × (ys : List Text) × (xs ≡ y ∷ ys)
 
 parts_some : (bs : Text) → IsSome (slice_split is_slash bs)
-parts_some [] = ([], ([], refl))
+parts_some [] = ([], [], refl)
 parts_some (b ∷ bs) =
     let more : IsSome (slice_split is_slash bs) = parts_some bs in
     elim (is_slash b) as (λ (x : Bool). IsSome (cond x ([] ∷ slice_split is_slash bs) (onto_first b (slice_split is_slash bs)))) [
-      | true ↦ ([], (slice_split is_slash bs, refl))
-      | false ↦ (b ∷ more.0, (more.1.0, ap (onto_first b) more.1.1))
+      | true ↦ ([], slice_split is_slash bs, refl)
+      | false ↦ (b ∷ more.0, more.1, ap (onto_first b) more.2)
     ]
 
 front_more : (x : Text) (ys : List Text) → IsSome ys → front (x ∷ ys) ≡ x ∷ front ys
-front_more x [] h = absurd cc
+front_more x [] h = let e : [] ≡ h.0 ∷ h.1 = h.2 in absurd cc
 front_more x (y ∷ ys) h = refl
 
 -- the empty text has no segments, and so none but the last

@@ -5,7 +5,7 @@ use Rattle.desk_base.specs.Names.{Text, Package}
 use Rattle.desk_base.specs.Entries.{Pool}
 use Rattle.desk_base.specs.Misfits.{or_else}
 use Rattle.desk_base.specs.declared.faults.CodeFault.{CodeFault}
-use Rattle.desk_code.specs.declared.codes.CodeAt.{CodeAt}
+use Rattle.desk_code.specs.declared.places.CodeAt.{CodeAt}
 use Rattle.desk_code.specs.declared.reader.Instruction.{Instruction}
 use Rattle.desk_code.specs.Codes.{code_bytes}
 use Rattle.desk_code.specs.Instructions.{Instructions, instructions_of}

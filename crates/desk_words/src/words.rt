@@ -10,8 +10,8 @@ use crate::packages::package_of;
 use crate::roots::Root;
 use desk_base::{Memory, Text, TextList};
 use desk_options::{
-    CallsValues, GenerateValues, InvertValues, RunValues, calls_values, generate_values, invert_values,
-    run_values,
+    CallsValues, GenerateValues, InvertValues, RunValues, calls_values, generate_values,
+    invert_values, run_values,
 };
 use std::alloc::Global;
 

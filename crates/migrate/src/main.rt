@@ -5,8 +5,9 @@
 use desk_base::{Memory, Text};
 use desk_disk::DiskFolders;
 use desk_notes::Overheard;
+use desk_ledger_sql::SqlKeeper;
 use desk_program::{
-    Ending, Streams, exit_of, guarded, read_words, roots_of, tell_end, tell_unread, unread,
+    Asked, Ending, Streams, asked_of, exit_of, guarded, read_words, tell_end, tell_unread, unread,
 };
 use desk_report::{Status, StdSink, write_fault};
 use desk_run::{FreeGate, desk};
@@ -46,7 +47,7 @@ impl<'r> Outside<'r> {
         stopped
     }
 
-    /// Follows the words.
+    /// Follows the words, with the ledger on disk.
     fn run<R: Threads + Sync>(&mut self, threads: &R, words: &[Text]) -> Status {
         let status = desk(
             threads,
@@ -60,6 +61,20 @@ impl<'r> Outside<'r> {
         self.folders.end_progress();
         self.keeper.remove_new_log();
         status
+    }
+
+    /// Follows the words, with a ledger that is an SQL database in memory.
+    fn run_sql<R: Threads + Sync>(&mut self, threads: &R, words: &[Text]) -> Status {
+        let mut keeper = SqlKeeper::in_memory(self.rt.alloc());
+        desk(
+            threads,
+            self.rt.alloc(),
+            words,
+            &mut self.folders,
+            &mut keeper,
+            &mut self.out,
+            &FreeGate,
+        )
     }
 
     /// Tells what stands behind a status.
@@ -78,23 +93,37 @@ impl<'r> Outside<'r> {
     }
 }
 
-/// Follows the words, and tells what stands behind the status.
-fn follow<R: Threads + Sync>(
+/// Follows the words of a run over these roots, and tells what stands behind the status.
+fn follow_run<R: Threads + Sync>(
     rt: &HostRuntime,
     threads: &R,
     words: &[Text],
-    roots: Option<&Roots>,
+    roots: &Roots,
 ) -> Status {
     let mut outside = Outside::new(rt);
-    let stopped = match roots {
-        Some(roots) => outside.begin(roots),
-        None => None,
-    };
-    let (status, roots) = match stopped {
+    let (status, roots) = match outside.begin(roots) {
         Some(status) => (status, None),
-        None => (outside.run(threads, words), roots),
+        None => (outside.run(threads, words), Some(roots)),
     };
     outside.tell(words, roots, &status);
+    status
+}
+
+/// Follows the words of any other task, and tells what stands behind the status.
+fn follow_other<R: Threads + Sync>(
+    rt: &HostRuntime,
+    threads: &R,
+    words: &[Text],
+    sql: bool,
+) -> Status {
+    let mut outside = Outside::new(rt);
+    outside.folders.show_progress();
+    let status = if sql {
+        outside.run_sql(threads, words)
+    } else {
+        outside.run(threads, words)
+    };
+    outside.tell(words, None, &status);
     status
 }
 
@@ -110,8 +139,10 @@ fn run<R: Threads + Sync>(rt: &HostRuntime, threads: &R) -> Status {
         Ok(words) => words,
         Err(error) => return end_without_task(rt, unread(error.kind())),
     };
-    match roots_of(rt.alloc(), &words) {
-        Ok(roots) => follow(rt, threads, &words, roots.as_ref()),
+    match asked_of(rt.alloc(), &words) {
+        Ok(Asked::Run(roots)) => follow_run(rt, threads, &words, &roots),
+        Ok(Asked::Sql) => follow_other(rt, threads, &words, true),
+        Ok(Asked::Other) => follow_other(rt, threads, &words, false),
         Err(Memory) => end_without_task(rt, Status::Memory),
     }
 }

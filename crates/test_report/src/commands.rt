@@ -2,7 +2,7 @@
 
 use crate::lines::{Made, Refusal, Told};
 use crate::names::Command as OnName;
-use crate::statuses::{Ended, Fault};
+use crate::statuses::{Ended, Fault, Uninverted};
 use crate::texts::Command as OnTexts;
 use desk_names::{Want, Which};
 use desk_report::LimitKind;
@@ -100,6 +100,34 @@ pub const COMMANDS: &[(&[u8], Command)] = &[
     (
         b"pool-full",
         Command::File(Told::Refused(Refusal::PoolFull)),
+    ),
+    (
+        b"code-opcode",
+        Command::File(Told::Refused(Refusal::CodeOpcode)),
+    ),
+    (
+        b"code-short",
+        Command::File(Told::Refused(Refusal::CodeShort)),
+    ),
+    (
+        b"code-switch",
+        Command::File(Told::Refused(Refusal::CodeSwitch)),
+    ),
+    (
+        b"code-operand",
+        Command::File(Told::Refused(Refusal::CodeOperand)),
+    ),
+    (
+        b"not-renames",
+        Command::Status(Ended::NotInvertible(Uninverted::NotRenames)),
+    ),
+    (
+        b"nothing-to-invert",
+        Command::Status(Ended::NotInvertible(Uninverted::Nothing)),
+    ),
+    (
+        b"overlap",
+        Command::Status(Ended::NotInvertible(Uninverted::Overlap)),
     ),
     (b"total", Command::Total),
     (b"done", Command::Status(Ended::Done)),

@@ -2,7 +2,7 @@
 
 use crate::sinks::{answer_line, with_room};
 use crate::words::Values;
-use desk_base::{FaultKind, Malformed, Memory, Text};
+use desk_base::{CodeFault, FaultKind, Malformed, Memory, Text};
 use desk_report::{Detail, Reason, ReportLine, Summary, write_line, write_summary};
 use std::alloc::Global;
 
@@ -25,6 +25,10 @@ pub enum Refusal {
     Twins,
     Overlong,
     PoolFull,
+    CodeOpcode,
+    CodeShort,
+    CodeSwitch,
+    CodeOperand,
 }
 
 /// What a line tells: its values are the paths, and then the numbers.
@@ -80,6 +84,18 @@ fn reason_of(refusal: Refusal, values: &mut Values) -> Reason {
             count: values.short(),
             needed: values.number(),
         },
+        Refusal::CodeOpcode => Reason::Code(CodeFault::Opcode {
+            at: values.number(),
+        }),
+        Refusal::CodeShort => Reason::Code(CodeFault::UnexpectedEnd {
+            at: values.number(),
+        }),
+        Refusal::CodeSwitch => Reason::Code(CodeFault::Switch {
+            at: values.number(),
+        }),
+        Refusal::CodeOperand => Reason::Code(CodeFault::Operand {
+            at: values.number(),
+        }),
     }
 }
 

@@ -6,7 +6,7 @@ use crate::words::Values;
 use desk_base::{Memory, Text};
 use desk_ledger::{Digest, Header};
 use desk_report::{LimitKind, Status, write_fault};
-use desk_rules::{ChainKind, PropFault, RuleFault};
+use desk_rules::{ChainKind, InvertFault, PropFault, RuleFault};
 use std::alloc::Global;
 
 /// A status; behind it stand its values.
@@ -27,6 +27,15 @@ pub enum Ended {
     Stranded,
     OtherRun,
     Moved,
+    NotInvertible(Uninverted),
+}
+
+/// Why rules have no inverse; behind it stand its values.
+#[derive(Clone, Copy)]
+pub enum Uninverted {
+    NotRenames,
+    Nothing,
+    Overlap,
 }
 
 /// A fault of rule files; behind it stand its values.
@@ -95,6 +104,20 @@ fn fault_of(fault: Fault, values: &mut Values) -> RuleFault {
     }
 }
 
+/// Why rules have no inverse, with its values.
+fn invert_fault_of(why: Uninverted, values: &mut Values) -> InvertFault {
+    match why {
+        Uninverted::NotRenames => InvertFault::NotRenames {
+            file: values.text(),
+        },
+        Uninverted::Nothing => InvertFault::Nothing,
+        Uninverted::Overlap => InvertFault::Overlap {
+            first: values.text(),
+            second: values.text(),
+        },
+    }
+}
+
 /// A status with its values.
 fn status_of(ended: Ended, values: &mut Values) -> Status {
     match ended {
@@ -140,6 +163,7 @@ fn status_of(ended: Ended, values: &mut Values) -> Status {
             first: digest_of(&values.text()),
             second: digest_of(&values.text()),
         },
+        Ended::NotInvertible(why) => Status::NotInvertible(invert_fault_of(why, values)),
     }
 }
 

@@ -1,0 +1,15 @@
+pub mod Inverses
+pub mod Keyed
+pub mod Parts
+pub mod Exchanges
+pub mod Tables
+pub mod Back
+pub mod Settled
+pub mod Plain
+pub mod Written
+pub mod Utf8File
+pub mod Built
+pub mod LookUps
+pub mod Made
+pub mod Faults
+pub mod Answered

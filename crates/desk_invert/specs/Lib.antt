@@ -1,0 +1,5 @@
+pub mod Inverse
+pub mod Files
+pub mod Answers
+pub mod Laws
+pub mod Exchanged
