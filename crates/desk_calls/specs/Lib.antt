@@ -1,4 +1,5 @@
 pub mod Listings
+pub mod Files
 pub mod Found
 pub mod Told
 pub mod Answers

@@ -9,7 +9,7 @@ use Rattle.desk_intake.specs.declared.halts.Halt.{Halt}
 use Rattle.desk_intake.specs.declared.halts.Halt.TheVariants.{Memory, Folders, Answer}
 use Rattle.desk_sites.specs.declared.class.ClassSites.{ClassSites}
 use Rattle.desk_calls.specs.Answers.{calls_answer, found_among}
-use Rattle.desk_calls.specs.Found.{classes_of, sites_in}
+use Rattle.desk_calls.specs.Files.{classes_of, sites_in}
 use Rattle.desk_calls.specs.Listings.{class_size_answer}
 use Rattle.desk_calls.specs.declared.batches.ClassFile.{ClassFile}
 use Rattle.desk_calls.specs.declared.telling.Calls.{Calls}

@@ -3,7 +3,7 @@
 ghost use Rattle.std.specs.Prelude.{◌≡◌, ◌+◌, ◌≤◌, IfOk, length, map};
 ghost use Rattle.std.specs.List.{sum_by};
 ghost use Rattle.desk_base.specs.Limits.{file_size};
-ghost use Rattle.desk_calls.specs.Found.{size_of, sites_in};
+ghost use Rattle.desk_calls.specs.Files.{size_of, sites_in};
 
 use crate::WORKERS;
 use desk_base::{MAX_FILE_SIZE, Memory, Text, TextList};
@@ -49,7 +49,7 @@ fn sites_in(alloc: Global, package: &TextList, file: &ClassFile) -> Result<Class
 }
 
 impl Job for FindingSites<'_> {
-    ghost use Rattle.desk_calls.specs.Found.{size_of, sites_in};
+    ghost use Rattle.desk_calls.specs.Files.{size_of, sites_in};
 
     type Item = ClassFile;
 
@@ -82,7 +82,8 @@ pub struct Finding {
 
 impl Finding {
     ghost use Rattle.std.specs.Prelude.{◌≤◌, ◌<◌, ◌^◌, ◌++◌, ◌∷◌, [], OnOk, IfOk, length};
-    ghost use Rattle.desk_calls.specs.Found.{all_found, classes_of};
+    ghost use Rattle.desk_calls.specs.Files.{classes_of};
+    ghost use Rattle.desk_calls.specs.Found.{all_found};
 
     /// Nothing was found, and the batch has all its room. It takes no memory.
     pub(crate) fn new(alloc: Global) -> Finding

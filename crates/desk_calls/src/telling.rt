@@ -1,9 +1,9 @@
 //! What was found, as it is written.
 
 ghost use Rattle.std.specs.Prelude.{◌≡◌, ◌≤◌, ◌<◌, ◌^◌, ◌*◌, ◌++◌, ◌∷◌, [], IfOk, OnOk, codes, count_by, decimal, length};
-ghost use Rattle.std.specs.List.{list_any, sum_by};
+ghost use Rattle.std.specs.List.{flat_map, list_any, sum_by};
 ghost use Rattle.desk_report.specs.Joined.{joined};
-ghost use Rattle.desk_calls.specs.Told.{calls_of, lines_of, totals_text, was_refused, site_count};
+ghost use Rattle.desk_calls.specs.Told.{calls_of, lines_in, totals_text, was_refused, site_count};
 
 use desk_base::{Memory, Text};
 use desk_sites::ClassSites;
@@ -45,16 +45,15 @@ fn count_sites(found: &[ClassSites]) -> u128
     sites
 }
 
-/// The lines of classes, one behind the other.
+/// Adds the lines of classes, one behind the other.
 #[tactic(auto, using(desk_base::proofs::Lists::texts_more))]
-fn lines_of(alloc: Global, found: &[ClassSites]) -> Result<Text, Memory>
-    ensures { IfOk result (λ text. text ≡ lines_of found.now) }
+fn append_lines(text: &mut Text, found: &[ClassSites]) -> Result<(), Memory>
+    ensures { OnOk result (text.new ≡ text.old ++ flat_map lines_in found.now) }
 {
-    let mut text = Text::empty(alloc);
     for one in found {
         text.append(one.lines.as_bytes())?;
     }
-    Ok(text)
+    Ok(())
 }
 
 /// Adds a number behind what stands before it.
@@ -81,7 +80,8 @@ pub(crate) fn calls_of(alloc: Global, found: &[ClassSites]) -> Result<Calls, Mem
     requires { length found.now < 2 ^ 32 }
     ensures { IfOk result (λ calls. calls ≡ calls_of found.now) }
 {
-    let mut text = lines_of(alloc, found)?;
+    let mut text = Text::empty(alloc);
+    append_lines(&mut text, found)?;
     append_totals(&mut text, found)?;
     Ok(Calls {
         text,

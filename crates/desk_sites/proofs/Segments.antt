@@ -38,12 +38,14 @@ front_first t h =
     ∙ front_more (before_first is_slash t) (slice_split is_slash (after_first is_slash t)) (parts_some (after_first is_slash t))
     ∙ ap (λ (xs : List Text). before_first is_slash t ∷ xs) (sym (front_parts (after_first is_slash t)))
 
+whole_by : (x : Bool) (b : ℕ) (bs : Text) → length (b ∷ bs) ≤ cond (not x) (1 + position_or_len is_slash bs) 0 → (length bs ≤ position_or_len is_slash bs → slice_split is_slash bs ≡ bs ∷ [])
+    → cond x ([] ∷ slice_split is_slash bs) (onto_first b (slice_split is_slash bs)) ≡ (b ∷ bs) ∷ []
+whole_by true b bs h k = absurd (omega arith)
+whole_by false b bs h k = ap (onto_first b) (k (omega arith))
+
 whole : (t : Text) → length t ≤ position_or_len is_slash t → slice_split is_slash t ≡ t ∷ []
 whole [] h = refl
-whole (b ∷ bs) h = by (is_slash b) h where
-  by : (x : Bool) → length (b ∷ bs) ≤ cond (not x) (1 + position_or_len is_slash bs) 0 → cond x ([] ∷ slice_split is_slash bs) (onto_first b (slice_split is_slash bs)) ≡ (b ∷ bs) ∷ []
-  by true k = absurd (omega arith)
-  by false k = ap (onto_first b) (whole bs (omega arith))
+whole (b ∷ bs) h = whole_by (is_slash b) b bs h (λ k. whole bs k)
 
 front_whole : (t : Text) → length t ≤ position_or_len is_slash t → front (segments slash t) ≡ []
 front_whole t h = front_parts t ∙ ap front (whole t h)
@@ -61,18 +63,23 @@ lies_over rest scope i end within is over =
 abbrev ahead : Text → Text → Package → Bool
 ahead rest segment more = bytes_eq segment (before_first is_slash rest) && lies_in more (after_first is_slash rest)
 
-lies_step : (rest : Text) (scope : Package) (i : ℕ) → i < length scope → position_or_len is_slash rest < length rest → lies_in (drop i scope) rest ≡ ahead rest (get_or scope i []) (drop (i + 1) scope)
-lies_step rest scope i within cut = ap₂ (λ (p q : Package). begins_with q p) (drop_more scope i [] within) (front_first rest cut)
+lies_step : (rest : Text) (scope : Package) (i : ℕ) (d : Text) → i < length scope → position_or_len is_slash rest < length rest → lies_in (drop i scope) rest ≡ ahead rest (get_or scope i d) (drop (i + 1) scope)
+lies_step rest scope i d within cut = ap₂ (λ (p q : Package). begins_with q p) (drop_more scope i d within) (front_first rest cut)
 
-pub lies_apart : (rest : Text) (scope : Package) (i end : ℕ) → i < length scope → end ≡ position_or_len is_slash rest → end < length rest → bytes_eq (get_or scope i []) (take end rest) ≡ false → lies_in (drop i scope) rest ≡ false
-lies_apart rest scope i end within is cut differs =
-    let e : bytes_eq (get_or scope i []) (before_first is_slash rest) ≡ false = ap (λ (n : ℕ). bytes_eq (get_or scope i []) (take n rest)) (sym is) ∙ differs in
-    lies_step rest scope i within (omega arith) ∙ ap (λ (x : Bool). x && lies_in (drop (i + 1) scope) (after_first is_slash rest)) e
+pub lies_apart : (rest : Text) (scope : Package) (i end : ℕ) (d : Text) → i < length scope → end ≡ position_or_len is_slash rest → end < length rest → bytes_eq (get_or scope i d) (take end rest) ≡ false → lies_in (drop i scope) rest ≡ false
+lies_apart rest scope i end d within is cut differs =
+    let e : bytes_eq (get_or scope i d) (before_first is_slash rest) ≡ false = ap (λ (n : ℕ). bytes_eq (get_or scope i d) (take n rest)) (sym is) ∙ differs in
+    lies_step rest scope i d within (omega arith) ∙ ap (λ (x : Bool). x && lies_in (drop (i + 1) scope) (after_first is_slash rest)) e
 
-pub lies_on : (rest : Text) (scope : Package) (i end : ℕ) → i < length scope → end ≡ position_or_len is_slash rest → end < length rest → bytes_eq (get_or scope i []) (take end rest) ≡ true
+pub lies_on : (rest : Text) (scope : Package) (i end : ℕ) (d : Text) → i < length scope → end ≡ position_or_len is_slash rest → end < length rest → bytes_eq (get_or scope i d) (take end rest) ≡ true
     → lies_in (drop i scope) rest ≡ lies_in (drop (i + 1) scope) (drop (end + 1) rest)
-lies_on rest scope i end within is cut same =
-    let e : bytes_eq (get_or scope i []) (before_first is_slash rest) ≡ true = ap (λ (n : ℕ). bytes_eq (get_or scope i []) (take n rest)) (sym is) ∙ same in
-    lies_step rest scope i within (omega arith)
+lies_on rest scope i end d within is cut same =
+    let e : bytes_eq (get_or scope i d) (before_first is_slash rest) ≡ true = ap (λ (n : ℕ). bytes_eq (get_or scope i d) (take n rest)) (sym is) ∙ same in
+    lies_step rest scope i d within (omega arith)
     ∙ ap (λ (x : Bool). x && lies_in (drop (i + 1) scope) (after_first is_slash rest)) e
     ∙ ap (λ (n : ℕ). lies_in (drop (i + 1) scope) (drop (n + 1) rest)) (sym is)
+
+-- a test whose opposite is false
+pub from_not : (x : Bool) → false ≡ not x → x ≡ true
+from_not true h = refl
+from_not false h = absurd cc

@@ -65,11 +65,11 @@ fn code_refused(alloc: Global, path: &[u8], fault: CodeFault) -> Result<ClassSit
 }
 
 /// A well-formed class.
-fn sites_of_class(
+fn sites_of_class<'a>(
     alloc: Global,
     scope: &[Text],
-    path: &[u8],
-    class: &ClassView<'_>,
+    path: &'a [u8],
+    class: &ClassView<'a>,
 ) -> Result<ClassSites, Memory>
     ensures { IfOk result (λ answer. answer ≡ sites_of_class scope.now path.now class.now) }
 {
@@ -95,11 +95,11 @@ fn sites_of_class(
 /// package or below it, by place; of an array the element class counts. The scope is that package, by its segments. Where the class
 /// isn't well-formed, and where a code array of it doesn't read, it is one line that says why. It takes the memory of these
 /// lines, of the class as it is read, and 32 bytes a site; the only error is want of memory.
-pub fn class_sites(
+pub fn class_sites<'a>(
     alloc: Global,
     scope: &TextList,
-    path: &Text,
-    bytes: &[u8],
+    path: &'a Text,
+    bytes: &'a [u8],
 ) -> Result<ClassSites, Memory>
     requires { length bytes.now ≤ file_size }
     ensures { IfOk result (λ answer. answer ≡ class_sites scope.now path.now bytes.now) }

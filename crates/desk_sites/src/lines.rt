@@ -92,10 +92,10 @@ fn append_pieces(lines: &mut Text, pieces: &[Piece<'_>]) -> Result<(), Memory>
 }
 
 /// Adds the line of a site. The only error is want of memory.
-pub(crate) fn append_site(
+pub(crate) fn append_site<'a>(
     lines: &mut Text,
-    path: &[u8],
-    pool: &Pool<'_>,
+    path: &'a [u8],
+    pool: &Pool<'a>,
     site: &Site,
 ) -> Result<(), Memory>
     ensures { OnOk result (lines.new ≡ lines.old ++ site_line path.now pool.now.entries site.now) }
@@ -127,10 +127,10 @@ pub(crate) fn append_site(
 
 /// Adds the lines of sites. The only error is want of memory.
 #[tactic(auto, using(desk_base::proofs::Lists::texts_more))]
-pub(crate) fn append_sites(
+pub(crate) fn append_sites<'a>(
     lines: &mut Text,
-    path: &[u8],
-    pool: &Pool<'_>,
+    path: &'a [u8],
+    pool: &Pool<'a>,
     sites: &[Site],
 ) -> Result<(), Memory>
     ensures { OnOk result (lines.new ≡ lines.old ++ flat_map (site_line path.now pool.now.entries) sites.now) }
@@ -143,11 +143,11 @@ pub(crate) fn append_sites(
 
 /// Adds the line of a class that is refused: what its fault is of, and the fault by its name and its place. The only error is
 /// want of memory.
-pub(crate) fn append_refusal(
+pub(crate) fn append_refusal<'a>(
     lines: &mut Text,
-    path: &[u8],
-    of: &[u8],
-    name: &[u8],
+    path: &'a [u8],
+    of: &'a [u8],
+    name: &'a [u8],
     at: u32,
 ) -> Result<(), Memory>
     ensures { OnOk result (lines.new ≡ lines.old ++ refusal path.now of.now name.now at) }

@@ -1,0 +1,3 @@
+pub mod Short
+pub mod Totals
+pub mod ClassFiles

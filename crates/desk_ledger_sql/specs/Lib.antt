@@ -1,0 +1,3 @@
+pub mod Told
+pub mod OverSql
+pub mod Kept
