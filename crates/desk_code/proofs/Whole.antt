@@ -20,13 +20,15 @@ use Rattle.desk_code.specs.Codes.{method_codes, codes_in}
 use Rattle.desk_code.specs.Gathering.{MemberCode, none_found, found_in, placed_code}
 use Rattle.desk_code.proofs.Placing.{Good, body_codes, body_good}
 
-record IsHeld (bytes : List ℕ) (c : Class) : Type 0 where
-  got : ReadTree
-  reads : read c.pool class_body c.body_at (drop c.body_at bytes) ≡ Ok got
-  tree : got.tree ≡ c.body
-  within : c.body_at ≤ length bytes
+-- The body of a class reads to its end from where it stands in the bytes of the class.
+pub record IsHeld (bytes : List ℕ) (c : Class) : Type 0 where
+  pub got : ReadTree
+  pub reads : read c.pool class_body c.body_at (drop c.body_at bytes) ≡ Ok got
+  pub tree : got.tree ≡ c.body
+  pub ends : got.left ≡ []
+  pub within : c.body_at ≤ length bytes
 
-held : (bytes : List ℕ) (c : Class) → IsBytes bytes → read_class bytes ≡ Ok c → IsHeld bytes c
+pub held : (bytes : List ℕ) (c : Class) → IsBytes bytes → read_class bytes ≡ Ok c → IsHeld bytes c
 held bytes c b h =
     let p : ClassParts bytes c = class_ok bytes c b h in
     let o : Spelled [] print_pool 8 (drop 8 bytes) p.pool = (pool_spelled 8 (drop 8 bytes) (IsBytes-drop 8 bytes b)).runs p.pool p.pool_ok in
@@ -37,7 +39,7 @@ held bytes c b h =
     let behind : drop p.pool.at bytes ≡ p.pool.left = ap (drop p.pool.at) whole ∙ drop_at (take 8 bytes ++ print_pool p.pool.value) p.pool.left p.pool.at size in
     let within : p.pool.at ≤ length bytes = omega (arith, ap length whole, length-append (take 8 bytes ++ print_pool p.pool.value) p.pool.left, size) in
     let there : read p.pool.value class_body p.pool.at (drop p.pool.at bytes) ≡ Ok p.body = ap (read p.pool.value class_body p.pool.at) behind ∙ p.body_ok in
-    subst (λ (d : Class). IsHeld bytes d) p.is (record { got = p.body; reads = there; tree = refl; within = within })
+    subst (λ (d : Class). IsHeld bytes d) p.is (record { got = p.body; reads = there; tree = refl; ends = p.ends; within = within })
 
 -- each field and method of a class stands at its place, and holds what its head says
 pub placed_members : (bytes : List ℕ) (c : Class) → IsBytes bytes → read_class bytes ≡ Ok c → Good bytes c.body_at c.body
@@ -45,7 +47,8 @@ placed_members bytes c b h =
     let p : IsHeld bytes c = held bytes c b h in
     subst (λ (t : Tree Use). Good bytes c.body_at t) p.tree (body_good bytes c.pool c.body_at (drop c.body_at bytes) p.got p.reads refl (IsBytes-drop c.body_at bytes b))
 
-found : (r : Result Class Malformed) → fault_in r ≡ None → (c : Class) × (r ≡ Ok c)
+-- the class of bytes without a fault
+pub found : (r : Result Class Malformed) → fault_in r ≡ None → (c : Class) × (r ≡ Ok c)
 found (Ok c) h = (c, refl)
 found (Err f) h = absurd cc
 

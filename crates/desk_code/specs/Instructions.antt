@@ -9,7 +9,7 @@ use Rattle.desk_code.specs.declared.opcodes.Shape.TheVariants as shapes
 use Rattle.desk_code.specs.declared.reader.Instruction.{Instruction}
 use Rattle.desk_base.specs.declared.faults.CodeFault.{CodeFault}
 use Rattle.desk_base.specs.declared.faults.CodeFault.TheVariants as faults
-use Rattle.desk_code.specs.Opcodes.{is_named, shape_of, wide_size}
+use Rattle.desk_code.specs.Opcodes.{is_named, shape_of, wide_size, index_size}
 
 -- ---- one instruction
 
@@ -119,6 +119,10 @@ abbrev pub behind_next : Instructions → Instructions
 behind_next c = elim (c.instructions) [ [] ↦ c | i ∷ is ↦ record { instructions = is; fault = c.fault } ]
 
 -- ---- what they say
+
+-- the bytes of an instruction behind its opcode that are no index
+abbrev pub plain_bytes : List ℕ → Instruction → List ℕ
+plain_bytes code i = drop (1 + index_size (shape_of i.opcode)) (take i.size (drop i.at code))
 
 -- the place, the bytes, and the value of the index if there is one
 pub record ResolvedInstruction : Type 0 where

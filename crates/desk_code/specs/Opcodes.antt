@@ -109,3 +109,10 @@ wide_opcodes =
 
 unfoldable pub wide_size : ℕ → Option ℕ
 wide_size = find_row wide_opcodes
+
+-- ---- how many bytes of index stand behind an opcode
+
+abbrev pub index_size : Option Shape → ℕ
+index_size (Some (shapes.ByteIndex operand)) = 1
+index_size (Some (shapes.Index operand n)) = 2
+index_size _ = 0

@@ -2,8 +2,7 @@
 //!
 //! ```text
 //! for place in codes(alloc, &class)?.iter() {
-//!     let code = &class.bytes()[place.at as usize..][..place.length as usize];
-//!     let mut reader = CodeReader::new(code, class.pool());
+//!     let mut reader = CodeReader::new(place.bytes(class.bytes()), class.pool());
 //!     while let Some(instruction) = reader.next()? { .. }
 //! }
 //! ```

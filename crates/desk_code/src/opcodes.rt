@@ -1,7 +1,7 @@
 //! The table of opcodes (JVMS 6.5).
 
 ghost use Rattle.std.specs.Prelude.{◌≡◌};
-ghost use Rattle.desk_code.specs.Opcodes.{is_named, shape_of, wide_size};
+ghost use Rattle.desk_code.specs.Opcodes.{is_named, shape_of, index_size, wide_size};
 
 use desk_base::Tag;
 
@@ -99,6 +99,17 @@ pub fn shape_of(opcode: u8) -> Option<Shape>
         0xC4 => Some(Shape::Wide),
         0xC5 => Some(Shape::Index(Operand::Class, 1)),
         _ => None,
+    }
+}
+
+/// How many bytes of index stand behind an opcode.
+pub(crate) fn index_size(opcode: u8) -> usize
+    ensures { result ≡ index_size (shape_of opcode) }
+{
+    match shape_of(opcode) {
+        Some(Shape::ByteIndex(_)) => 1,
+        Some(Shape::Index(_, _)) => 2,
+        _ => 0,
     }
 }
 

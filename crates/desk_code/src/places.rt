@@ -56,7 +56,7 @@ fn bytes_of<'a>(view: &ClassView<'a>) -> &'a [u8]
 }
 
 /// The bytes behind so many, or none.
-fn behind(bytes: &[u8], n: usize) -> &[u8]
+pub(crate) fn behind(bytes: &[u8], n: usize) -> &[u8]
     ensures { result.now ≡ drop n bytes.now }
 {
     if bytes.len() < n {
@@ -66,7 +66,7 @@ fn behind(bytes: &[u8], n: usize) -> &[u8]
 }
 
 /// So many bytes at the start, or all.
-fn front(bytes: &[u8], n: usize) -> &[u8]
+pub(crate) fn front(bytes: &[u8], n: usize) -> &[u8]
     ensures { result.now ≡ take n bytes.now }
 {
     if bytes.len() < n {

@@ -3,6 +3,8 @@
 ghost use Rattle.std.specs.Prelude.{◌≡◌, ◌+◌, ◌<◌, length};
 ghost use Rattle.desk_code.specs.Instructions.{Instructions, instructions_from, instructions_of, next_of, behind_next};
 
+use crate::opcodes::index_size;
+use crate::places::{behind, front};
 use crate::steps::instruction_at;
 use desk_base::CodeFault;
 use desk_pool::Pool;
@@ -19,6 +21,18 @@ pub struct Instruction {
     pub size: u32,
     /// The index of the constant pool behind its opcode, of one byte (`ldc`) or two; None where it has none.
     pub index: Option<u16>,
+}
+
+impl Instruction {
+    ghost use Rattle.desk_code.specs.Instructions.{plain_bytes};
+
+    /// The bytes behind its opcode that are no index, in those of the code that it was read from. It takes no memory.
+    pub fn plain_bytes<'c>(&self, code: &'c [u8]) -> &'c [u8]
+        ensures { result.now ≡ plain_bytes code.now self.now }
+    {
+        let bytes = front(behind(code, self.at as usize), self.size as usize);
+        behind(bytes, 1 + index_size(self.opcode))
+    }
 }
 
 /// A reader of a code array (JVMS 4.7.3). Contracts see it as the instructions that are to come, and the fault that ends them

@@ -1,5 +1,5 @@
 -- What the statements that ask for the header and set it do.
-use Rattle.std.proofs.Common.{◌≡◌, inl, inr, ℕ, pos, List, [], ◌∷◌, map, filter, Bool, true, false, ◌&&◌, ◌||◌, arith, Some, None, Ok, refl, sym, ap, subst, ◌∙◌, is_eq}
+use Rattle.std.proofs.Common.{◌≡◌, inl, ℕ, pos, List, [], ◌∷◌, map, filter, Bool, true, false, ◌&&◌, ◌||◌, arith, Some, None, Ok, refl, sym, ap, subst, ◌∙◌, is_eq}
 use Rattle.std.proofs.lemmas.Cmp.{tied_itself}
 use Rattle.std.proofs.lemmas.List.Sorted.{IsPermutation-sym}
 use Rattle.std.specs.List.Sorted.{IsPermutation}

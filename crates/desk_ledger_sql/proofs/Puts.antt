@@ -1,9 +1,8 @@
 -- What the statement that puts a row makes of what the tables tell.
-use Rattle.std.proofs.Common.{◌≡◌, inl, inr, ℕ, ℤ, List, [], ◌∷◌, ◌++◌, filter, map, Bool, true, false, ◌&&◌, ◌||◌, arith, Some, None, Ok, refl, sym, ap, subst, ◌∙◌, Option, Equal, is_eq}
+use Rattle.std.proofs.Common.{◌≡◌, inl, inr, ℕ, ℤ, List, [], ◌∷◌, ◌++◌, filter, Bool, true, false, ◌&&◌, ◌||◌, arith, Some, None, Ok, refl, sym, ap, subst, ◌∙◌, Option, is_eq}
 use Rattle.std.proofs.lemmas.Bool.{and_parts, cases_Bool, false_from_ne_true, not-true}
 use Rattle.std.proofs.lemmas.Cmp.{tied_itself}
 use Rattle.std.specs.List.{AllByRecursion}
-use Rattle.std.specs.List.Sorted.{IsPermutation}
 use Rattle.std.specs.FinMap as fin
 use Rattle.sqlite.specs.declared.types.Value.{Value}
 use Rattle.sqlite.specs.declared.types.Value.TheVariants.{Null, Int, Blob}
@@ -34,6 +33,7 @@ use Rattle.sqlite.specs.Rows.{Written, Clears, Meets, Puts, Updates, Upserts}
 use Rattle.sqlite.specs.State.{State, mode_of, Executes}
 use Rattle.sqlite.proofs.Callers.{one_permutation, one_step, statement_of, runs_as}
 use Rattle.desk_base.specs.Names.{Text}
+use Rattle.desk_base.proofs.Orderings.{equal_is}
 use Rattle.desk_ledger.specs.declared.digest.Digest.{Digest}
 use Rattle.desk_ledger.specs.declared.keeper.Held.{Held}
 use Rattle.desk_ledger.specs.declared.keeper.Row as desk
@@ -45,9 +45,9 @@ use Rattle.desk_ledger_tables.specs.Tables.{rows_table, ledger_schema}
 use Rattle.desk_ledger_tables.proofs.Meanings.{command_found}
 use Rattle.desk_ledger_sql.specs.Told.{AreApart, IsAt, IsRow, IsLedger, held_in_row, ledger_in, meets, target_in}
 use Rattle.desk_ledger_sql.proofs.Statements.{went, same_value, written_at}
-use Rattle.desk_ledger_sql.proofs.Shown.{answered, equal_blob, equal_int, passes, shows}
+use Rattle.desk_ledger_sql.proofs.Shown.{and_true, answered, equal_blob, equal_int, passes, shows}
 use Rattle.desk_ledger_sql.proofs.Changes.{task_on, KeepsOthers, IsPut, new_row, puts, inserts, cast_null, cast_int}
-use Rattle.desk_ledger_sql.proofs.Rows.{Marks, all_left, equal_is, itself, left_apart, one_text, put_apart, replaced, stays_apart, table_left}
+use Rattle.desk_ledger_sql.proofs.Rows.{Marks, all_left, left_apart, one_text, put_apart, replaced, stays_apart, table_left}
 
 abbrev pub rows_at : Table
 rows_at = record rows_table { tree = 1 }
@@ -65,10 +65,6 @@ output_back (Some d) = refl
 bare : (b : Bool) → ((b && true) || false) ≡ b
 bare true = refl
 bare false = refl
-
-and_true : (b : Bool) → (b && true) ≡ b
-and_true true = refl
-and_true false = refl
 
 -- a row conflicts with a new one under the target where it has the new one's
 conflict_is : (id : ℤ) (t s d : Text) (out : Value) (r : Row) → IsRow r → conflicts (Some (1 ∷ [])) ledger_schema.indexes rows_at (stored id t s d out) r ≡ meets t r

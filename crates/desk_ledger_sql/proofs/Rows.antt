@@ -25,17 +25,13 @@ use Rattle.sqlite_rules.proofs.PlaceLemmas.{tied_same}
 use Rattle.sqlite_rules.proofs.TableLemmas.{int_is, put_has}
 use Rattle.desk_base.specs.Names.{Text}
 use Rattle.desk_ledger.specs.declared.keeper.Held.{Held}
+use Rattle.desk_base.proofs.Orderings.{equal_is}
 use Rattle.desk_base.proofs.TextEntries.{entry_at, one_inserted}
 use Rattle.desk_ledger.proofs.Entries.{one_removed}
 use Rattle.desk_ledger_sql.specs.Told.{AreApart, IsRow, target_in, held_in_row, entry_in, meets}
 
 abbrev pub at_target : List Row → Text → Option Held
 at_target rows q = entry_at (map entry_in rows) q
-
-pub equal_is : (o : Ordering) → is_eq o ≡ true → o ≡ Equal
-equal_is Less h = absurd (cc)
-equal_is Equal h = refl
-equal_is Greater h = absurd (cc)
 
 pub one_text : (a b : Text) → is_at (slice_cmp nat_cmp a) b ≡ true → a ≡ b
 one_text a b h = slice_cmp-IsAntisymmetric nat_cmp-IsAntisymmetric a b (equal_is _ h)

@@ -1,5 +1,5 @@
 -- Which rows of a table a query shows, and what `=` on bytes and on numbers is.
-use Rattle.std.proofs.Common.{◌≡◌, inl, inr, ℕ, List, [], ◌∷◌, map, filter, flat_map, Bool, true, false, cond, Some, IsTrue, refl, ap, ◌∙◌, is_eq}
+use Rattle.std.proofs.Common.{◌≡◌, inl, inr, ℕ, List, [], ◌∷◌, map, filter, flat_map, Bool, true, false, ◌&&◌, cond, Some, IsTrue, refl, ap, ◌∙◌, is_eq}
 use Rattle.std.proofs.lemmas.Bool.{cases_Bool}
 use Rattle.std.proofs.lemmas.Cmp.{nat_list_cmp_total}
 use Rattle.std.proofs.lemmas.List.Sorted.{IsPermutation-map, length_permutation}
@@ -54,6 +54,10 @@ module _ (tree : ℕ) (fs project : List Term) (params : Row) where
       let first : map (λ (o : Output). o.1) a.kept ≡ map (shows project params) (filter (passes fs params) (db tree)) = ap (map (λ (o : Output). o.1)) kept ∙ selected (db tree) in
       let last : rows ≡ map (λ (o : Output). o.1) a.ordered = a.shown in
       rw (← first, last) (IsPermutation-map (λ (o : Output). o.1) a.kept a.ordered a.same)
+
+pub and_true : (b : Bool) → (b && true) ≡ b
+and_true true = refl
+and_true false = refl
 
 truth_of : (b : Bool) → is_true (from_truth (Some b)) ≡ b
 truth_of true = refl

@@ -25,7 +25,6 @@ use Rattle.sqlite.specs.State.{State, mode_of, Executes, Shown}
 use Rattle.sqlite.proofs.Callers.{one_step, one_permutation, statement_of, runs_as, reads_as}
 use Rattle.desk_base.specs.Names.{Text}
 use Rattle.desk_base.proofs.TextEntries.{get_text}
-use Rattle.desk_ledger.specs.declared.keeper.Row as desk
 use Rattle.desk_ledger.specs.Ledger.{row_at, without_row}
 use Rattle.desk_ledger_tables.specs.declared.statements.Statement.TheVariants.{FindRow, ForgetRow}
 use Rattle.desk_ledger_tables.specs.Rows.{shown_row}
@@ -35,13 +34,9 @@ use Rattle.desk_ledger_tables.proofs.Meanings.{command_found}
 use Rattle.desk_ledger_sql.specs.Told.{IsRow, IsLedger, Shows, entry_in, held_in_row, ledger_in, meets, target_in}
 use Rattle.desk_ledger_sql.proofs.Statements.{went, same_value, written_at}
 use Rattle.desk_ledger_sql.proofs.Changes.{task_on, KeepsOthers}
-use Rattle.desk_ledger_sql.proofs.Shown.{passes, shows, answered, equal_blob, no_image, no_permutation, one_image}
+use Rattle.desk_ledger_sql.proofs.Shown.{and_true, passes, shows, answered, equal_blob, no_image, no_permutation, one_image}
 use Rattle.desk_ledger_sql.proofs.Rows.{Marks, at_target, has_permuted, removed, table_left, all_left, left_apart, one_text}
 use Rattle.desk_ledger_sql.proofs.Puts.{rows_at}
-
-and_true : (b : Bool) → (b && true) ≡ b
-and_true true = refl
-and_true false = refl
 
 -- the test of both statements is whether the row has the target
 passes_is : (t : Text) (r : Row) → IsRow r → passes (has_target ∷ []) (Blob t ∷ []) r ≡ meets t r

@@ -154,7 +154,7 @@ fn totals_kept<R: Threads + Sync, K: Keeper, G: Gate + Sync>(
 
 /// Writes the totals of a run, or hands on how it ended before them.
 fn tell_totals<O: Sink>(out: &mut O, totals: Result<Summary, Status>) -> Status
-    ensures { TellsResult totals (O.told out.old) (O.told out.new) (O.faults out.old) (O.faults out.new) result }
+    ensures told { TellsResult totals (O.told out.old) (O.told out.new) (O.faults out.old) (O.faults out.new) result }
     ensures counts { O.faults out.old ≤ O.faults out.new }
 {
     match totals {

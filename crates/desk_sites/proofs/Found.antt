@@ -1,7 +1,5 @@
 -- Sites, one after the other.
-use Rattle.std.specs.Prelude.{◌&&◌}
-use Rattle.std.proofs.Common.{◌≡◌, ℕ, ◌+◌, ◌-◌, ◌<◌, ◌≤◌, Bool, true, false, cond, List, [], ◌∷◌, ◌++◌, length, take, drop, get_or, map, filter, Option, Some, None, option_map, refl, sym, ap, ap₂, subst, ◌∙◌, append_assoc, append-nil, arith, length-drop}
-use Rattle.std.specs.List.{flat_map}
+use Rattle.std.proofs.Common.{◌≡◌, ℕ, ◌+◌, ◌<◌, ◌≤◌, Bool, true, false, cond, List, [], ◌∷◌, ◌++◌, length, take, drop, get_or, map, filter, Option, Some, None, option_map, sym, ap, ◌∙◌, append_assoc, append-nil, arith, length-drop}
 use Rattle.std.proofs.lemmas.List.{drop_more, drop_all, length-take}
 use Rattle.desk_base.specs.Names.{Text, Package}
 use Rattle.desk_base.specs.Entries.{Pool}
@@ -11,11 +9,10 @@ use Rattle.desk_code.specs.declared.places.CodeAt.{CodeAt}
 use Rattle.desk_code.specs.declared.reader.Instruction.{Instruction}
 use Rattle.desk_code.specs.Codes.{code_bytes}
 use Rattle.desk_code.specs.Faults.{place_of}
-use Rattle.desk_code.specs.Instructions.{Instructions}
 use Rattle.desk_code.proofs.Within.{fault_inside}
 use Rattle.desk_sites.specs.declared.sites.Site.{Site}
 use Rattle.desk_sites.specs.Faults.{moved_fault}
-use Rattle.desk_sites.specs.Sites.{is_site, site_in, sites_among, read_code, code_fault, first_fault}
+use Rattle.desk_sites.specs.Sites.{is_site, site_in, sites_among, read_code, first_fault}
 
 -- ---- the sites among instructions
 

@@ -1,3 +1,4 @@
 mod Dimensions
 mod Segments
 mod Found
+mod Rows

@@ -1,5 +1,5 @@
 -- What one class file gives.
-use Rattle.std.specs.Prelude.{ℕ, true, false, List, length, Option, Some, None, codes}
+use Rattle.std.specs.Prelude.{true, false, List, length, Option, Some, None, codes}
 use Rattle.std.specs.List.{flat_map}
 use Rattle.desk_base.specs.Names.{Text, Package}
 use Rattle.desk_base.specs.Entries.{Pool}

@@ -1,5 +1,5 @@
 -- Which classes lie in a package.
-use Rattle.std.specs.Prelude.{ℕ, ◌-◌, ◌==◌, Bool, false, List, [], ◌∷◌, length, take, Option, Some, None, if◌then◌else◌}
+use Rattle.std.specs.Prelude.{ℕ, ◌-◌, ◌==◌, Bool, false, [], ◌∷◌, length, take, Option, Some, None, if◌then◌else◌}
 use Rattle.desk_base.specs.Names.{Text, Package, segments, begins_with, front, slash}
 
 abbrev pub is_slash : ℕ → Bool

@@ -15,4 +15,3 @@ mod packages;
 mod sites;
 
 pub use class::{ClassSites, class_sites};
-pub use sites::Site;

@@ -14,8 +14,8 @@ use desk_pool::Pool;
 use std::alloc::Global;
 
 /// A call site: an instruction that names a member, and the code array in which it stands.
-#[derive(Clone, Copy, Debug, PartialEq, Eq)]
-pub struct Site {
+#[derive(Clone, Copy)]
+pub(crate) struct Site {
     /// The code array, with its method.
     pub code: CodeAt,
     /// The instruction.

@@ -1,10 +1,10 @@
 -- The text of the statement that writes rows, and the values of its parameters.
-use Rattle.std.specs.Prelude.{ℕ, zero, suc, ◌-◌, List, [], ◌∷◌, ◌++◌, Option, Some, None, codes}
+use Rattle.std.specs.Prelude.{ℕ, zero, suc, ◌-◌, List, [], ◌++◌, codes}
+use Rattle.std.specs.List.{flat_map}
 use Rattle.sqlite.specs.declared.types.Value.{Value}
-use Rattle.sqlite.specs.declared.types.Value.TheVariants.{Blob, Null}
 use Rattle.desk_base.specs.Names.{Text}
-use Rattle.desk_ledger.specs.declared.digest.Digest.{Digest}
 use Rattle.desk_ledger.specs.declared.keeper.Row.{Row}
+use Rattle.desk_ledger_tables.specs.Rows.{row_values}
 use Rattle.desk_sqlite.specs.declared.tables.OnConflict.{OnConflict}
 use Rattle.desk_sqlite.specs.declared.tables.OnConflict.TheVariants.{Abort, Replace}
 
@@ -22,12 +22,6 @@ further (suc n) = further n ++ codes ", (?, ?, ?, ?)"
 abbrev pub insertion : OnConflict → ℕ → Text
 insertion on_conflict rows = verb on_conflict ++ codes " INTO rows2 VALUES (?, ?, ?, ?)" ++ further (rows - 1)
 
--- the value of an output: its bytes, or none
-abbrev pub output_of : Option Digest → Value
-output_of None = Null
-output_of (Some digest) = Blob digest.0
-
--- the values of rows, one behind the other: target, source, digest and output of each
+-- the values of rows, one behind the other
 abbrev pub values_in : List Row → List Value
-values_in [] = []
-values_in (row ∷ rows) = Blob row.target ∷ (Blob row.source ∷ (Blob row.digest.0 ∷ (output_of row.output ∷ values_in rows)))
+values_in rows = flat_map row_values rows

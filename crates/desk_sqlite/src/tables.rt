@@ -1,27 +1,19 @@
-//! The tables of a ledger: one holds the header, one the rows by their targets, and one notes the working folder of
+//! The tables of a ledger's file: one holds the header, one the rows by their targets, and one notes the working folder of
 //! relative roots. In format 1 the rows have no outputs; a ledger of that format is taken over when it is opened.
 
-ghost use Rattle.std.specs.Prelude.{◌≡◌, ◌≢◌, string_bytes, IfOk, OnOk};
-ghost use Rattle.sqlite.specs.Value.{owned};
-ghost use Rattle.sqlite.specs.Values.{bound, bound_value};
-ghost use Rattle.desk_sqlite.specs.Statements.{insertion, output_of, values_in, verb};
+ghost use Rattle.std.specs.Prelude.{◌≡◌, string_bytes, IfOk, OnOk};
+ghost use Rattle.sqlite.specs.Values.{bound};
+ghost use Rattle.desk_sqlite.specs.Statements.{insertion, values_in, verb};
 
 use crate::database::Database;
 use crate::waiting::UnwrittenRows;
 use desk_base::Text;
 use desk_faults::{Cause, Refusal};
-use desk_ledger::{Contents, Digest, Header, Row};
+use desk_ledger::{Contents, Header, Row};
+use desk_ledger_tables::{Statement, Unread, header_values, read_header, read_row, row_values};
 use sqlite::types::ValueRef;
 use sqlite::{Row as TableRow, params};
 use std::alloc::{AllocError, Global};
-
-/// The table with the header, whose only row has the number 1.
-const HEADER: &str =
-    "CREATE TABLE header (number INTEGER PRIMARY KEY, from_root BLOB NOT NULL, to_root BLOB NOT NULL, rules BLOB NOT NULL) STRICT";
-
-/// The table with the rows.
-const ROWS: &str =
-    "CREATE TABLE rows2 (target BLOB NOT NULL PRIMARY KEY, source BLOB NOT NULL, digest BLOB NOT NULL, output BLOB) STRICT";
 
 /// The table with the rows of format 1.
 const WRITTEN: &str =
@@ -33,8 +25,8 @@ const FOLDER: &str = "CREATE TABLE folder (number INTEGER PRIMARY KEY, path BLOB
 fn make_all(database: &mut Database) -> Result<(), Refusal>
     ensures { OnOk result (database.new ≡ database.old) }
 {
-    database.run(HEADER, &[])?;
-    database.run(ROWS, &[])?;
+    database.run(Statement::MakeHeaders.text(), &[])?;
+    database.run(Statement::MakeRows.text(), &[])?;
     database.run(FOLDER, &[])
 }
 
@@ -51,7 +43,7 @@ fn make(database: &mut Database) -> Result<(), Refusal>
 fn move_rows(database: &mut Database) -> Result<(), Refusal>
     ensures { OnOk result (database.new ≡ database.old) }
 {
-    database.run(ROWS, &[])?;
+    database.run(Statement::MakeRows.text(), &[])?;
     database.run(
         "INSERT INTO rows2 SELECT target, source, digest, NULL FROM written",
         &[],
@@ -80,16 +72,21 @@ fn take_over(database: &mut Database, has_folder: bool) -> Result<(), Refusal>
     database.end(moved)
 }
 
-/// Whether this was made by the given statement.
+/// Whether this was made by a statement with this text.
 fn is_made_by(found: &TableRow, statement: &str) -> bool {
     matches!(found.get_ref(0), Ok(ValueRef::Text(text)) if text == statement.as_bytes())
+}
+
+/// Whether this is the table of the header.
+fn is_header_table(found: &TableRow) -> bool {
+    is_made_by(found, Statement::MakeHeaders.text())
 }
 
 /// Leaves the table of the rows as it is, or takes the one of format 1 over.
 fn settle_rows(database: &mut Database, found: &TableRow) -> Result<(), Refusal>
     ensures { OnOk result (database.new ≡ database.old) }
 {
-    if is_made_by(found, ROWS) {
+    if is_made_by(found, Statement::MakeRows.text()) {
         Ok(())
     } else if is_made_by(found, WRITTEN) {
         take_over(database, true)
@@ -108,10 +105,10 @@ pub(crate) fn make_tables(database: &mut Database) -> Result<(), Refusal>
     )?;
     match found.as_slice() {
         [] => make(database),
-        [first, second] if is_made_by(first, HEADER) && is_made_by(second, WRITTEN) => {
+        [first, second] if is_header_table(first) && is_made_by(second, WRITTEN) => {
             take_over(database, false)
         }
-        [first, second, third] if is_made_by(first, FOLDER) && is_made_by(second, HEADER) => {
+        [first, second, third] if is_made_by(first, FOLDER) && is_header_table(second) => {
             settle_rows(database, third)
         }
         _ => Err(Refusal::Failed(Cause::Tables)),
@@ -130,59 +127,27 @@ fn text_at(alloc: Global, found: &TableRow, column: usize) -> Result<Text, Refus
     Ok(Text::from_bytes(alloc, bytes_at(found, column)?)?)
 }
 
-/// The digest that these bytes are.
-fn digest_in(bytes: &[u8]) -> Result<Digest, Refusal> {
-    if bytes.len() != 32 {
-        return Err(Refusal::Failed(Cause::Unsound));
+/// What it means that a header or a row isn't read.
+fn unread(why: Unread) -> Refusal {
+    match why {
+        Unread::Unsound => Refusal::Failed(Cause::Unsound),
+        Unread::Memory => Refusal::Memory,
     }
-    let mut digest = [0; 32];
-    digest.copy_from_slice(bytes);
-    Ok(Digest(digest))
-}
-
-fn digest_at(found: &TableRow, column: usize) -> Result<Digest, Refusal> {
-    digest_in(bytes_at(found, column)?)
-}
-
-/// The digest in a column that may hold none.
-fn output_at(found: &TableRow, column: usize) -> Result<Option<Digest>, Refusal> {
-    match found.get_ref(column) {
-        Ok(ValueRef::Null) => Ok(None),
-        Ok(ValueRef::Blob(bytes)) => Ok(Some(digest_in(bytes)?)),
-        _ => Err(Refusal::Failed(Cause::Unsound)),
-    }
-}
-
-fn header_in(alloc: Global, found: &TableRow) -> Result<Header, Refusal> {
-    Ok(Header {
-        from: text_at(alloc, found, 0)?,
-        to: text_at(alloc, found, 1)?,
-        rules: digest_at(found, 2)?,
-    })
-}
-
-fn row_in(alloc: Global, found: &TableRow) -> Result<Row, Refusal> {
-    Ok(Row {
-        target: text_at(alloc, found, 0)?,
-        source: text_at(alloc, found, 1)?,
-        digest: digest_at(found, 2)?,
-        output: output_at(found, 3)?,
-    })
 }
 
 /// Takes the header that the tables hold, if there is one.
-fn read_header(
+fn take_header(
     alloc: Global,
     database: &mut Database,
     contents: &mut Contents,
 ) -> Result<(), Refusal>
     ensures { OnOk result (database.new ≡ database.old) }
 {
-    let found = database.query("SELECT from_root, to_root, rules FROM header")?;
+    let found = database.query(Statement::FindHeader.text())?;
     match found.as_slice() {
         [] => Ok(()),
         [one] => {
-            contents.set_header(header_in(alloc, one)?);
+            contents.set_header(read_header(alloc, one).map_err(unread)?);
             Ok(())
         }
         _ => Err(Refusal::Failed(Cause::Unsound)),
@@ -191,15 +156,15 @@ fn read_header(
 
 /// Takes a row that was found.
 fn take_row(alloc: Global, found: &TableRow, contents: &mut Contents) -> Result<(), Refusal> {
-    contents.put(row_in(alloc, found)?)?;
+    contents.put(read_row(alloc, found).map_err(unread)?)?;
     Ok(())
 }
 
 /// Takes the rows that the tables hold.
-fn read_rows(alloc: Global, database: &mut Database, contents: &mut Contents) -> Result<(), Refusal>
+fn take_rows(alloc: Global, database: &mut Database, contents: &mut Contents) -> Result<(), Refusal>
     ensures { OnOk result (database.new ≡ database.old) }
 {
-    for found in database.query("SELECT target, source, digest, output FROM rows2")? {
+    for found in database.query(Statement::FindRows.text())? {
         take_row(alloc, &found, contents)?;
     }
     Ok(())
@@ -210,8 +175,8 @@ pub(crate) fn read_contents(alloc: Global, database: &mut Database) -> Result<Co
     ensures { OnOk result (database.new ≡ database.old) }
 {
     let mut contents = Contents::new(alloc);
-    read_header(alloc, database, &mut contents)?;
-    read_rows(alloc, database, &mut contents)?;
+    take_header(alloc, database, &mut contents)?;
+    take_rows(alloc, database, &mut contents)?;
     Ok(contents)
 }
 
@@ -241,14 +206,7 @@ pub(crate) fn write_folder(database: &mut Database, path: &Text) -> Result<(), R
 pub(crate) fn write_header(database: &mut Database, header: &Header) -> Result<(), Refusal>
     ensures { OnOk result (database.new ≡ database.old) }
 {
-    database.run(
-        "INSERT OR REPLACE INTO header VALUES (1, ?1, ?2, ?3)",
-        params![
-            header.from.as_bytes(),
-            header.to.as_bytes(),
-            header.rules.0.as_slice(),
-        ],
-    )
+    database.run(Statement::SetHeader.text(), &header_values(header))
 }
 
 /// What a statement does with a row whose target has one already.
@@ -285,26 +243,13 @@ fn insertion_of(alloc: Global, rows: usize, on_conflict: OnConflict) -> Result<S
     Ok(text)
 }
 
-/// The value of a row's output: none where it has none.
-fn output_value(row: &Row) -> ValueRef<'_>
-    ensures { bound_value (owned result) ≡ output_of row.now.output }
-{
-    match &row.output {
-        Some(digest) => ValueRef::Blob(digest.0.as_slice()),
-        None => ValueRef::Null,
-    }
-}
-
 /// The values of rows, one behind the other.
 fn values_of(alloc: Global, rows: &[Row]) -> Result<Vec<ValueRef<'_>>, AllocError>
     ensures { IfOk result (λ values. bound values.items ≡ values_in rows.now) }
 {
     let mut values = Vec::new(alloc);
     for row in rows {
-        values.push(ValueRef::Blob(row.target.as_bytes()))?;
-        values.push(ValueRef::Blob(row.source.as_bytes()))?;
-        values.push(ValueRef::Blob(row.digest.0.as_slice()))?;
-        values.push(output_value(row))?;
+        values.extend_from_slice(&row_values(row))?;
     }
     Ok(values)
 }
@@ -336,10 +281,7 @@ pub(crate) fn write_rows(
 fn remove(database: &mut Database, target: &Text) -> Result<(), Refusal>
     ensures { OnOk result (database.new ≡ database.old) }
 {
-    database.run(
-        "DELETE FROM rows2 WHERE target = ?1",
-        params![target.as_bytes()],
-    )
+    database.run(Statement::ForgetRow.text(), params![target.as_bytes()])
 }
 
 fn write_and_remove(

@@ -17,5 +17,5 @@ mod packages;
 mod roots;
 mod words;
 
-pub use roots::{Order, Root, Roots, RootsFault, read_order};
+pub use roots::{Order, Query, Root, Roots, RootsFault, read_order};
 pub use words::{Task, WordsFault, read_words};

@@ -1,28 +1,37 @@
-use Rattle.std.proofs.Common.{subst, sym}
+use Rattle.std.proofs.Common.{refl, subst, sym}
+use Rattle.sqlite_tied.specs.Compute.{everything}
+use Rattle.sqlite.specs.Listing.{understood}
 use Rattle.desk_ledger_tables.specs.Statements.{Means}
-use Rattle.desk_ledger_tables.proofs.Texts.{make_headers, make_rows, set_header, find_header, put_row, find_row, find_rows, forget_row}
 use Rattle.desk_ledger_tables.proofs.statements.Statement.text.Goals as goal
 
 pub returns-in-MakeHeaders : goal.returns-in-MakeHeaders
-returns-in-MakeHeaders c = subst (λ statement. Means statement _) (sym c.in-MakeHeaders.is) make_headers
+unfolding understood everything
+returns-in-MakeHeaders c = subst (λ statement. Means statement _) (sym c.in-MakeHeaders.is) (record { command_is = refl; plain = (refl, refl); whole = refl; unlisted = refl; made = refl })
 
 pub returns-in-MakeRows : goal.returns-in-MakeRows
-returns-in-MakeRows c = subst (λ statement. Means statement _) (sym c.in-MakeRows.is) make_rows
+unfolding understood everything
+returns-in-MakeRows c = subst (λ statement. Means statement _) (sym c.in-MakeRows.is) (record { command_is = refl; plain = (refl, refl); whole = refl; unlisted = refl; made = refl })
 
 pub returns-in-SetHeader : goal.returns-in-SetHeader
-returns-in-SetHeader c = subst (λ statement. Means statement _) (sym c.in-SetHeader.is) set_header
+unfolding understood everything
+returns-in-SetHeader c = subst (λ statement. Means statement _) (sym c.in-SetHeader.is) (record { command_is = refl; plain = (refl, refl); whole = refl; unlisted = refl; made = tt })
 
 pub returns-in-FindHeader : goal.returns-in-FindHeader
-returns-in-FindHeader c = subst (λ statement. Means statement _) (sym c.in-FindHeader.is) find_header
+unfolding understood everything
+returns-in-FindHeader c = subst (λ statement. Means statement _) (sym c.in-FindHeader.is) (record { command_is = refl; plain = (refl, refl); whole = refl; unlisted = refl; made = tt })
 
 pub returns-in-PutRow : goal.returns-in-PutRow
-returns-in-PutRow c = subst (λ statement. Means statement _) (sym c.in-PutRow.is) put_row
+unfolding understood everything
+returns-in-PutRow c = subst (λ statement. Means statement _) (sym c.in-PutRow.is) (record { command_is = refl; plain = (refl, refl); whole = refl; unlisted = refl; made = tt })
 
 pub returns-in-FindRow : goal.returns-in-FindRow
-returns-in-FindRow c = subst (λ statement. Means statement _) (sym c.in-FindRow.is) find_row
+unfolding understood everything
+returns-in-FindRow c = subst (λ statement. Means statement _) (sym c.in-FindRow.is) (record { command_is = refl; plain = (refl, refl); whole = refl; unlisted = refl; made = tt })
 
 pub returns-in-FindRows : goal.returns-in-FindRows
-returns-in-FindRows c = subst (λ statement. Means statement _) (sym c.in-FindRows.is) find_rows
+unfolding understood everything
+returns-in-FindRows c = subst (λ statement. Means statement _) (sym c.in-FindRows.is) (record { command_is = refl; plain = (refl, refl); whole = refl; unlisted = refl; made = tt })
 
 pub returns-in-ForgetRow : goal.returns-in-ForgetRow
-returns-in-ForgetRow c = subst (λ statement. Means statement _) (sym c.in-ForgetRow.is) forget_row
+unfolding understood everything
+returns-in-ForgetRow c = subst (λ statement. Means statement _) (sym c.in-ForgetRow.is) (record { command_is = refl; plain = (refl, refl); whole = refl; unlisted = refl; made = tt })

@@ -1,0 +1,10 @@
+mod Beside
+mod Laws
+mod Sized
+mod Alike
+mod Moved
+mod Levels
+mod SameValues
+mod SameCodes
+mod SameClasses
+mod Merge

@@ -1,0 +1,12 @@
+use Rattle.std.proofs.Common.{◌≡◌, length}
+use Rattle.desk_compare.specs.Codes.{same_instructions}
+use Rattle.desk_compare.proofs.codes.same_instructions.Given as goal
+
+abbrev pub invariant-loop-other : goal.invariant-loop-other
+invariant-loop-other l =
+    (same_instructions l.left.entries l.right.entries l.left_code l.right_code l.one.instructions l.other.instructions
+    ≡ same_instructions l.left.entries l.right.entries l.left_code l.right_code l.initial.one.instructions l.initial.other.instructions)
+    × (l.one.fault ≡ l.initial.one.fault) × (l.other.fault ≡ l.initial.other.fault)
+
+abbrev pub decreases-loop-other : goal.decreases-loop-other
+decreases-loop-other l = length l.one.instructions

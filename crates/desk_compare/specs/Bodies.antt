@@ -1,0 +1,50 @@
+-- The bodies of two classes, walked along at once: a walk goes on in both as the left one is laid out, and ends at a difference.
+use Rattle.std.specs.Prelude.{ℕ, Bool, ◌&&◌, ◌==◌, nat_le, List, length, take, drop, Option, Some, None, if◌then◌else◌}
+use Rattle.std.specs.Int.{Width, w16, byte_len, from_be_bytes}
+use Rattle.std.specs.Str.{bytes_eq}
+use Rattle.desk_base.specs.declared.kinds.UseKind.{UseKind}
+use Rattle.desk_base.specs.Entries.{Pool, text_at}
+use Rattle.desk_parts.specs.Steps.{Steps}
+use Rattle.desk_compare.specs.Values.{same_of_kind}
+use Rattle.desk_compare.specs.Codes.{same_code}
+
+-- what is left of both
+pub record Pair : Type 0 where
+  pub left : List ℕ
+  pub right : List ℕ
+
+abbrev pub pair : List ℕ → List ℕ → Pair
+pair s t = record { left = s; right = t }
+
+-- so many bytes of each, which pass a test of two
+abbrev pub bytes_by : ℕ → (List ℕ → List ℕ → Bool) → Pair → Option Pair
+bytes_by n test p =
+    if nat_le n (length p.left) && nat_le n (length p.right) && test (take n p.left) (take n p.right) then Some (pair (drop n p.left) (drop n p.right)) else None
+
+-- the number in front of the left body
+abbrev pub ahead : Width → Pair → ℕ
+ahead w p = from_be_bytes w (take (byte_len w) p.left)
+
+-- How two bodies are compared where they aren't compared by their bytes: two indices of a use kind, and two code arrays. The names
+-- of attributes are those of the pool of the left one.
+pub record Tests : Type 0 where
+  pub pool : Pool
+  pub index : UseKind → ℕ → ℕ → Bool
+  pub code : List ℕ → List ℕ → Bool
+
+abbrev pub comparing : Tests → Steps Pair
+comparing by = record {
+  bytes = λ n p. bytes_by n bytes_eq p;
+  ahead = ahead;
+  index = λ kind p. bytes_by 2 (λ s t. by.index kind (from_be_bytes w16 s) (from_be_bytes w16 t)) p;
+  code = λ n p. bytes_by n by.code p;
+  name = λ p. text_at by.pool (ahead w16 p);
+  enter = λ n p. if nat_le n (length p.left) then Some (pair (take n p.left) p.right) else None;
+  behind = λ n p. record { at = 0; left = drop n p.left };
+  leave = λ spot p. if length p.left == 0 then Some (pair spot.left p.right) else None;
+  member = λ p. p;
+}
+
+-- over the pools of both classes
+abbrev pub two_pools : Pool → Pool → Tests
+two_pools left right = record { pool = left; index = same_of_kind left right; code = same_code left right }

@@ -1,0 +1,5 @@
+pub mod Free
+pub mod Verdicts
+pub mod Values
+pub mod Codes
+pub mod Bodies
