@@ -72,7 +72,7 @@ pub count_more : (scope : Package) (found new : List ClassSites) (read : Option 
 count_more scope found new read n le grown =
     let few = few_read read in
     let size : length new ≡ length found + length (classes_of read) = ap (λ (f : List ClassSites). length f) grown ∙ length-append found (map (sites_in scope) (classes_of read))
-        ∙ ap (λ k. length found + k) (length-map (classes_of read) (sites_in scope)) in
+    ∙ ap (λ k. length found + k) (length-map (classes_of read) (sites_in scope)) in
     omega (arith, few, size, le)
 
 pub split_now : (paths gone : List Text) (path : Text) → map (λ x. x) gone ≡ take (length gone) paths → length gone < length paths → path ≡ get_or paths (length gone) path → paths ≡ gone ++ path ∷ drop (suc (length gone)) paths
@@ -113,8 +113,8 @@ halts_reading scope from told now all gone rest path f f1 f' halt.Ledger same le
 halts_reading scope from told now all gone rest path f f1 f' (halt.Answer status) same le listed clear split fit g = (
   g.0,
   if_some (λ m. calls_answer scope from m ≡ Err status) told (λ m e.
-  limit_stands scope from m status (at_some (λ m. paths_answer from itself (paths_below from m) ≡ None) told m e clear)
-  (size_stands from m all gone rest path status (at_some (λ m. all ≡ paths_below from m) told m e listed) split (fit m e)
+      limit_stands scope from m status (at_some (λ m. paths_answer from itself (paths_below from m) ≡ None) told m e clear)
+      (size_stands from m all gone rest path status (at_some (λ m. all ≡ paths_below from m) told m e listed) split (fit m e)
       (at_some (λ m. class_size_answer (file_at from m path ∷ []) ≡ Some status) now m (same ∙ e) g.1))),
 )
 
@@ -125,7 +125,7 @@ halts_listing scope from told f f' halt.Ledger g = absurd g
 halts_listing scope from told f f' (halt.Answer status) g = (
   g.0,
   if_some (λ m. calls_answer scope from m ≡ Err status) told (λ m e.
-  ap (λ o. unless_limit (first_of o (class_size_answer (files_below from m))) (calls_of (found_among scope (files_below from m)))) (at_some (λ m. paths_answer from itself (paths_below from m) ≡ Some status) told m e g.1)),
+      ap (λ o. unless_limit (first_of o (class_size_answer (files_below from m))) (calls_of (found_among scope (files_below from m)))) (at_some (λ m. paths_answer from itself (paths_below from m) ≡ Some status) told m e g.1)),
 )
 
 -- ---- once all are read

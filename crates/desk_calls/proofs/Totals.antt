@@ -14,5 +14,5 @@ totals_joined old a n b m c k e =
     let third : Text = joined (c ∷ k ∷ []) in
     append_assoc ((old ++ first) ++ second) third e ∙ append_assoc (old ++ first) second (third ++ e) ∙ append_assoc old first (second ++ (third ++ e))
     ∙ sym (ap (λ (t : Text). old ++ t) (joined_behind (a ∷ n ∷ []) (b ∷ m ∷ c ∷ k ∷ e ∷ [])
-        ∙ ap (λ (t : Text). first ++ t) (joined_behind (b ∷ m ∷ []) (c ∷ k ∷ e ∷ [])
-            ∙ ap (λ (t : Text). second ++ t) (joined_behind (c ∷ k ∷ []) (e ∷ []) ∙ ap (λ (t : Text). third ++ t) (append-nil e)))))
+    ∙ ap (λ (t : Text). first ++ t) (joined_behind (b ∷ m ∷ []) (c ∷ k ∷ e ∷ [])
+    ∙ ap (λ (t : Text). second ++ t) (joined_behind (c ∷ k ∷ []) (e ∷ []) ∙ ap (λ (t : Text). third ++ t) (append-nil e)))))

@@ -1,5 +1,5 @@
 -- The answers of queries.
-use Rattle.std.proofs.Common.{◌≡◌, ◌≤◌, ◌⊎◌, inl, inr, ℕ, true, false, List, Option, Some, None, refl, sym, ap, ◌∙◌, subst, Result, Ok, Err}
+use Rattle.std.proofs.Common.{◌≡◌, ◌≤◌, ◌⊎◌, inl, inr, ℕ, true, false, List, [], Option, Some, None, refl, sym, ap, ◌∙◌, subst, Result, Ok, Err}
 use Rattle.std.specs.Prelude.{IfSome}
 use Rattle.desk_base.specs.Counts.{Rose, Rose-later}
 use Rattle.desk_base.specs.Names.{Text, Package}
@@ -12,8 +12,8 @@ use Rattle.desk_intake.specs.declared.rules.Ruled.{Ruled}
 use Rattle.desk_intake.specs.declared.halts.Halt.{Halt}
 use Rattle.desk_intake.specs.declared.halts.Halt.TheVariants as halt
 use Rattle.desk_invert.specs.Answers.{IsFaultOf, inversion}
-use Rattle.desk_invert.specs.declared.invert.InvertError.{InvertError}
-use Rattle.desk_invert.specs.declared.invert.InvertError.TheVariants as error
+use Rattle.desk_invert.specs.declared.InvertError.{InvertError}
+use Rattle.desk_invert.specs.declared.InvertError.TheVariants as error
 use Rattle.desk_report.specs.declared.status.Status.{Status}
 use Rattle.desk_report.specs.declared.status.Status.TheVariants.{Done, Refusals, Memory, FolderFault, LedgerFault, OutputFault, Usage, NestedRoots, BadRules, Limit, PathClash, NameClash, Stranded, OtherRun, Moved, NotInvertible}
 use Rattle.desk_report.specs.Texts.{fault_text}
@@ -41,24 +41,24 @@ broken_behind (Ok told) old mid new o o' h w = record { mid = mid; report = h; f
 broken_behind (Err against) old mid new o o' h w = absurd h
 
 -- a query has its answer once the line of its status is written
-pub answers_of : (asked : Query) (told : Option Contents) (status : Status) (old mid new : Option Text) (f f' o o1 o2 : ℕ) → o1 ≤ o2 → LeavesAnswer asked told old mid f f' o o1 status
+pub answers_of : (asked : Query) (told : Option Contents) (status : Status) (old mid new : Option Text) (f f' o o1 o2 : ℕ) → o ≤ o1 → o1 ≤ o2 → LeavesAnswer asked told old mid f f' o o1 status
     → (new ≡ writing (fault_text status) mid) ⊎ (WritesFront (fault_text status) mid new × Rose o1 o2) → AnswersQuery asked told old new f f' o o2 status
-answers_of asked told Done old mid new f f' o o1 o2 le a w = if_some_map told _ _ (λ m h. answered_behind (answer_of asked m) old mid new o1 o2 Done h w) a
-answers_of asked told Refusals old mid new f f' o o1 o2 le a w = if_some_map told _ _ (λ m h. answered_behind (answer_of asked m) old mid new o1 o2 Refusals h w) a
-answers_of asked told Memory old mid new f f' o o1 o2 le a w = plain (fault_text Memory) old mid new o o1 o2 le a w
-answers_of asked told (FolderFault done) old mid new f f' o o1 o2 le a w = (a.0, a.1, plain (fault_text (FolderFault done)) old mid new o o1 o2 le a.2 w)
-answers_of asked told (LedgerFault done) old mid new f f' o o1 o2 le a w = (a.0, a.1, plain (fault_text (LedgerFault done)) old mid new o o1 o2 le a.2 w)
-answers_of asked told OutputFault old mid new f f' o o1 o2 le a w = (Rose-later o o1 o2 a.0 le, if_some_map told _ _ (λ m h. broken_behind (answer_of asked m) old mid new o1 o2 h w) a.1)
-answers_of asked told Usage old mid new f f' o o1 o2 le a w = (a.0, a.1, plain (fault_text Usage) old mid new o o1 o2 le a.2 w)
-answers_of asked told (NestedRoots first second) old mid new f f' o o1 o2 le a w = (a.0, a.1, plain (fault_text (NestedRoots first second)) old mid new o o1 o2 le a.2 w)
-answers_of asked told (BadRules fault) old mid new f f' o o1 o2 le a w = (a.0, a.1, plain (fault_text (BadRules fault)) old mid new o o1 o2 le a.2 w)
-answers_of asked told (OtherRun kept wanted) old mid new f f' o o1 o2 le a w = (a.0, a.1, plain (fault_text (OtherRun kept wanted)) old mid new o o1 o2 le a.2 w)
-answers_of asked told (Limit kind path) old mid new f f' o o1 o2 le a w = (a.0, a.1, plain (fault_text (Limit kind path)) old mid new o o1 o2 le a.2 w)
-answers_of asked told (PathClash first second) old mid new f f' o o1 o2 le a w = (a.0, a.1, plain (fault_text (PathClash first second)) old mid new o o1 o2 le a.2 w)
-answers_of asked told (NameClash defined other image) old mid new f f' o o1 o2 le a w = (a.0, a.1, plain (fault_text (NameClash defined other image)) old mid new o o1 o2 le a.2 w)
-answers_of asked told (Stranded path held) old mid new f f' o o1 o2 le a w = (a.0, a.1, plain (fault_text (Stranded path held)) old mid new o o1 o2 le a.2 w)
-answers_of asked told (Moved path one other) old mid new f f' o o1 o2 le a w = (a.0, a.1, plain (fault_text (Moved path one other)) old mid new o o1 o2 le a.2 w)
-answers_of asked told (NotInvertible fault) old mid new f f' o o1 o2 le a w = (a.0, a.1, plain (fault_text (NotInvertible fault)) old mid new o o1 o2 le a.2 w)
+answers_of asked told Done old mid new f f' o o1 o2 le later a w = if_some_map told _ _ (λ m h. answered_behind (answer_of asked m) old mid new o1 o2 Done h w) a
+answers_of asked told Refusals old mid new f f' o o1 o2 le later a w = if_some_map told _ _ (λ m h. answered_behind (answer_of asked m) old mid new o1 o2 Refusals h w) a
+answers_of asked told Memory old mid new f f' o o1 o2 le later a w = plain (fault_text Memory) old mid new o o1 o2 le a w
+answers_of asked told (FolderFault done) old mid new f f' o o1 o2 le later a w = (a.0, a.1, plain (fault_text (FolderFault done)) old mid new o o1 o2 le a.2 w)
+answers_of asked told (LedgerFault done) old mid new f f' o o1 o2 le later a w = (a.0, a.1, plain (fault_text (LedgerFault done)) old mid new o o1 o2 le a.2 w)
+answers_of asked told OutputFault old mid new f f' o o1 o2 le later a w = (Rose-later o o1 o2 a.0 later, if_some_map told _ _ (λ m h. broken_behind (answer_of asked m) old mid new o1 o2 h w) a.1)
+answers_of asked told Usage old mid new f f' o o1 o2 le later a w = (a.0, a.1, plain (fault_text Usage) old mid new o o1 o2 le a.2 w)
+answers_of asked told (NestedRoots first second) old mid new f f' o o1 o2 le later a w = (a.0, a.1, plain (fault_text (NestedRoots first second)) old mid new o o1 o2 le a.2 w)
+answers_of asked told (BadRules fault) old mid new f f' o o1 o2 le later a w = (a.0, a.1, plain (fault_text (BadRules fault)) old mid new o o1 o2 le a.2 w)
+answers_of asked told (OtherRun kept wanted) old mid new f f' o o1 o2 le later a w = (a.0, a.1, plain (fault_text (OtherRun kept wanted)) old mid new o o1 o2 le a.2 w)
+answers_of asked told (Limit kind path) old mid new f f' o o1 o2 le later a w = (a.0, a.1, plain (fault_text (Limit kind path)) old mid new o o1 o2 le a.2 w)
+answers_of asked told (PathClash first second) old mid new f f' o o1 o2 le later a w = (a.0, a.1, plain (fault_text (PathClash first second)) old mid new o o1 o2 le a.2 w)
+answers_of asked told (NameClash defined other image) old mid new f f' o o1 o2 le later a w = (a.0, a.1, plain (fault_text (NameClash defined other image)) old mid new o o1 o2 le a.2 w)
+answers_of asked told (Stranded path held) old mid new f f' o o1 o2 le later a w = (a.0, a.1, plain (fault_text (Stranded path held)) old mid new o o1 o2 le a.2 w)
+answers_of asked told (Moved path one other) old mid new f f' o o1 o2 le later a w = (a.0, a.1, plain (fault_text (Moved path one other)) old mid new o o1 o2 le a.2 w)
+answers_of asked told (NotInvertible fault) old mid new f f' o o1 o2 le later a w = (a.0, a.1, plain (fault_text (NotInvertible fault)) old mid new o o1 o2 le a.2 w)
 
 -- ---- up to it
 

@@ -42,6 +42,12 @@ written_completes asked m0 l0 m l noted outcomes w = record {
   ends = subst IsEnd w.ends (ending_is_end outcomes);
 }
 
+pub told_completes : (asked : Asked) (f f' : Option Contents) (k k' : Option Ledger) (noted : List Noted) (outcomes : List Outcome) (totals : Summary)
+    → WhereTold f k (λ m0 l0. Tells f' k' (λ m l. IsWritten asked m0 l0 m l noted outcomes)) → totals ≡ summary_by outcomes → WhereTold f k (λ m0 l0. TellsLedger k' (λ l. Completes asked m0 l0 l (λ t. totals ≡ t)))
+told_completes asked f f' k k' noted outcomes totals w e = λ m0 l0 ef ek.
+    let x = w m0 l0 ef ek in
+    record { l = x.l; ledger = x.ledger; holds = subst (λ (s : Summary). Completes asked m0 l0 x.l (λ t. s ≡ t)) (sym e) (written_completes asked m0 l0 x.m x.l noted outcomes x.holds) }
+
 -- ---- behind the line of a fault
 
 completes_map : (n : ℕ) (l0 : Ledger) (k : Option Ledger) (P Q : Summary → Type 0) → ((totals : Summary) → P totals → Q totals) → CompletesGenerated n l0 k P → CompletesGenerated n l0 k Q
@@ -54,24 +60,24 @@ completes_map n l0 k P Q h c = record {
   };
 }
 
-pub sql_clause : (n : ℕ) (k0 k : Option Ledger) (a a' : ℕ) (old mid new : Option Text) (o o1 o2 : ℕ) (status : Status) → o ≤ o1 → LeavesSql n k0 k a a' old mid o o1 status
+pub sql_clause : (n : ℕ) (k0 k : Option Ledger) (a a' : ℕ) (old mid new : Option Text) (o o1 o2 : ℕ) (status : Status) → o ≤ o1 → o1 ≤ o2 → LeavesSql n k0 k a a' old mid o o1 status
     → (new ≡ writing (fault_text status) mid) ⊎ (WritesFront (fault_text status) mid new × Rose o1 o2) → GeneratesSql n k0 k a a' old new o o2 status
-sql_clause n k0 k a a' old mid new o o1 o2 Done le t w = if_some_map k0 _ _ (λ l0 h. completes_map n l0 k _ _ (λ totals e. no_line mid new o1 o2 w ∙ e) h) t
-sql_clause n k0 k a a' old mid new o o1 o2 Refusals le t w = absurd t.0
-sql_clause n k0 k a a' old mid new o o1 o2 Memory le t w = (t.0, plain (fault_text Memory) old mid new o o1 o2 le t.1 w)
-sql_clause n k0 k a a' old mid new o o1 o2 (FolderFault done) le t w = absurd t.0
-sql_clause n k0 k a a' old mid new o o1 o2 (LedgerFault done) le t w = (t.0, plain (fault_text (LedgerFault done)) old mid new o o1 o2 le t.1 w)
-sql_clause n k0 k a a' old mid new o o1 o2 OutputFault le t w = (Rose-later o o1 o2 t.0 le, if_some_map k0 _ _ (λ l0 h. completes_map n l0 k _ _ (λ totals e. record { mid = mid; report = e; fault = front_of_line (fault_text OutputFault) mid new o1 o2 w }) h) t.1)
-sql_clause n k0 k a a' old mid new o o1 o2 Usage le t w = absurd t.0
-sql_clause n k0 k a a' old mid new o o1 o2 (NestedRoots first second) le t w = absurd t.0
-sql_clause n k0 k a a' old mid new o o1 o2 (BadRules fault) le t w = absurd t.0
-sql_clause n k0 k a a' old mid new o o1 o2 (OtherRun kept wanted) le t w = (t.0, plain (fault_text (OtherRun kept wanted)) old mid new o o1 o2 le t.1 w)
-sql_clause n k0 k a a' old mid new o o1 o2 (Limit kind path) le t w = absurd t.0
-sql_clause n k0 k a a' old mid new o o1 o2 (PathClash first second) le t w = absurd t.0
-sql_clause n k0 k a a' old mid new o o1 o2 (NameClash defined other image) le t w = absurd t.0
-sql_clause n k0 k a a' old mid new o o1 o2 (Stranded path held) le t w = absurd t.0
-sql_clause n k0 k a a' old mid new o o1 o2 (Moved path one other) le t w = absurd t.0
-sql_clause n k0 k a a' old mid new o o1 o2 (NotInvertible fault) le t w = absurd t.0
+sql_clause n k0 k a a' old mid new o o1 o2 Done le later t w = if_some_map k0 _ _ (λ l0 h. completes_map n l0 k _ _ (λ totals e. no_line mid new o1 o2 w ∙ e) h) t
+sql_clause n k0 k a a' old mid new o o1 o2 Refusals le later t w = absurd t.0
+sql_clause n k0 k a a' old mid new o o1 o2 Memory le later t w = (t.0, plain (fault_text Memory) old mid new o o1 o2 le t.1 w)
+sql_clause n k0 k a a' old mid new o o1 o2 (FolderFault done) le later t w = absurd t.0
+sql_clause n k0 k a a' old mid new o o1 o2 (LedgerFault done) le later t w = (t.0, plain (fault_text (LedgerFault done)) old mid new o o1 o2 le t.1 w)
+sql_clause n k0 k a a' old mid new o o1 o2 OutputFault le later t w = (Rose-later o o1 o2 t.0 later, if_some_map k0 _ _ (λ l0 h. completes_map n l0 k _ _ (λ totals e. record { mid = mid; report = e; fault = front_of_line (fault_text OutputFault) mid new o1 o2 w }) h) t.1)
+sql_clause n k0 k a a' old mid new o o1 o2 Usage le later t w = absurd t.0
+sql_clause n k0 k a a' old mid new o o1 o2 (NestedRoots first second) le later t w = absurd t.0
+sql_clause n k0 k a a' old mid new o o1 o2 (BadRules fault) le later t w = absurd t.0
+sql_clause n k0 k a a' old mid new o o1 o2 (OtherRun kept wanted) le later t w = (t.0, plain (fault_text (OtherRun kept wanted)) old mid new o o1 o2 le t.1 w)
+sql_clause n k0 k a a' old mid new o o1 o2 (Limit kind path) le later t w = absurd t.0
+sql_clause n k0 k a a' old mid new o o1 o2 (PathClash first second) le later t w = absurd t.0
+sql_clause n k0 k a a' old mid new o o1 o2 (NameClash defined other image) le later t w = absurd t.0
+sql_clause n k0 k a a' old mid new o o1 o2 (Stranded path held) le later t w = absurd t.0
+sql_clause n k0 k a a' old mid new o o1 o2 (Moved path one other) le later t w = absurd t.0
+sql_clause n k0 k a a' old mid new o o1 o2 (NotInvertible fault) le later t w = absurd t.0
 
 -- ---- how it ends before its totals
 
@@ -83,29 +89,29 @@ stops_told : (n : ℕ) (k0 k : Option Ledger) (f0 f1 : Option Contents) (a a' b 
     → WhereTold f0 k0 (λ m0 l0. Tells f1 k (λ m l. StandsAfter (asked_roots generated_roots) m0 l0 m l s))
     → WhereTold f0 k0 (λ m l. is_final s ≡ true → s ≡ first_answer (asked_roots generated_roots) m l)
     → HasCauses (asked_roots generated_roots) f0 s a a' b b' 0 0 → StopsGenerated n k0 k b b' (kept_status s)
-stops_told n k0 k f0 f1 a a' b b' Done ef stands first causes = tt
-stops_told n k0 k f0 f1 a a' b b' Refusals ef stands first causes = tt
-stops_told n k0 k f0 f1 a a' b b' Memory ef stands first causes = tt
-stops_told n k0 k f0 f1 a a' b b' (FolderFault done) ef stands first causes = tt
-stops_told n k0 k f0 f1 a a' b b' (LedgerFault done) ef stands first causes = (
+stops_told n k0 k f0 f1 a a' b b' Done ef stands answers causes = tt
+stops_told n k0 k f0 f1 a a' b b' Refusals ef stands answers causes = tt
+stops_told n k0 k f0 f1 a a' b b' Memory ef stands answers causes = tt
+stops_told n k0 k f0 f1 a a' b b' (FolderFault done) ef stands answers causes = tt
+stops_told n k0 k f0 f1 a a' b b' (LedgerFault done) ef stands answers causes = (
   causes,
   if_some_told k0 _ (λ l0 e.
       let t = stands (generated_contents n) l0 ef e in
       record { l = t.l; ledger = t.ledger; holds = record { m = t.m; remains = remains_at (asked_roots generated_roots) (generated_contents n) l0 t.m t.l done t.holds } }),
 )
-stops_told n k0 k f0 f1 a a' b b' OutputFault ef stands first causes = tt
-stops_told n k0 k f0 f1 a a' b b' Usage ef stands first causes = tt
-stops_told n k0 k f0 f1 a a' b b' (NestedRoots first second) ef stands first causes = tt
-stops_told n k0 k f0 f1 a a' b b' (BadRules fault) ef stands first causes = tt
-stops_told n k0 k f0 f1 a a' b b' (OtherRun kept wanted) ef stands first causes = if_some_told k0 _ (λ l0 e.
+stops_told n k0 k f0 f1 a a' b b' OutputFault ef stands answers causes = tt
+stops_told n k0 k f0 f1 a a' b b' Usage ef stands answers causes = tt
+stops_told n k0 k f0 f1 a a' b b' (NestedRoots first second) ef stands answers causes = tt
+stops_told n k0 k f0 f1 a a' b b' (BadRules fault) ef stands answers causes = tt
+stops_told n k0 k f0 f1 a a' b b' (OtherRun kept wanted) ef stands answers causes = if_some_told k0 _ (λ l0 e.
     let t = stands (generated_contents n) l0 ef e in
-    (t.ledger ∙ ap Some t.holds.ledger ∙ sym e, sym (first (generated_contents n) l0 ef e refl)))
-stops_told n k0 k f0 f1 a a' b b' (Limit kind path) ef stands first causes = tt
-stops_told n k0 k f0 f1 a a' b b' (PathClash first second) ef stands first causes = tt
-stops_told n k0 k f0 f1 a a' b b' (NameClash defined other image) ef stands first causes = tt
-stops_told n k0 k f0 f1 a a' b b' (Stranded path held) ef stands first causes = tt
-stops_told n k0 k f0 f1 a a' b b' (Moved path one other) ef stands first causes = tt
-stops_told n k0 k f0 f1 a a' b b' (NotInvertible fault) ef stands first causes = tt
+    (t.ledger ∙ ap Some t.holds.ledger ∙ sym e, sym (answers (generated_contents n) l0 ef e refl)))
+stops_told n k0 k f0 f1 a a' b b' (Limit kind path) ef stands answers causes = tt
+stops_told n k0 k f0 f1 a a' b b' (PathClash first second) ef stands answers causes = tt
+stops_told n k0 k f0 f1 a a' b b' (NameClash defined other image) ef stands answers causes = tt
+stops_told n k0 k f0 f1 a a' b b' (Stranded path held) ef stands answers causes = tt
+stops_told n k0 k f0 f1 a a' b b' (Moved path one other) ef stands answers causes = tt
+stops_told n k0 k f0 f1 a a' b b' (NotInvertible fault) ef stands answers causes = tt
 
 pub stops_kept : (n : ℕ) (roots : Roots) (k0 k : Option Ledger) (f0 f1 : Option Contents) (a a' b b' : ℕ) (s : Status) → roots ≡ generated_roots → f0 ≡ Some (generated_contents n)
     → WhereTold f0 k0 (λ m0 l0. Tells f1 k (λ m l. StandsAfter (asked_roots roots) m0 l0 m l s))

@@ -38,7 +38,7 @@ all_more (file ∷ files) last e h = let p = and_parts _ _ e in and_from _ _ p.0
 pub all_full : (n : ℕ) → list_all (λ (file : GenFile). is_relative_path file.path) (generated n) ≡ true → list_all (λ (file : GenFile). is_full_path file.path) (generated_files n) ≡ true
 all_full n e = all_more (map (placed (codes "in")) (generated n)) (placed (codes "rules") rule_file) (all_below_in (generated n) e) refl
 
-contents_are : (n : ℕ) → filled (generated_files n) fin.empty ≡ generated_contents n
+pub contents_are : (n : ℕ) → filled (generated_files n) fin.empty ≡ generated_contents n
 unfolding generated_contents
 contents_are n = refl
 

@@ -10,8 +10,8 @@ use Rattle.desk_intake.specs.declared.rules.Ruled.{Ruled}
 use Rattle.desk_intake.specs.declared.halts.Halt.{Halt}
 use Rattle.desk_intake.specs.declared.halts.Halt.TheVariants as halt
 use Rattle.desk_invert.specs.Answers.{inversion}
-use Rattle.desk_invert.specs.declared.invert.InvertError.{InvertError}
-use Rattle.desk_invert.specs.declared.invert.InvertError.TheVariants as error
+use Rattle.desk_invert.specs.declared.InvertError.{InvertError}
+use Rattle.desk_invert.specs.declared.InvertError.TheVariants as error
 use Rattle.desk_report.specs.declared.status.Status.{Status}
 use Rattle.desk_report.specs.declared.status.Status.TheVariants.{Done, Refusals, Memory, FolderFault, OutputFault, BadRules, Limit, NotInvertible}
 use Rattle.desk_report.specs.Texts.{fault_text}

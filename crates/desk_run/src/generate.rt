@@ -110,7 +110,8 @@ fn folders_in_memory(alloc: Global, roots: &Roots, count: u32) -> Result<MemoryF
     ensures { IfOk result (λ folders. folders.contents ≡ generated_contents count) }
 {
     let files = files_in_memory(alloc, roots, count)?;
-    MemoryFolders::new(alloc, files, Vec::new(alloc))
+    let folders = MemoryFolders::new(alloc, files, Vec::new(alloc))?;
+    Ok(folders)
 }
 
 /// How a stop of the run is told: folders in memory have no faults, and nothing of a generated application stands against it.

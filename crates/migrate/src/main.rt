@@ -4,8 +4,8 @@
 
 use desk_base::{Memory, Text};
 use desk_disk::DiskFolders;
-use desk_notes::Overheard;
 use desk_ledger_sql::SqlKeeper;
+use desk_notes::Overheard;
 use desk_program::{
     Asked, Ending, Streams, asked_of, exit_of, guarded, read_words, tell_end, tell_unread, unread,
 };

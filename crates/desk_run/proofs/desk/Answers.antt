@@ -58,15 +58,15 @@ returns-clause-resume g c =
 
 pub returns-clause-calls : goal.returns-clause-calls
 returns-clause-calls g c =
-    of_query_map c.args.words.now _ _ (λ asked a. calls_clause asked _ _ _ _ _ _ _ c.follow-status.result (answers_of asked _ c.follow-status.result _ _ _ _ _ _ _ _ c.follow-status.ensures.counts_o a
+    of_query_map c.args.words.now _ _ (λ asked a. calls_clause asked _ _ _ _ _ _ _ c.follow-status.result (answers_of asked _ c.follow-status.result _ _ _ _ _ _ _ _ c.follow-status.ensures.counts_o c.write_fault.ensures.counts a
     (last_write _ _ _ _ _ c.write_fault.result c.write_fault.ensures.ok c.write_fault.ensures.err c.write_fault.ensures.failed))) c.follow-status.ensures.query
 
 pub returns-clause-invert : goal.returns-clause-invert
 returns-clause-invert g c =
-    of_query_map c.args.words.now _ _ (λ asked a. invert_clause asked _ _ _ _ _ _ _ c.follow-status.result (answers_of asked _ c.follow-status.result _ _ _ _ _ _ _ _ c.follow-status.ensures.counts_o a
+    of_query_map c.args.words.now _ _ (λ asked a. invert_clause asked _ _ _ _ _ _ _ c.follow-status.result (answers_of asked _ c.follow-status.result _ _ _ _ _ _ _ _ c.follow-status.ensures.counts_o c.write_fault.ensures.counts a
     (last_write _ _ _ _ _ c.write_fault.result c.write_fault.ensures.ok c.write_fault.ensures.err c.write_fault.ensures.failed))) c.follow-status.ensures.query
 
 pub returns-clause-sql : goal.returns-clause-sql
 returns-clause-sql g c =
-    of_sql_map c.args.words.now _ _ (λ n a. sql_clause n _ _ _ _ _ _ _ _ _ _ c.follow-status.result c.follow-status.ensures.counts_o a
+    of_sql_map c.args.words.now _ _ (λ n a. sql_clause n _ _ _ _ _ _ _ _ _ _ c.follow-status.result c.follow-status.ensures.counts_o c.write_fault.ensures.counts a
     (last_write _ _ _ _ _ c.write_fault.result c.write_fault.ensures.ok c.write_fault.ensures.err c.write_fault.ensures.failed)) c.follow-status.ensures.sql

@@ -13,9 +13,9 @@ returns c =
     let count : Text = decimal (length c.args.found.now) in
     on_ok_weaker c.append.result
     (λ e. e ∙ ap (λ (t : Text). t ++ codes "\n") (c.in_ok-append_number-3.ensures
-        ∙ ap (λ (t : Text). t ++ joined (codes " sites=" ∷ decimal c.count_sites.result ∷ [])) (c.in_ok-append_number-2.ensures
-            ∙ ap (λ (t : Text). t ++ joined (codes " refused=" ∷ decimal c.count_refused.result ∷ [])) c.in_ok-append_number.ensures))
-        ∙ totals_joined old (codes "sites classes=") count (codes " refused=") (decimal c.count_refused.result) (codes " sites=") (decimal c.count_sites.result) (codes "\n")
-        ∙ ap (λ n. old ++ joined (codes "sites classes=" ∷ count ∷ codes " refused=" ∷ decimal n ∷ codes " sites=" ∷ decimal c.count_sites.result ∷ codes "\n" ∷ [])) c.count_refused.ensures.count
-        ∙ ap (λ n. old ++ joined (codes "sites classes=" ∷ count ∷ codes " refused=" ∷ decimal (count_by was_refused c.args.found.now) ∷ codes " sites=" ∷ decimal n ∷ codes "\n" ∷ [])) c.count_sites.ensures)
+    ∙ ap (λ (t : Text). t ++ joined (codes " sites=" ∷ decimal c.count_sites.result ∷ [])) (c.in_ok-append_number-2.ensures
+    ∙ ap (λ (t : Text). t ++ joined (codes " refused=" ∷ decimal c.count_refused.result ∷ [])) c.in_ok-append_number.ensures))
+    ∙ totals_joined old (codes "sites classes=") count (codes " refused=") (decimal c.count_refused.result) (codes " sites=") (decimal c.count_sites.result) (codes "\n")
+    ∙ ap (λ n. old ++ joined (codes "sites classes=" ∷ count ∷ codes " refused=" ∷ decimal n ∷ codes " sites=" ∷ decimal c.count_sites.result ∷ codes "\n" ∷ [])) c.count_refused.ensures.count
+    ∙ ap (λ n. old ++ joined (codes "sites classes=" ∷ count ∷ codes " refused=" ∷ decimal (count_by was_refused c.args.found.now) ∷ codes " sites=" ∷ decimal n ∷ codes "\n" ∷ [])) c.count_sites.ensures)
     c.append.ensures.ok
