@@ -2,7 +2,7 @@
 
 use crate::words::number_of;
 use crate::written::say;
-use desk_base::{Memory, Text};
+use desk_base::{Memory, Text, TextList};
 use desk_folders::GenFile;
 use desk_gen::{GenFault, generate, rule_file};
 use desk_run::{Root, Task, WordsFault, read_words};
@@ -25,8 +25,29 @@ fn write_run(
     Ok(())
 }
 
+/// Answers a root as it is written, and the segments of a package.
+fn write_calls(
+    alloc: Global,
+    from: &Root,
+    package: &TextList,
+    out: &mut String,
+) -> Result<(), Memory> {
+    let from = from.written(alloc)?;
+    write!(out, "  calls {}", Shown(from.as_bytes()))?;
+    for segment in package.as_slice() {
+        write!(out, " {}", Shown(segment.as_bytes()))?;
+    }
+    Ok(out.push('\n')?)
+}
+
+/// Answers the root of rules that are to be inverted, as it is written.
+fn write_invert(alloc: Global, rules: &Root, out: &mut String) -> Result<(), Memory> {
+    let rules = rules.written(alloc)?;
+    Ok(writeln!(out, "  invert {}", Shown(rules.as_bytes()))?)
+}
+
 /// Answers the task of words: that of a run by its roots, its workers and whether it verifies, that of a generated application
-/// by its two numbers.
+/// by its two numbers and whether its ledger is SQL, and those of queries by what they ask.
 pub fn write_task(alloc: Global, words: &[Text], out: &mut String) -> Result<(), Memory> {
     match read_words(alloc, words) {
         Ok(
@@ -43,9 +64,18 @@ pub fn write_task(alloc: Global, words: &[Text], out: &mut String) -> Result<(),
             out.push_str(if verify { " verify\n" } else { "\n" })?;
             Ok(())
         }
-        Ok(Task::Generate { count, workers }) => {
-            Ok(writeln!(out, "  generate {count} {workers}")?)
+        Ok(
+            Task::Generate {
+                count,
+                workers,
+                sql,
+            },
+        ) => {
+            let ledger = if sql { " sql" } else { "" };
+            Ok(writeln!(out, "  generate {count} {workers}{ledger}")?)
         }
+        Ok(Task::Calls { from, package }) => write_calls(alloc, &from, &package, out),
+        Ok(Task::Invert { rules }) => write_invert(alloc, &rules, out),
         Err(WordsFault::Usage) => say(out, "usage"),
         Err(WordsFault::Memory) => Err(Memory),
     }
