@@ -1,7 +1,7 @@
 #!/usr/bin/env bash
 # Runs the built program over a small application with a ledger on disk: the file opens with sqlite3 and holds the expected
 # rows, a second run keeps every file, other rules end with 27, and each file that can't be a ledger ends the run with 12 and
-# stays as it is. The expected lines are written by hand.
+# stays as it is. `generate` says the same over a database in memory as over a plain list. The expected lines are written by hand.
 set -u
 cd "$(dirname "$0")/.."
 . tests/common.sh
@@ -88,6 +88,18 @@ header
 rows2' "$(sqlite3 "$seen" "SELECT name FROM sqlite_schema WHERE type = 'table' ORDER BY name")"
 check 'format 1: the rows' '3|0' "$(sqlite3 "$seen" 'SELECT count(*), count(output) FROM rows2')"
 rm -rf "$place.seen"
+
+# ---- a generated application, whose ledger is a database in memory
+
+before=$(tree .)
+check 'generate over SQL' 'total files=2 written=2 kept=0 refused=0 renamed=5 added=0
+status 0' "$("$program" generate --count 1 --sql; echo "status $?")"
+for workers in 1 4; do
+  wanted=$("$program" generate --count 200 --workers "$workers"; echo "status $?")
+  check "generate with $workers workers" 'total files=201 written=201 status 0' "$(sed 's/ kept=.*//' <<<"$wanted" | paste -sd' ')"
+  check "generate over SQL with $workers workers" "$wanted" "$("$program" generate --count 200 --workers "$workers" --sql; echo "status $?")"
+done
+check 'generate makes no file' "$before" "$(tree .)"
 
 # ---- files that can't be a ledger
 

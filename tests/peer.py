@@ -11,10 +11,10 @@ with 1 where a difference is of no kind that the page explains, and where such a
 import collections
 import os
 import re
-import subprocess
 import sys
 
 from class_names import ClassFile
+from printed import printed, resolved
 
 sys.path.insert(0, os.path.join(os.path.dirname(os.path.abspath(__file__)), "..", "tools"))
 import rules
@@ -40,35 +40,6 @@ KINDS = {
     "that nothing uses as a name: the peer exchanges it in the constant pool, whatever it is used for.",
     "ours alone": "A string that this program renames, and the peer doesn't.",
 }
-
-
-def printed(folder):
-    """What javap prints of each class below a folder, by its path."""
-    files = sorted(
-        os.path.join(at, name) for at, _, names in os.walk(folder) for name in names if name.endswith(".class"))
-    texts, path = {}, None
-    for first in range(0, len(files), 400):
-        run = subprocess.run(["javap", "-v", "-p", *files[first:first + 400]], capture_output=True, check=False)
-        for line in run.stdout.decode("utf-8", "replace").split("\n"):
-            if line.startswith("Classfile "):
-                path = os.path.relpath(line[len("Classfile "):], folder)
-                texts[path] = []
-            elif path is not None:
-                texts[path].append(line)
-    return {path: resolved(lines) for path, lines in texts.items()}
-
-
-def resolved(lines):
-    """A class without its pool, its digest, the indices of entries, and the blanks that align comments."""
-    kept, in_pool = [], False
-    for line in lines:
-        if line == "Constant pool:":
-            in_pool = True
-        elif in_pool and line == "{":
-            in_pool = False
-        if not in_pool and not re.match("  (Last modified|SHA-256 checksum) ", line):
-            kept.append(re.sub(r" +", " ", re.sub(r"#[0-9]+", "#", line)).strip())
-    return kept
 
 
 def name_in(folder, path):
@@ -177,7 +148,7 @@ def left_strings(folder, texts, name, names):
 def compared(folder, name, kinds, samples, labels, left):
     """One row of the table: classes, those that are alike, those that differ, those that one side lacks."""
     folders = [os.path.join(folder, side, name + ".jar") for side in ("old", "peer", "ours")]
-    sides = [printed(it) for it in folders]
+    sides = [{path: resolved(lines) for path, lines in printed(it)} for it in folders]
     left += left_strings(folders[2], sides[2], name, rules.api_names())
     old, peer, ours = ({name_in(folder, path): text for path, text in side.items()} for side in sides)
     alike = 0

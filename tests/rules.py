@@ -1,13 +1,16 @@
-"""Runs the migrations of docs/RULES.md: rules.py PAGE PROGRAM READY FOLDER, where READY is the folder of the ready rules. Prints a
-line for each that differs, and a count."""
+"""Runs the migrations of docs/RULES.md, and the commands of its last sections: rules.py PAGE PROGRAM READY FOLDER, where READY is the
+folder of the ready rules. Prints a line for each that differs, and a count."""
 import os
 import re
 import shutil
 import subprocess
 import sys
 
-# How many migrations the page has.
-ALL = 15
+# How many migrations the page has, and the sections whose commands are run.
+MIGRATIONS = 15
+SECTIONS = ["What is left", "A migration and its way back"]
+# What a block of commands begins with; every other block is what the commands before it print.
+COMMANDS = ("migrate ", "mkdir ", "printf ")
 
 
 def blocks(text):
@@ -99,17 +102,45 @@ def differs(program, ready, folder, text):
     return None
 
 
+def prints_otherwise(program, ready, folder, text):
+    """What the commands of a section print where that isn't what stands there, or None. They run in a folder with the repository's
+    rules and examples and an application `app`."""
+    os.makedirs(folder)
+    top = os.path.dirname(ready)
+    for name in ("rules", "examples"):
+        os.symlink(os.path.join(top, name), os.path.join(folder, name))
+    shutil.copytree(os.path.join(top, "examples/first/app"), os.path.join(folder, "app"))
+    there = os.environ | {"PATH": os.path.dirname(program) + os.pathsep + os.environ["PATH"]}
+    wanted = got = ""
+    for block in re.findall(r"^\n((?:    .*\n)+)", text, re.MULTILINE):
+        block = re.sub("(?m)^    ", "", block)
+        if block.startswith(COMMANDS):
+            got += subprocess.run(["sh", "-c", block], cwd=folder, env=there, stdout=subprocess.PIPE, text=True, check=False).stdout
+        else:
+            wanted += block
+    return None if got == wanted else f"\nwanted:\n{wanted}got:\n{got}"
+
+
+def sections(page, mark):
+    """The sections of a page whose titles begin with this mark, each with its title; none goes on behind a title of a higher rank."""
+    parts = re.split(rf"^{mark} (.*)$", page, flags=re.MULTILINE)[1:]
+    return [(title, re.split(r"^## ", text, flags=re.MULTILINE)[0]) for title, text in zip(parts[::2], parts[1::2])]
+
+
 def main():
     page, program, ready, folder = sys.argv[1:]
-    parts = re.split(r"^### ([0-9]+\. .*)$", open(page, encoding="utf-8").read(), flags=re.MULTILINE)[1:]
+    with open(page, encoding="utf-8") as file:
+        page = file.read()
+    tasks = [(title, differs, text) for title, text in sections(page, "###")]
+    tasks += [(title, prints_otherwise, text) for title, text in sections(page, "##") if title in SECTIONS]
     passed = failed = 0
-    for number, (title, text) in enumerate(zip(parts[::2], parts[1::2])):
-        fault = differs(program, os.path.abspath(ready), os.path.join(folder, str(number)), text)
+    for number, (title, task, text) in enumerate(tasks):
+        fault = task(os.path.abspath(program), os.path.abspath(ready), os.path.join(folder, str(number)), text)
         passed, failed = passed + (fault is None), failed + (fault is not None)
         if fault is not None:
             print(f"differs: {title}: {fault}")
     print(f"{passed} passed, {failed} failed")
-    sys.exit(1 if failed or passed != ALL else 0)
+    sys.exit(1 if failed or passed != MIGRATIONS + len(SECTIONS) else 0)
 
 
 main()

@@ -1,6 +1,6 @@
 #!/usr/bin/env bash
 # Runs the fifteen migrations of docs/RULES.md, ten by rules of their own and five by the ready rules, and compares each report,
-# target, string and annotation with what stands there. Then looks whether the ready rules are what tools/rules.py writes, and
+# target, string and annotation with what stands there; and the commands of its last sections with what they print. Then looks whether the ready rules are what tools/rules.py writes, and
 # whether the gate tries the same files.
 set -u
 cd "$(dirname "$0")/.."
