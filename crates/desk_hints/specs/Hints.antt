@@ -61,7 +61,7 @@ hint_text hint.OtherSourceTarget = codes "migrate: the ledger belongs to a run w
 hint_text hint.OtherSourceTargetRules = codes "migrate: the ledger belongs to a run with other source, target and rules\n         name what it was made with, or another ledger: another one starts anew, and writes every file\n"
 hint_text hint.Moved = codes "migrate: a file of the source changed while the run read it\n         run again once nothing writes to the source\n"
 hint_text hint.NotRenames = codes "migrate: the rules have more than renames, and only renames can be taken back\n         take that file out, or invert a folder that holds `renames.properties` alone\n"
-hint_text hint.NothingToInvert = codes "migrate: no rename of the rules changes its package, so there is nothing to take back\n"
+hint_text hint.NothingToInvert = codes "migrate: no rename of the rules changes its package, so there is nothing to take back\n         name rules that rename a package to another one\n"
 hint_text hint.Overlap = codes "migrate: two renames give one package, or a name in it, so it can not be told which of them to take back\n         give them targets of which neither is, or holds, what the other gives\n"
 
 -- the hint of a chain of rules, by its kind

@@ -239,7 +239,7 @@ impl Hint {
             Hint::NotRenames =>
                 b"migrate: the rules have more than renames, and only renames can be taken back\n         take that file out, or invert a folder that holds `renames.properties` alone\n",
             Hint::NothingToInvert =>
-                b"migrate: no rename of the rules changes its package, so there is nothing to take back\n",
+                b"migrate: no rename of the rules changes its package, so there is nothing to take back\n         name rules that rename a package to another one\n",
             Hint::Overlap =>
                 b"migrate: two renames give one package, or a name in it, so it can not be told which of them to take back\n         give them targets of which neither is, or holds, what the other gives\n",
         }

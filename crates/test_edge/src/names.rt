@@ -15,6 +15,7 @@ pub fn tell_said(line: &[u8], out: &mut String) -> Result<(), Memory> {
             let (path, reason, kind) = (Shown(path), Shown(reason), Shown(kind));
             Ok(writeln!(out, "  refused {path} {reason} {kind}")?)
         }
+        Said::Site => told::text(out, "site"),
         Said::Other => told::text(out, "other"),
     }
 }
