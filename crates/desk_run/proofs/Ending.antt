@@ -30,7 +30,7 @@ use Rattle.desk_run.proofs.Splits.{Mapped, mapped}
 use Rattle.desk_run.specs.Answers.{names_answer, other_run, or_else, answer_of_run, first_answer, is_answer}
 use Rattle.desk_run.specs.Endings.{WhereTold, Tells, Planned, LedgerEarly, HaltsEarly, AllWritten, Finishes, Reported, ReportedOf, StandsAt, IsDone, IsTold, IsWritten, StandsAfter, is_final}
 use Rattle.desk_run.specs.Meaning.{run_of_asked}
-use Rattle.desk_run.specs.Named.{Asked}
+use Rattle.desk_run.specs.Asked.{Asked}
 use Rattle.desk_run.specs.Notes.{measured_of, noted_by}
 use Rattle.desk_run.specs.Reports.{report_by, line_of, lines_of, file_line, summary_of, summary_by, ending, ending_by, outcome_line, is_written, was_kept, was_refused, number_in, renamed_uses, added_texts, number_in_file, number_of}
 use Rattle.desk_run.specs.Runs.{Run, is_kept_file, is_fresh, is_refused}

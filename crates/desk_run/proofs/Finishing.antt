@@ -21,7 +21,7 @@ use Rattle.desk_run.proofs.Preparing.{names_of, planned}
 use Rattle.desk_run.specs.Answers.{other_run}
 use Rattle.desk_run.specs.Endings.{AllWritten, GatheredFrom, HasGathered, IsWritten, Planned, StandsAfter, Tells, WhereTold}
 use Rattle.desk_run.specs.Meaning.{defined_in, finds_in}
-use Rattle.desk_run.specs.Named.{asked_roots}
+use Rattle.desk_run.specs.Asked.{asked_roots}
 use Rattle.desk_run.specs.Notes.{measured_in, noted_by}
 use Rattle.desk_run.specs.Stops.{StopsAt, status_of_stop}
 use Rattle.desk_run.specs.Truth.{IsOurs}

@@ -13,7 +13,8 @@ use Rattle.desk_words.specs.declared.roots.Query.{Query}
 use Rattle.desk_words.specs.declared.roots.RootsFault.{RootsFault}
 use Rattle.desk_words.specs.declared.roots.RootsFault.TheVariants.{Usage, Nested, Memory}
 use Rattle.desk_words.specs.Roots.{order_of_words, RefusedBy}
-use Rattle.desk_run.specs.Named.{Asked, asked_roots, asked_by, asked_of, status_of_words, UnlessOther, OfRun, UnlessAnswered, OfMigration, WhereGenerate, OfGenerate, WhereSql, OfSql, WhereQuery, OfQuery}
+use Rattle.desk_run.specs.Asked.{Asked, asked_roots}
+use Rattle.desk_run.specs.Named.{asked_by, asked_of, status_of_words, UnlessOther, OfRun, WhereGenerate, OfGenerate, WhereSql, OfSql, WhereQuery, OfQuery}
 use Rattle.desk_run.specs.Answers.{first_answer}
 use Rattle.desk_run.specs.Endings.{WhereTold, Tells, StandsAfter, ReportedOf, Named, Committed, HasCauses, is_final}
 use Rattle.desk_run.specs.Generated.{TellsTotals}
@@ -65,26 +66,6 @@ where_any (Err fault) P p = tt
 pub of_generate_any : (words : List Text) (P : ℕ → Type 0) → ((n : ℕ) → P n) → OfGenerate words P
 of_generate_any words P p = where_any (order_of_words words) P p
 
-answered_any : (o : Result Order RootsFault) (P : Type 0) → P → UnlessAnswered o P
-answered_any (Ok (order.Run roots workers)) P p = p
-answered_any (Ok (order.Generate count workers)) P p = p
-answered_any (Ok (order.GenerateSql count workers)) P p = tt
-answered_any (Ok (order.Query asked)) P p = tt
-answered_any (Err fault) P p = p
-
-pub of_migration_any : (words : List Text) (P : Type 0) → P → OfMigration words P
-of_migration_any words P p = answered_any (order_of_words words) P p
-
-answered_both : (o : Result Order RootsFault) (A B C : Type 0) → (A → B → C) → UnlessAnswered o A → UnlessAnswered o B → UnlessAnswered o C
-answered_both (Ok (order.Run roots workers)) A B C h a b = h a b
-answered_both (Ok (order.Generate count workers)) A B C h a b = h a b
-answered_both (Ok (order.GenerateSql count workers)) A B C h a b = tt
-answered_both (Ok (order.Query asked)) A B C h a b = tt
-answered_both (Err fault) A B C h a b = h a b
-
-pub of_migration_both : (words : List Text) (A B C : Type 0) → (A → B → C) → OfMigration words A → OfMigration words B → OfMigration words C
-of_migration_both words A B C h a b = answered_both (order_of_words words) A B C h a b
-
 -- ---- words of a run
 
 pub at_run : (words : List Text) (roots : Roots) (workers : ℕ) (P : Asked → Type 0) → order_of_words words ≡ Ok (order.Run roots workers) → P (asked_roots roots) → P (asked_of words)
@@ -101,7 +82,7 @@ at_generate words count workers P e p = let Q : Result Order RootsFault → Type
 pub no_run : (words : List Text) (count workers : ℕ) (P : Type 0) → order_of_words words ≡ Ok (order.Generate count workers) → OfRun words P
 no_run words count workers P e = let Q : Result Order RootsFault → Type 0 = λ o. UnlessOther o P in subst Q (sym e) tt
 
-pub asked_generate : (words : List Text) (count workers : ℕ) (P : Asked → Type 0) → order_of_words words ≡ Ok (order.Generate count workers) → P (Err status.Done) → P (asked_of words)
+pub asked_generate : (words : List Text) (count workers : ℕ) (P : Asked → Type 0) → order_of_words words ≡ Ok (order.Generate count workers) → P (Err (λ m l. status.Done)) → P (asked_of words)
 asked_generate words count workers P e p = let Q : Result Order RootsFault → Type 0 = λ o. P (asked_by o) in subst Q (sym e) p
 
 -- a run that tells totals is done where it is final
@@ -180,9 +161,6 @@ sql_of words o P e p = let Q : Result Order RootsFault → Type 0 = λ o. WhereS
 
 pub run_of : (words : List Text) (o : Result Order RootsFault) (P : Type 0) → order_of_words words ≡ o → UnlessOther o P → OfRun words P
 run_of words o P e p = let Q : Result Order RootsFault → Type 0 = λ o. UnlessOther o P in subst Q (sym e) p
-
-pub migration_of : (words : List Text) (o : Result Order RootsFault) (P : Type 0) → order_of_words words ≡ o → UnlessAnswered o P → OfMigration words P
-migration_of words o P e p = let Q : Result Order RootsFault → Type 0 = λ o. UnlessAnswered o P in subst Q (sym e) p
 
 pub generate_of : (words : List Text) (o : Result Order RootsFault) (P : ℕ → Type 0) → order_of_words words ≡ o → WhereGenerate o P → OfGenerate words P
 generate_of words o P e p = let Q : Result Order RootsFault → Type 0 = λ o. WhereGenerate o P in subst Q (sym e) p
@@ -266,9 +244,9 @@ pub generate_first : (words : List Text) (count workers : ℕ) (m : Contents) (l
 generate_first words count workers m l old new s e t i = asked_generate words count workers (λ a. s ≡ first_answer a m l) e (totals_first count old new s t i)
 
 pub generate_causes : (words : List Text) (count workers : ℕ) (told : Option Contents) (f k o o' : ℕ) (old new : Option Text) (s : Status) → order_of_words words ≡ Ok (order.Generate count workers) → TellsTotals count old new s
-    → HasCauses (Err status.Done) None s 0 0 0 0 o o' → HasCauses (asked_of words) told s f f k k o o'
+    → HasCauses (Err (λ m l. status.Done)) None s 0 0 0 0 o o' → HasCauses (asked_of words) told s f f k k o o'
 generate_causes words count workers told f k o o' old new s e t c = asked_generate words count workers (λ a. HasCauses a told s f f k k o o') e (by s t c) where
-  by : (s : Status) → TellsTotals count old new s → HasCauses (Err status.Done) None s 0 0 0 0 o o' → HasCauses (Err status.Done) told s f f k k o o'
+  by : (s : Status) → TellsTotals count old new s → HasCauses (Err (λ m l. status.Done)) None s 0 0 0 0 o o' → HasCauses (Err (λ m l. status.Done)) told s f f k k o o'
   by status.Done t c = c
   by status.OutputFault t c = c
   by status.Memory t c = c

@@ -27,7 +27,7 @@ use Rattle.desk_intake.specs.Halts.{HaltsWith}
 use Rattle.desk_intake.specs.Limits.{paths_answer, size_answer}
 use Rattle.desk_run.specs.Meaning.{header_of, run_of, run_by_roots, run_by_rules, run_of_asked}
 use Rattle.desk_intake.specs.Rulings.{ruled}
-use Rattle.desk_run.specs.Named.{Asked, asked_roots}
+use Rattle.desk_run.specs.Asked.{Asked, asked_roots}
 use Rattle.desk_run.specs.Notes.{IsRead, measured_of}
 use Rattle.desk_run.specs.Reports.{ending}
 use Rattle.desk_run.specs.declared.gather.Gathered.{Gathered}

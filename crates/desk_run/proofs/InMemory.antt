@@ -14,9 +14,9 @@ use Rattle.desk_ledger.specs.Ledger.{Ledger}
 use Rattle.desk_report.specs.declared.lines.Summary.{Summary}
 use Rattle.desk_report.specs.declared.status.Status.{Status}
 use Rattle.desk_words.specs.declared.roots.Roots.{Roots}
-use Rattle.desk_run.specs.Named.{asked_roots}
+use Rattle.desk_run.specs.Asked.{asked_roots}
 use Rattle.desk_run.specs.Runs.{Run}
-use Rattle.desk_run.specs.Meaning.{run_of_asked}
+use Rattle.desk_run.specs.Meaning.{Meant, run_of_asked}
 use Rattle.desk_run.specs.Reports.{summary_of}
 use Rattle.desk_run.specs.Endings.{WhereTold}
 use Rattle.desk_run.specs.Generated.{placed, generated_roots, generated_files, generated_contents, generated_totals, totals_by}
@@ -42,9 +42,9 @@ pub contents_are : (n : ℕ) → filled (generated_files n) fin.empty ≡ genera
 unfolding generated_contents
 contents_are n = refl
 
-ok_totals : (m : Contents) (r : Result Run Status) (totals : Summary) → IsOkAnd r (λ run. totals ≡ summary_of run fin.empty (files_below run.from m)) → totals_by m r ≡ Ok totals
+ok_totals : (m : Contents) (r : Meant) (totals : Summary) → IsOkAnd r (λ run. totals ≡ summary_of run fin.empty (files_below run.from m)) → totals_by m r ≡ Ok totals
 ok_totals m (Ok run) totals e = ap Ok (sym e)
-ok_totals m (Err status) totals e = absurd e
+ok_totals m (Err answer) totals e = absurd e
 
 -- the totals of the run over what the folders hold
 pub totals_told : (n : ℕ) (files : List GenFile) (roots : Roots) (totals : Summary) → files ≡ generated_files n → roots ≡ generated_roots

@@ -16,5 +16,6 @@ pub mod Finishing
 pub mod Referring
 pub mod Following
 pub mod Answering
+pub mod FirstAnswers
 pub mod GeneratingSql
 pub mod InMemory

@@ -26,7 +26,7 @@ use Rattle.desk_run.specs.Answers.{clash_status, clash_answer, first_of, files_a
 use Rattle.desk_run.specs.Endings.{GatheredFrom, HasGathered, IsAnswer, IsReady, Planned, LedgerEarly, HaltsEarly}
 use Rattle.desk_run.specs.Halts.{HaltsGathering, HaltsPlan, AnswersPlan, LedgerOwn, is_ledger_status, is_names_status, is_early_answer}
 use Rattle.desk_run.specs.Meaning.{defined_in, finds_in, header_of, run_of, run_of_asked}
-use Rattle.desk_run.specs.Named.{Asked, asked_roots}
+use Rattle.desk_run.specs.Asked.{Asked, asked_roots}
 use Rattle.desk_run.specs.Notes.{IsRead, measured_of, noted_by}
 use Rattle.desk_run.specs.Reports.{ending}
 use Rattle.desk_run.specs.Runs.{Run, AllRelative, targets_of}

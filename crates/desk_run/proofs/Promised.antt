@@ -12,7 +12,7 @@ use Rattle.desk_report.specs.declared.status.Status.TheVariants.{Done, Refusals,
 use Rattle.desk_report.specs.Texts.{fault_text}
 use Rattle.desk_report.specs.Written.{WritesFront, writing}
 use Rattle.desk_kept_code.proofs.Whole.{kept_codes}
-use Rattle.desk_run.specs.Named.{Asked}
+use Rattle.desk_run.specs.Asked.{Asked}
 use Rattle.desk_batches.specs.Works.{Work}
 use Rattle.desk_intake.specs.declared.halts.Halt.{Halt}
 use Rattle.std.proofs.lemmas.Bool.{and_parts}
@@ -37,7 +37,7 @@ use Rattle.desk_run.specs.Truth.{IsVerified, SoundLedger, TrueLedger}
 use Rattle.desk_run.specs.Stops.{status_of_halt}
 use Rattle.desk_run.specs.Stands.{Unchanged, Between, Stands, Remains}
 use Rattle.desk_run.specs.Classes.{is_selected_class, HoldsNewClass, RenamesClasses, Classes}
-use Rattle.desk_run.specs.Meaning.{defined_in, run_of, run_of_asked}
+use Rattle.desk_run.specs.Meaning.{Meant, defined_in, run_of, run_of_asked}
 use Rattle.desk_run.specs.Endings.{WhereTold, Tells, Planned, HaltsEarly, Finishes, ReportedOf, HasCauses, StandsAt, IsDone, StandsAfter, is_final, Named}
 use Rattle.desk_run.specs.Clauses.{HoldsFiles, HoldsRows, Files, CompleteRows, TrueBehind, KeepsLedger, LedgerHolds, Output, Exact, RemainsAt, Left}
 use Rattle.desk_run.specs.Generated.{TellsTotals, Generates, generated_totals}
@@ -238,7 +238,7 @@ ledger_clause asked f0 f k0 k name0 name status stands named = record {
 
 pub remains_at : (asked : Asked) (m0 : Contents) (l0 : Ledger) (m : Contents) (l : Ledger) (done : ℕ) → StandsAt asked m0 l0 m l done → RemainsAt asked m0 l0 m l done
 remains_at asked m0 l0 m l done (inl u) = by (run_of_asked asked m0) where
-  by : (r : Result Run Status) → MatchResult r (λ run. Remains run m0 l0 m l done) (λ _. Unchanged m0 l0 m l done)
+  by : (r : Meant) → MatchResult r (λ run. Remains run m0 l0 m l done) (λ _. Unchanged m0 l0 m l done)
   by (Ok run) = remains_of run m0 l0 m l done (inl u)
   by (Err status) = u
 remains_at asked m0 l0 m l done (inr b) = subst (λ r. MatchResult r (λ run. Remains run m0 l0 m l done) (λ _. Unchanged m0 l0 m l done)) (sym b.is) (remains_of b.run m0 l0 m l done (inr b.stands))

@@ -24,7 +24,7 @@ use Rattle.desk_run.specs.Answers.{first_of, files_answer, name_clash_status, na
 use Rattle.desk_run.specs.Endings.{IsDone, StandsAfter, Tells}
 use Rattle.desk_run.specs.Follows.{FollowOver, ReferencesFollow, Follow}
 use Rattle.desk_run.specs.Meaning.{defined_in, run_of}
-use Rattle.desk_run.specs.Named.{Asked}
+use Rattle.desk_run.specs.Asked.{Asked}
 use Rattle.desk_run.specs.Runs.{Run}
 use Rattle.desk_ledger.specs.Ledger.{Ledger}
 use Rattle.desk_second.proofs.Classes.{class_kind}

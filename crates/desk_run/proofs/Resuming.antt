@@ -17,10 +17,10 @@ use Rattle.desk_report.specs.declared.status.Status.TheVariants.{Done, Refusals,
 use Rattle.desk_second.specs.Applications.{classes_of}
 use Rattle.desk_words.specs.declared.roots.Roots.{Roots}
 use Rattle.desk_intake.specs.declared.rules.Ruled.{Ruled}
-use Rattle.desk_run.specs.Named.{Asked}
+use Rattle.desk_run.specs.Asked.{Asked}
 use Rattle.desk_run.specs.Runs.{Run, has_output, is_kept, is_kept_file, is_fresh}
 use Rattle.desk_run.specs.Truth.{TrueLedger}
-use Rattle.desk_run.specs.Meaning.{finds_in, run_of, run_over, run_by_rules, run_of_asked}
+use Rattle.desk_run.specs.Meaning.{Meant, finds_in, run_of, run_over, run_by_rules, run_of_asked}
 use Rattle.desk_intake.specs.Rulings.{ruled}
 use Rattle.desk_run.specs.Stands.{Unchanged, Remains}
 use Rattle.desk_run.specs.Endings.{Tells, StandsAfter}
@@ -108,7 +108,7 @@ spares_complete run m0 l0 m l h r = record {
 }
 
 spares_at : (asked : Asked) (m0 : Contents) (l0 : Ledger) (m : Contents) (l : Ledger) (done : ℕ) (run : Run) → run_of_asked asked m0 ≡ Ok run → RemainsAt asked m0 l0 m l done → Spares run m0 l0 m l
-spares_at asked m0 l0 m l done run e r = spares_remains run m0 l0 m l done (subst (λ (x : Result Run Status). MatchResult x (λ run. Remains run m0 l0 m l done) (λ _. Unchanged m0 l0 m l done)) e r)
+spares_at asked m0 l0 m l done run e r = spares_remains run m0 l0 m l done (subst (λ (x : Meant). MatchResult x (λ run. Remains run m0 l0 m l done) (λ _. Unchanged m0 l0 m l done)) e r)
 
 spares_stopped : (asked : Asked) (m0 : Contents) (l0 : Ledger) (m : Contents) (l : Ledger) (run : Run) → run_of_asked asked m0 ≡ Ok run → WasStopped asked m0 l0 m l → Spares run m0 l0 m l
 spares_stopped asked m0 l0 m l run e w = by w.status w.stopped w.remains where
@@ -117,7 +117,7 @@ spares_stopped asked m0 l0 m l run e w = by w.status w.stopped w.remains where
   by (FolderFault done) s r = spares_at asked m0 l0 m l done run e r
   by (LedgerFault done) s r = spares_at asked m0 l0 m l done run e r
   by OutputFault s r =
-      let both = subst (λ (x : Result Run Status). IsOkAnd x (λ run. HoldsFiles run m0 l0 m × HoldsRows run m0 l0 l)) e r in
+      let both = subst (λ (x : Meant). IsOkAnd x (λ run. HoldsFiles run m0 l0 m × HoldsRows run m0 l0 l)) e r in
       spares_complete run m0 l0 m l both.0 both.1
   by Done s r = cc
   by Refusals s r = cc
@@ -199,23 +199,23 @@ completed : (asked : Asked) (m0 : Contents) (l0 : Ledger) (m1 : Contents) (l1 : 
 completed asked m0 l0 m1 l1 m run is stopped stays h =
     let same = same_run asked m0 m1 run stays is in
     let truth = stopped.ledger.stays run is (stopped.truth run is) in
-    let holds = subst (λ (o : Result Run Status). IsOkAnd o (λ run. HoldsFiles run m1 l1 m)) same.is h in
+    let holds = subst (λ (o : Meant). IsOkAnd o (λ run. HoldsFiles run m1 l1 m)) same.is h in
     let files = one_run run same.roots m0 l0 m1 l1 m same.source same.finds same.to (spares_stopped asked m0 l0 m1 l1 run is stopped) truth holds in
     record { run = run; is = is; files = files; only = λ other. same_folders run m0 l0 m other files }
 
 -- where words and folders mean no run, none completes
-no_run : (asked : Asked) (m0 m : Contents) (status : Status) → LeavesSources asked m0 m → run_of_asked asked m0 ≡ Err status → run_of_asked asked m ≡ Err status
-no_run (Err other) m0 m status s e = e
-no_run (Ok roots) m0 m status s e = by (ruled roots.rules (files_below roots.rules m0)) refl e where
-  by : (r : Result Ruled Status) → ruled roots.rules (files_below roots.rules m0) ≡ r → run_by_rules m0 roots r ≡ Err status → run_of_asked (Ok roots) m ≡ Err status
+no_run : (asked : Asked) (m0 m : Contents) (answer : Ledger → Status) (P : Run → Type 0) → LeavesSources asked m0 m → run_of_asked asked m0 ≡ Err answer → IsOkAnd (run_of_asked asked m) P → ⊥
+no_run (Err other) m0 m answer P s e h = h
+no_run (Ok roots) m0 m answer P s e h = by (ruled roots.rules (files_below roots.rules m0)) refl e where
+  by : (r : Result Ruled Status) → ruled roots.rules (files_below roots.rules m0) ≡ r → run_by_rules m0 roots r ≡ Err answer → ⊥
   by (Ok r) f g = cc
-  by (Err other) f g = ap (λ fs. run_by_rules m roots (ruled roots.rules fs)) s.rules ∙ ap (run_by_rules m roots) f ∙ g
+  by (Err status) f g = subst (λ (o : Meant). IsOkAnd o P) (ap (λ fs. run_by_rules m roots (ruled roots.rules fs)) s.rules ∙ ap (run_by_rules m roots) f) h
 
 goes_on : (asked : Asked) (m1 : Contents) (l1 : Ledger) (m : Contents) → IsOkAnd (run_of_asked asked m1) (λ run. HoldsFiles run m1 l1 m) → GoesOn asked m1 l1 m
 goes_on asked m1 l1 m h m0 l0 stopped stays = by (run_of_asked asked m0) refl where
-  by : (o : Result Run Status) → run_of_asked asked m0 ≡ o → IsOneRun asked m0 l0 m
+  by : (o : Meant) → run_of_asked asked m0 ≡ o → IsOneRun asked m0 l0 m
   by (Ok run) e = completed asked m0 l0 m1 l1 m run e stopped stays h
-  by (Err status) e = absurd (subst (λ (o : Result Run Status). IsOkAnd o (λ run. HoldsFiles run m1 l1 m)) (no_run asked m0 m1 status stays e) h)
+  by (Err answer) e = absurd (no_run asked m0 m1 answer (λ run. HoldsFiles run m1 l1 m) stays e h)
 
 pub resume_clause : (asked : Asked) (m1 : Contents) (l1 : Ledger) (f : Option Contents) (k : Option Ledger) (status : Status)
     → Tells f k (λ m l. StandsAfter asked m1 l1 m l status) → Tells f k (λ m _. Resumes asked m1 l1 m status)

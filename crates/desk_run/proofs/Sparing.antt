@@ -27,7 +27,8 @@ use Rattle.desk_words.specs.declared.roots.RootsFault.{RootsFault}
 use Rattle.desk_words.specs.Roots.{AreRoots, RootsApart, order_of_words}
 use Rattle.desk_words.proofs.Rooted.{order_is_sound}
 use Rattle.desk_intake.specs.declared.rules.Ruled.{Ruled}
-use Rattle.desk_run.specs.Named.{Asked, asked_by, asked_of}
+use Rattle.desk_run.specs.Asked.{Asked}
+use Rattle.desk_run.specs.Named.{asked_by, asked_of}
 use Rattle.desk_run.specs.Runs.{Run, TargetsApart, AllRelative, targets_of}
 use Rattle.desk_intake.specs.Rulings.{ruled}
 use Rattle.desk_run.specs.Meaning.{run_by_rules, run_of_asked}

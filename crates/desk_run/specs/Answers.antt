@@ -14,8 +14,8 @@ use Rattle.desk_report.specs.declared.status.Status.TheVariants.{Usage, NestedRo
 use Rattle.desk_intake.specs.Limits.{paths_answer, size_answer}
 use Rattle.desk_run.specs.Reports.{ending}
 use Rattle.desk_run.specs.Runs.{Run}
-use Rattle.desk_run.specs.Named.{Asked}
-use Rattle.desk_run.specs.Meaning.{run_of_asked}
+use Rattle.desk_run.specs.Asked.{Asked}
+use Rattle.desk_run.specs.Meaning.{Meant, run_of_asked}
 
 -- the first of two that stands
 abbrev pub first_of : Option Status → Option Status → Option Status
@@ -62,8 +62,8 @@ abbrev pub or_else : Option Status → Status → Status
 or_else None status = status
 or_else (Some first) status = first
 
-abbrev pub answer_of_run : Contents → Ledger → Result Run Status → Status
-answer_of_run m l (Err status) = status
+abbrev pub answer_of_run : Contents → Ledger → Meant → Status
+answer_of_run m l (Err answer) = answer l
 answer_of_run m l (Ok run) = or_else (files_answer run.from run.target run.whole m) (or_else (names_answer run.name run.classes) (or_else (other_run run.header l.header) (ending run l.rows (files_below run.from m))))
 
 -- the first that stands of: words without a task; nested roots; too many rule files; a rule file that is
@@ -74,8 +74,8 @@ first_answer asked m l = answer_of_run m l (run_of_asked asked m)
 
 -- what the causes of a status are, where nothing is told
 abbrev pub AskedCause : Asked → Status → Type 0
-AskedCause asked Usage = asked ≡ Err Usage
-AskedCause asked (NestedRoots first second) = asked ≡ Err (NestedRoots first second)
+AskedCause asked Usage = asked ≡ Err (λ m l. Usage)
+AskedCause asked (NestedRoots first second) = asked ≡ Err (λ m l. NestedRoots first second)
 AskedCause asked _ = Unit {0}
 
 -- a status with which words, folders or ledger stand against a run

@@ -19,7 +19,7 @@ use Rattle.desk_rules.specs.Rules.{Rules}
 use Rattle.desk_follow.specs.Follow.{HasImagesOfNames}
 use Rattle.desk_file.specs.ClassScans.{is_class_kind}
 use Rattle.desk_words.specs.declared.roots.Roots.{Roots}
-use Rattle.desk_run.specs.Named.{Asked}
+use Rattle.desk_run.specs.Asked.{Asked}
 use Rattle.desk_intake.specs.declared.rules.Ruled.{Ruled}
 use Rattle.desk_run.specs.Meaning.{run_of, run_of_asked}
 use Rattle.desk_run.specs.Runs.{Run, is_kept_file}

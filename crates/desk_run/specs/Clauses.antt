@@ -11,7 +11,7 @@ use Rattle.desk_report.specs.declared.status.Status.TheVariants.{Done, Refusals,
 use Rattle.desk_report.specs.Texts.{fault_text}
 use Rattle.desk_report.specs.Written.{WritesFront, writing}
 use Rattle.desk_file.specs.declared.images.Image.{Image}
-use Rattle.desk_run.specs.Named.{Asked}
+use Rattle.desk_run.specs.Asked.{Asked}
 use Rattle.desk_run.specs.Runs.{Run, row_of, is_kept_file, is_fresh}
 use Rattle.desk_run.specs.Truth.{IsTrusted, IsVerified, SoundLedger, TrueLedger}
 use Rattle.desk_run.specs.Stands.{Unchanged, Remains}

@@ -33,7 +33,7 @@ use Rattle.desk_run.specs.Notes.{IsRead, measured_of}
 use Rattle.desk_run.specs.declared.gather.Gathered.{Gathered}
 use Rattle.desk_run.specs.Stops.{StopsAt, status_of_halt}
 use Rattle.desk_run.specs.Stands.{Unchanged, Between, Within}
-use Rattle.desk_run.specs.Named.{Asked, asked_roots}
+use Rattle.desk_run.specs.Asked.{Asked, asked_roots}
 use Rattle.desk_run.specs.Meaning.{header_of, run_of, run_of_asked}
 use Rattle.desk_run.specs.Answers.{files_answer, names_answer, other_run, first_answer, is_answer, AskedCause}
 
@@ -244,7 +244,7 @@ NamedBy old new name (FolderFault done) = (new ≡ old) ⊎ (new ≡ Some name)
 NamedBy old new name (LedgerFault done) = (new ≡ old) ⊎ (new ≡ Some name)
 NamedBy old new name _ = new ≡ old
 
-abbrev pub NamedByRoots : Option Text → Option Text → Status → Result Roots Status → Type 0
+abbrev pub NamedByRoots : Option Text → Option Text → Status → Asked → Type 0
 NamedByRoots old new status (Ok roots) = NamedBy old new roots.ledger status
 NamedByRoots old new status (Err fault) = new ≡ old
 

@@ -15,7 +15,7 @@ use Rattle.desk_words.specs.declared.roots.Roots.{Roots}
 use Rattle.desk_intake.specs.declared.rules.Ruled.{Ruled}
 use Rattle.desk_run.specs.Classes.{is_selected_class}
 use Rattle.desk_run.specs.Meaning.{run_of, run_of_asked}
-use Rattle.desk_run.specs.Named.{Asked}
+use Rattle.desk_run.specs.Asked.{Asked}
 use Rattle.desk_run.specs.Runs.{Run}
 
 -- The image of each selected class that is accepted defines the image of its name, and holds the image of a name that the files

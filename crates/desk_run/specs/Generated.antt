@@ -7,6 +7,7 @@ use Rattle.desk_base.specs.Counts.{Rose}
 use Rattle.desk_folders.specs.declared.folders.GenFile.{GenFile}
 use Rattle.desk_folders.specs.Contents.{Contents, files_below}
 use Rattle.desk_folders.specs.InMemory.{filled}
+use Rattle.desk_ledger.specs.Ledger.{Ledger}
 use Rattle.desk_gen.specs.Application.{generated, rule_file}
 use Rattle.desk_report.specs.declared.lines.Summary.{Summary}
 use Rattle.desk_report.specs.declared.status.Status.{Status}
@@ -14,9 +15,9 @@ use Rattle.desk_report.specs.declared.status.Status.TheVariants.{Done, Memory, O
 use Rattle.desk_report.specs.Texts.{fault_text, summary_text}
 use Rattle.desk_report.specs.Written.{WritesFront, writing}
 use Rattle.desk_words.specs.declared.roots.Roots.{Roots}
-use Rattle.desk_run.specs.Named.{asked_roots}
+use Rattle.desk_run.specs.Asked.{asked_roots}
 use Rattle.desk_run.specs.Runs.{Run}
-use Rattle.desk_run.specs.Meaning.{run_of_asked}
+use Rattle.desk_run.specs.Meaning.{Meant, run_of_asked}
 use Rattle.desk_run.specs.Reports.{summary_of}
 use Rattle.desk_run.specs.Clauses.{TwoFronts}
 
@@ -36,12 +37,12 @@ unfoldable pub generated_contents : ℕ → Contents
 generated_contents n = filled (generated_files n) fin.empty
 
 -- the totals of a run over folders that hold this, without a ledger's rows
-abbrev pub totals_by : Contents → Result Run Status → Result Summary Status
+abbrev pub totals_by : Contents → Meant → Result Summary (Ledger → Status)
 totals_by m (Ok run) = Ok (summary_of run fin.empty (files_below run.from m))
-totals_by m (Err status) = Err status
+totals_by m (Err answer) = Err answer
 
 -- the totals of the run over a generated application of so many classes
-abbrev pub generated_totals : ℕ → Result Summary Status
+abbrev pub generated_totals : ℕ → Result Summary (Ledger → Status)
 generated_totals n = totals_by (generated_contents n) (run_of_asked (asked_roots generated_roots) (generated_contents n))
 
 -- what such a run writes up to its end: the line of its totals alone, or a front of it

@@ -11,7 +11,7 @@ use Rattle.desk_ledger.specs.Ledger.{Ledger, with_header}
 use Rattle.desk_report.specs.declared.status.Status.{Status}
 use Rattle.desk_report.specs.declared.status.Status.TheVariants.{Usage, NestedRoots, BadRules, Limit, PathClash, NameClash, Stranded, OtherRun}
 use Rattle.desk_words.specs.declared.roots.Roots.{Roots}
-use Rattle.desk_run.specs.Named.{Asked}
+use Rattle.desk_run.specs.Asked.{Asked}
 use Rattle.desk_readings.specs.declared.measured.Measured.{Measured}
 use Rattle.desk_intake.specs.Halts.{HaltsWith, is_files_status}
 use Rattle.desk_intake.specs.declared.halts.Halt.{Halt}

@@ -4,9 +4,8 @@ pub mod Notes
 pub mod Truth
 pub mod Stands
 pub mod Stops
-pub mod Queries
 pub mod Reports
-pub mod Named
+pub mod Asked
 pub mod Meaning
 pub mod Answers
 pub mod Halts
@@ -17,3 +16,5 @@ pub mod Clauses
 pub mod Resuming
 pub mod Generated
 pub mod GeneratedSql
+pub mod Queries
+pub mod Named

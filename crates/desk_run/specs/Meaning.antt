@@ -12,13 +12,14 @@ use Rattle.desk_graph.specs.Application.{defined_names}
 use Rattle.desk_graph.specs.declared.scanned.Scanned.{Scanned}
 use Rattle.desk_ledger.specs.declared.keeper.Header.{Header}
 use Rattle.desk_ledger.specs.declared.keeper.Held.{Held}
+use Rattle.desk_ledger.specs.Ledger.{Ledger}
 use Rattle.desk_rename.specs.Images.{cls}
 use Rattle.desk_report.specs.declared.status.Status.{Status}
 use Rattle.desk_second.specs.Applications.{classes_of}
 use Rattle.desk_words.specs.declared.roots.Roots.{Roots}
 use Rattle.desk_intake.specs.Rulings.{ruled}
 use Rattle.desk_intake.specs.declared.rules.Ruled.{Ruled}
-use Rattle.desk_run.specs.Named.{Asked}
+use Rattle.desk_run.specs.Asked.{Asked}
 use Rattle.desk_run.specs.Runs.{Run, has_output}
 
 -- the header of a run
@@ -53,14 +54,18 @@ run_over roots r m classes = record {
 abbrev pub run_of : Roots → Ruled → Contents → Run
 run_of roots r m = run_over roots r m (classes_of r.rules (files_below roots.from m))
 
-abbrev pub run_by_rules : Contents → Roots → Result Ruled Status → Result Run Status
-run_by_rules m roots (Ok r) = Ok (run_of roots r m)
-run_by_rules m roots (Err status) = Err status
+-- a run, or the status that stands in place of one where a ledger holds this
+abbrev pub Meant : Type 0
+Meant = Result Run (Ledger → Status)
 
-abbrev pub run_by_roots : Contents → Result Roots Status → Result Run Status
+abbrev pub run_by_rules : Contents → Roots → Result Ruled Status → Meant
+run_by_rules m roots (Ok r) = Ok (run_of roots r m)
+run_by_rules m roots (Err status) = Err (λ l. status)
+
+abbrev pub run_by_roots : Contents → Asked → Meant
 run_by_roots m (Ok roots) = run_by_rules m roots (ruled roots.rules (files_below roots.rules m))
-run_by_roots m (Err status) = Err status
+run_by_roots m (Err answer) = Err (answer m)
 
 -- the run of words, by the rules in the folders
-abbrev pub run_of_asked : Asked → Contents → Result Run Status
-run_of_asked asked m = run_by_roots m (asked)
+abbrev pub run_of_asked : Asked → Contents → Meant
+run_of_asked asked m = run_by_roots m asked

@@ -1,9 +1,8 @@
--- What words ask for: the roots of a run, or the status that tells why they name none.
+-- What words ask for, and what is said of words by what they ask for.
 use Rattle.std.specs.Prelude.{ℕ, List, Result, Ok, Err}
 use Rattle.desk_base.specs.Names.{Text, Package}
 use Rattle.desk_report.specs.declared.status.Status.{Status}
 use Rattle.desk_report.specs.declared.status.Status.TheVariants as status
-use Rattle.desk_words.specs.declared.roots.Roots.{Roots}
 use Rattle.desk_words.specs.declared.roots.Order.{Order}
 use Rattle.desk_words.specs.declared.roots.Order.TheVariants as order
 use Rattle.desk_words.specs.declared.roots.Query.{Query}
@@ -11,14 +10,9 @@ use Rattle.desk_words.specs.declared.roots.Query.TheVariants as query
 use Rattle.desk_words.specs.declared.roots.RootsFault.{RootsFault}
 use Rattle.desk_words.specs.declared.roots.RootsFault.TheVariants.{Usage, Nested, Memory}
 use Rattle.desk_words.specs.Roots.{order_of_words}
-
--- the roots of a run, or the status that stands in place of them
-abbrev pub Asked : Type 0
-Asked = Result Roots Status
-
--- a run over these roots
-abbrev pub asked_roots : Roots → Asked
-asked_roots roots = Ok roots
+use Rattle.desk_run.specs.Asked.{Asked}
+use Rattle.desk_run.specs.GeneratedSql.{generated_answer}
+use Rattle.desk_run.specs.Queries.{query_answer}
 
 -- how a fault of words is told
 abbrev pub status_of_words : RootsFault → Status
@@ -26,13 +20,15 @@ status_of_words Usage = status.Usage
 status_of_words (Nested first second) = status.NestedRoots first second
 status_of_words Memory = status.Memory
 
--- of other tasks than a run nothing stands against the words: `generate` names no roots, and a query has answers of its own
+-- words that ask for a run name its roots. A generated application with folders and a ledger of its own is always done; one whose
+-- rows go into the ledger that is handed in, unless that is another run's; a query ends as its answer says, and other words as their
+-- fault is told
 abbrev pub asked_by : Result Order RootsFault → Asked
 asked_by (Ok (order.Run roots workers)) = Ok roots
-asked_by (Ok (order.Generate count workers)) = Err status.Done
-asked_by (Ok (order.GenerateSql count workers)) = Err status.Done
-asked_by (Ok (order.Query asked)) = Err status.Done
-asked_by (Err fault) = Err (status_of_words fault)
+asked_by (Ok (order.Generate count workers)) = Err (λ m l. status.Done)
+asked_by (Ok (order.GenerateSql count workers)) = Err (λ m l. generated_answer count l)
+asked_by (Ok (order.Query asked)) = Err (λ m l. query_answer asked m)
+asked_by (Err fault) = Err (λ m l. status_of_words fault)
 
 abbrev pub asked_of : List Text → Asked
 asked_of words = asked_by (order_of_words words)
@@ -46,16 +42,6 @@ UnlessOther _ P = P
 -- of all words but those that ask for another task than a run
 abbrev pub OfRun : List Text → Type 0 → Type 0
 OfRun words P = UnlessOther (order_of_words words) P
-
-abbrev pub UnlessAnswered : Result Order RootsFault → Type 0 → Type 0
-UnlessAnswered (Ok (order.GenerateSql count workers)) P = Unit {0}
-UnlessAnswered (Ok (order.Query asked)) P = Unit {0}
-UnlessAnswered _ P = P
-
--- of all words but those of a task that has answers of its own: a generated application whose rows go into the ledger that is
--- handed in, and a query
-abbrev pub OfMigration : List Text → Type 0 → Type 0
-OfMigration words P = UnlessAnswered (order_of_words words) P
 
 abbrev pub WhereGenerate : Result Order RootsFault → (ℕ → Type 0) → Type 0
 WhereGenerate (Ok (order.Generate count workers)) P = P count

@@ -58,6 +58,14 @@ abbrev pub answer_of : Query → Contents → Answer
 answer_of (CallsOf from scope) = calls_told from scope
 answer_of (Invert rules) = inverse_told rules
 
+abbrev pub status_of_answer : Answer → Status
+status_of_answer (Ok told) = told.1
+status_of_answer (Err against) = against
+
+-- what a query ends with, unless a call fails or memory runs out
+abbrev pub query_answer : Query → Contents → Status
+query_answer asked m = status_of_answer (answer_of asked m)
+
 -- a status that may stand against a query
 abbrev pub stands_against : Query → Status → Bool
 stands_against (CallsOf from scope) (Limit kind path) = true

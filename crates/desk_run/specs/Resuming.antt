@@ -6,7 +6,7 @@ use Rattle.desk_ledger.specs.Ledger.{Ledger}
 use Rattle.desk_report.specs.declared.status.Status.{Status}
 use Rattle.desk_report.specs.declared.status.Status.TheVariants.{Done, Refusals, Memory, FolderFault, LedgerFault, OutputFault}
 use Rattle.desk_words.specs.declared.roots.Roots.{Roots}
-use Rattle.desk_run.specs.Named.{Asked}
+use Rattle.desk_run.specs.Asked.{Asked}
 use Rattle.desk_run.specs.Runs.{Run}
 use Rattle.desk_run.specs.Truth.{TrueLedger}
 use Rattle.desk_run.specs.Meaning.{run_of_asked}

@@ -17,7 +17,7 @@ ghost use Rattle.desk_run.specs.Endings.{Committed, HasCauses, HasGathered, IsSi
 ghost use Rattle.desk_run.specs.GeneratedSql.{Completes, TellsLedger};
 ghost use Rattle.desk_run.specs.Halts.{HaltsPlan, NamedAtPlan};
 ghost use Rattle.desk_run.specs.Meaning.{finds_in, run_of_asked};
-ghost use Rattle.desk_run.specs.Named.{asked_roots};
+ghost use Rattle.desk_run.specs.Asked.{asked_roots};
 ghost use Rattle.desk_intake.specs.Routes.{IsRelativeRoute};
 ghost use Rattle.desk_run.specs.Notes.{measured_in, noted_by};
 ghost use Rattle.desk_run.specs.Reports.{ending_by, report_by, summary_by, summary_of};
@@ -268,7 +268,7 @@ fn tell<O: Sink>(out: &mut O, written: Written) -> Status
     ensures output { Reported (report_by written.noted.items written.outcomes.items) (O.told out.old) (O.told out.new) result }
     ensures only { IsTold result }
     ensures ends { is_final result ≡ true → result ≡ ending_by written.outcomes.items }
-    ensures cause { HasCauses (Err Done) None result 0 0 0 0 (O.faults out.old) (O.faults out.new) }
+    ensures cause { HasCauses (Err (λ m l. Done)) None result 0 0 0 0 (O.faults out.old) (O.faults out.new) }
     ensures counts { O.faults out.old ≤ O.faults out.new }
 {
     let Written { noted, outcomes } = written;

@@ -8,7 +8,7 @@ ghost use Rattle.desk_run.specs.Endings.{AreRead, HasGathered};
 ghost use Rattle.desk_run.specs.Halts.{HaltsAtFiles, HaltsGathering, HaltsReadingAll};
 ghost use Rattle.desk_run.specs.Meaning.{header_of};
 ghost use Rattle.desk_intake.specs.Rulings.{ruled};
-ghost use Rattle.desk_run.specs.Named.{asked_roots};
+ghost use Rattle.desk_run.specs.Asked.{asked_roots};
 ghost use Rattle.desk_run.specs.Notes.{IsRead};
 ghost use Rattle.desk_second.specs.Second.{AreRules};
 ghost use Rattle.desk_words.specs.Roots.{AreRoots, AreWorkers};

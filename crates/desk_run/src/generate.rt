@@ -7,7 +7,7 @@ ghost use Rattle.desk_report.specs.declared.status.Status.TheVariants.{Done};
 ghost use Rattle.desk_run.specs.Endings.{HasCauses};
 ghost use Rattle.desk_words.specs.Roots.{AreWorkers};
 ghost use Rattle.desk_run.specs.Generated.{TellsTotals, generated_contents, generated_files, generated_roots, generated_totals, placed};
-ghost use Rattle.desk_run.specs.GeneratedSql.{CompletesGenerated, LeavesSql, StopsGenerated, TellsResult, kept_status};
+ghost use Rattle.desk_run.specs.GeneratedSql.{CompletesGenerated, LeavesSql, StopsGenerated, TellsResult, kept_status, kept_totals};
 
 use crate::finish::totals_of_run;
 use desk_base::{Memory, Text};
@@ -125,6 +125,17 @@ fn kept_status(status: Status) -> Status
     }
 }
 
+/// What is told of a run over a generated application: no file of one is refused.
+fn kept_totals(totals: Result<Summary, Status>) -> Result<Summary, Status>
+    ensures { result ≡ kept_totals totals }
+{
+    match totals {
+        Ok(totals) if totals.refused == 0 => Ok(totals),
+        Ok(_) => Err(Status::Memory),
+        Err(status) => Err(kept_status(status)),
+    }
+}
+
 /// The totals of the run whose rows go into this ledger, or how it ends before them.
 fn totals_kept<R: Threads + Sync, K: Keeper, G: Gate + Sync>(
     rt: &R,
@@ -144,10 +155,7 @@ fn totals_kept<R: Threads + Sync, K: Keeper, G: Gate + Sync>(
     match folders_in_memory(alloc, roots, count) {
         Ok(folders) => {
             let mut folders = folders;
-            match totals_of_run(rt, alloc, roots, workers, &mut folders, keeper, gate) {
-                Ok(totals) => Ok(totals),
-                Err(status) => Err(kept_status(status)),
-            }
+            kept_totals(totals_of_run(rt, alloc, roots, workers, &mut folders, keeper, gate))
         }
         Err(Memory) => Err(Status::Memory),
     }
@@ -208,7 +216,7 @@ pub(crate) fn run_generated<R: Threads + Sync, O: Sink, G: Gate + Sync>(
 ) -> Status
     requires { AreWorkers workers }
     ensures told { TellsTotals count (O.told out.old) (O.told out.new) result }
-    ensures causes { HasCauses (Err Done) None result 0 0 0 0 (O.faults out.old) (O.faults out.new) }
+    ensures causes { HasCauses (Err (λ m l. Done)) None result 0 0 0 0 (O.faults out.old) (O.faults out.new) }
     ensures counts { O.faults out.old ≤ O.faults out.new }
 {
     match totals(rt, alloc, count, workers, gate) {

@@ -17,7 +17,7 @@ ghost use Rattle.desk_run.specs.Endings.{Committed, HasCauses, Named, ReportedOf
 ghost use Rattle.desk_run.specs.Follows.{Follow};
 ghost use Rattle.desk_run.specs.Generated.{Generates, TellsTotals};
 ghost use Rattle.desk_run.specs.GeneratedSql.{GeneratesSql, LeavesSql};
-ghost use Rattle.desk_run.specs.Named.{OfCalls, OfGenerate, OfInvert, OfMigration, OfQuery, OfRun, OfSql, asked_of};
+ghost use Rattle.desk_run.specs.Named.{OfCalls, OfGenerate, OfInvert, OfQuery, OfRun, OfSql, asked_of};
 ghost use Rattle.desk_run.specs.Queries.{AnswersQuery, LeavesAnswer};
 ghost use Rattle.desk_words.specs.declared.roots.Query.TheVariants as query;
 ghost use Rattle.desk_run.specs.Resuming.{LeavesSources, Resumes};
@@ -59,7 +59,7 @@ fn follow<R: Threads + Sync, F: Folders, K: Keeper, O: Sink, G: Gate + Sync>(
     gate: &G,
 ) -> Status
     ensures stands { OfRun words.now (WhereTold (F.told folders.old) (K.told keeper.old) (λ m0 l0. Tells (F.told folders.new) (K.told keeper.new) (λ m l. StandsAfter (asked_of words.now) m0 l0 m l result))) }
-    ensures first { OfMigration words.now (WhereTold (F.told folders.old) (K.told keeper.old) (λ m l. is_final result ≡ true → result ≡ first_answer (asked_of words.now) m l)) }
+    ensures first { WhereTold (F.told folders.old) (K.told keeper.old) (λ m l. is_final result ≡ true → result ≡ first_answer (asked_of words.now) m l) }
     ensures output { OfRun words.now (ReportedOf (asked_of words.now) (F.told folders.old) (K.told keeper.old) (O.told out.old) (O.told out.new) result) }
     ensures named { OfRun words.now (Named (asked_of words.now) (K.attached keeper.old) (K.attached keeper.new) result) }
     ensures committed { OfRun words.now (Committed (K.waiting keeper.new) result) }
@@ -69,7 +69,7 @@ fn follow<R: Threads + Sync, F: Folders, K: Keeper, O: Sink, G: Gate + Sync>(
     ensures apart { OfSql words.now (λ _. folders.new ≡ folders.old) }
     ensures query { OfQuery words.now (λ asked. LeavesAnswer asked (F.told folders.old) (O.told out.old) (O.told out.new) (F.faults folders.old) (F.faults folders.new) (O.faults out.old) (O.faults out.new) result) }
     ensures unchanged { OfQuery words.now (λ _. (F.told folders.new ≡ F.told folders.old) × (keeper.new ≡ keeper.old)) }
-    ensures causes { OfMigration words.now (HasCauses (asked_of words.now) (F.told folders.old) result (F.faults folders.old) (F.faults folders.new) (K.faults keeper.old) (K.faults keeper.new) (O.faults out.old) (O.faults out.new)) }
+    ensures causes { HasCauses (asked_of words.now) (F.told folders.old) result (F.faults folders.old) (F.faults folders.new) (K.faults keeper.old) (K.faults keeper.new) (O.faults out.old) (O.faults out.new) }
     ensures counts_f { F.faults folders.old ≤ F.faults folders.new }
     ensures counts_k { K.faults keeper.old ≤ K.faults keeper.new }
     ensures counts_o { O.faults out.old ≤ O.faults out.new }
@@ -98,16 +98,18 @@ fn follow<R: Threads + Sync, F: Folders, K: Keeper, O: Sink, G: Gate + Sync>(
 ///
 /// Of the words `generate` it makes an application of its own in memory, runs over it, and writes the line of
 /// the totals alone: the folders and the keeper stay as they are, and the status is `Done`, `OutputFault` or
-/// `Memory`.
+/// `Memory`. With `--sql` the rows of that run go into the keeper that is handed in. Of the words `calls` and `invert` it reads the
+/// source or the rules, and writes their answer; nothing is written to folders or keeper.
 ///
-/// The statuses of `run`, of which the first that stands is the answer:
+/// The statuses, of which the first that stands is the answer:
 /// `Usage` (words without a task), `NestedRoots` (a root lies in another that is written to or holds the
 /// ledger), `Limit` of `RuleFiles` or `RuleSize`, `BadRules`, `Limit` of `Files`, of `PathLength` with the
 /// least such path, of `FileSize` with the first such file, `PathClash` with the first two files
 /// of which one's target equals the other's or is a folder of it, `NameClash` with the first two names of classes that
 /// would become one, of which the source defines the first, `Stranded` with the first class that isn't selected and holds
 /// the name of a class of the source that changes, `OtherRun` (the ledger's header isn't
-/// this run's), `Refusals` (a file is neither kept nor has an image), `Done`.
+/// this run's), `Refusals` (a file is neither kept nor has an image), `Done`. Of `calls` and `invert` it is the status behind their
+/// answer, or the `Limit`, `BadRules` or `NotInvertible` that stands against it; of `generate --sql` `OtherRun` or `Done`.
 /// `FolderFault`, `LedgerFault` and `OutputFault` come only where the count of faults of that object rose
 /// in this call; `Moved` only where the two readings of a file gave different bytes, and never where the folders tell their
 /// contents; `Memory` may come at any step. Rows that wait are written outside before the report: where
@@ -129,9 +131,9 @@ pub fn desk<R: Threads + Sync, F: Folders, K: Keeper, O: Sink, G: Gate + Sync>(
     ensures ledger { OfRun words.now (LedgerHolds (asked_of words.now) (F.told folders.old) (F.told folders.new) (K.told keeper.old) (K.told keeper.new) (K.attached keeper.old) (K.attached keeper.new) result) }
     ensures committed { OfRun words.now (Committed (K.waiting keeper.new) result) }
     ensures output { OfRun words.now (Output (asked_of words.now) (F.told folders.old) (K.told keeper.old) (O.told out.old) (O.told out.new) (O.faults out.old) (O.faults out.new) result) }
-    ensures status { OfMigration words.now (WhereTold (F.told folders.old) (K.told keeper.old) (λ m l. Exact (first_answer (asked_of words.now) m l) result
-        (F.faults folders.old) (F.faults folders.new) (K.faults keeper.old) (K.faults keeper.new) (O.faults out.old) (O.faults out.new))) }
-    ensures causes { OfMigration words.now (HasCauses (asked_of words.now) (F.told folders.old) result (F.faults folders.old) (F.faults folders.new) (K.faults keeper.old) (K.faults keeper.new) (O.faults out.old) (O.faults out.new)) }
+    ensures status { WhereTold (F.told folders.old) (K.told keeper.old) (λ m l. Exact (first_answer (asked_of words.now) m l) result
+        (F.faults folders.old) (F.faults folders.new) (K.faults keeper.old) (K.faults keeper.new) (O.faults out.old) (O.faults out.new)) }
+    ensures causes { HasCauses (asked_of words.now) (F.told folders.old) result (F.faults folders.old) (F.faults folders.new) (K.faults keeper.old) (K.faults keeper.new) (O.faults out.old) (O.faults out.new) }
     ensures remains { OfRun words.now (WhereTold (F.told folders.old) (K.told keeper.old) (λ m0 l0. Tells (F.told folders.new) (K.told keeper.new) (λ m l. Left (asked_of words.now) m0 l0 m l result))) }
     ensures sources { OfRun words.now (WhereTold (F.told folders.old) (K.told keeper.old) (λ m0 _. Tells (F.told folders.new) (K.told keeper.new) (λ m _. LeavesSources (asked_of words.now) m0 m))) }
     ensures resume { OfRun words.now (WhereTold (F.told folders.old) (K.told keeper.old) (λ m1 l1. Tells (F.told folders.new) (K.told keeper.new) (λ m _. Resumes (asked_of words.now) m1 l1 m result))) }

@@ -2,7 +2,7 @@ use Rattle.desk_run.specs.Named.{asked_of}
 use Rattle.desk_run.proofs.Promised.{files_clause, classes_clause, ledger_clause, remains_clause, status_clause, output_clause, last_write, causes_after, generates}
 use Rattle.desk_run.proofs.GeneratingSql.{sql_clause}
 use Rattle.desk_run.proofs.Answering.{answers_of, calls_clause, invert_clause}
-use Rattle.desk_run.proofs.Following.{of_run_map, of_run_both, of_generate_map, of_migration_both, of_query_map, of_sql_map}
+use Rattle.desk_run.proofs.Following.{of_run_map, of_run_both, of_generate_map, of_query_map, of_sql_map}
 use Rattle.desk_run.proofs.Referring.{follow_clause}
 use Rattle.desk_run.proofs.Resuming.{resume_clause}
 use Rattle.desk_run.proofs.Sparing.{sources_clause}
@@ -27,14 +27,12 @@ returns-clause-generate g c =
     (last_write _ _ _ _ _ c.write_fault.result c.write_fault.ensures.ok c.write_fault.ensures.err c.write_fault.ensures.failed)) c.follow-status.ensures.generate
 
 pub returns-clause-causes : goal.returns-clause-causes
-returns-clause-causes g c =
-    of_migration_both c.args.words.now _ _ _ (λ h _. causes_after (asked_of c.args.words.now) _ c.follow-status.result _ _ _ _ _ _ _ c.write_fault.ensures.counts h) c.follow-status.ensures.causes c.follow-status.ensures.causes
+returns-clause-causes g c = causes_after (asked_of c.args.words.now) _ c.follow-status.result _ _ _ _ _ _ _ c.write_fault.ensures.counts c.follow-status.ensures.causes
 
 pub returns-clause-status : goal.returns-clause-status
-returns-clause-status g c =
-    of_migration_both c.args.words.now _ _ _ (λ first h. λ m l ef ek.
-    status_clause (asked_of c.args.words.now) _ m _ c.follow-status.result _ _ _ _ _ _ ef (first m l ef ek)
-    (causes_after (asked_of c.args.words.now) _ c.follow-status.result _ _ _ _ _ _ _ c.write_fault.ensures.counts h)) c.follow-status.ensures.first c.follow-status.ensures.causes
+returns-clause-status g c = λ m l ef ek.
+    status_clause (asked_of c.args.words.now) _ m _ c.follow-status.result _ _ _ _ _ _ ef (c.follow-status.ensures.first m l ef ek)
+    (causes_after (asked_of c.args.words.now) _ c.follow-status.result _ _ _ _ _ _ _ c.write_fault.ensures.counts c.follow-status.ensures.causes)
 
 pub returns-clause-remains : goal.returns-clause-remains
 returns-clause-remains g c =

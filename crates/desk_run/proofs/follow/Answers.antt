@@ -4,7 +4,8 @@ use Rattle.desk_words.specs.Roots.{order_of_words}
 use Rattle.desk_run.specs.Generated.{TellsTotals}
 use Rattle.desk_run.specs.GeneratedSql.{LeavesSql}
 use Rattle.desk_run.specs.Queries.{LeavesAnswer}
-use Rattle.desk_run.proofs.Following.{of_migration_any, of_query_at, of_query_any, no_query, refused_query, sql_of, run_of, migration_of, generate_of, of_sql_any, refused_sql, of_run_any, no_run, no_generate, at_generate, of_generate_any, run_stands, run_first, run_reported, run_named, run_causes, generate_first, generate_causes, err_stands, err_first, err_reported, err_named, err_committed, err_causes, err_tells}
+use Rattle.desk_run.proofs.Following.{of_query_at, of_query_any, no_query, refused_query, sql_of, run_of, generate_of, of_sql_any, refused_sql, of_run_any, no_run, no_generate, at_generate, of_generate_any, run_stands, run_first, run_reported, run_named, run_causes, generate_first, generate_causes, err_stands, err_first, err_reported, err_named, err_committed, err_causes, err_tells}
+use Rattle.desk_run.proofs.FirstAnswers.{query_first, query_causes, sql_first, sql_causes}
 use Rattle.desk_run.proofs.follow.Goals as goal
 
 pub returns-in-Ok-Run-clause-stands : goal.returns-in-Ok-Run-clause-stands
@@ -14,9 +15,9 @@ returns-in-Ok-Run-clause-stands g c =
 
 pub returns-in-Ok-Run-clause-first : goal.returns-in-Ok-Run-clause-first
 returns-in-Ok-Run-clause-first g c =
-    of_migration_any c.args.words.now _ (λ m l ef ek.
+    λ m l ef ek.
     let e : order_of_words c.args.words.now ≡ Ok (order.Run c.in-Ok-Run.roots c.in-Ok-Run.workers) = search rules in
-    run_first c.args.words.now c.in-Ok-Run.roots c.in-Ok-Run.workers m l _ e (c.run.ensures.first m l ef ek))
+    run_first c.args.words.now c.in-Ok-Run.roots c.in-Ok-Run.workers m l _ e (c.run.ensures.first m l ef ek)
 
 pub returns-in-Ok-Run-clause-output : goal.returns-in-Ok-Run-clause-output
 returns-in-Ok-Run-clause-output g c =
@@ -44,7 +45,7 @@ returns-in-Ok-Run-clause-generate g c =
 pub returns-in-Ok-Run-clause-causes : goal.returns-in-Ok-Run-clause-causes
 returns-in-Ok-Run-clause-causes g c =
     let e : order_of_words c.args.words.now ≡ Ok (order.Run c.in-Ok-Run.roots c.in-Ok-Run.workers) = search rules in
-    of_migration_any c.args.words.now _ (run_causes c.args.words.now c.in-Ok-Run.roots c.in-Ok-Run.workers _ _ _ _ _ _ _ _ e c.run.ensures.causes)
+    run_causes c.args.words.now c.in-Ok-Run.roots c.in-Ok-Run.workers _ _ _ _ _ _ _ _ e c.run.ensures.causes
 
 pub returns-in-Ok-Generate-clause-stands : goal.returns-in-Ok-Generate-clause-stands
 returns-in-Ok-Generate-clause-stands g c =
@@ -53,9 +54,9 @@ returns-in-Ok-Generate-clause-stands g c =
 
 pub returns-in-Ok-Generate-clause-first : goal.returns-in-Ok-Generate-clause-first
 returns-in-Ok-Generate-clause-first g c =
-    of_migration_any c.args.words.now _ (λ m l ef ek.
+    λ m l ef ek.
     let e : order_of_words c.args.words.now ≡ Ok (order.Generate c.in-Ok-Generate.count c.in-Ok-Generate.workers) = search rules in
-    generate_first c.args.words.now c.in-Ok-Generate.count c.in-Ok-Generate.workers m l _ _ _ e c.run_generated.ensures.told)
+    generate_first c.args.words.now c.in-Ok-Generate.count c.in-Ok-Generate.workers m l _ _ _ e c.run_generated.ensures.told
 
 pub returns-in-Ok-Generate-clause-output : goal.returns-in-Ok-Generate-clause-output
 returns-in-Ok-Generate-clause-output g c =
@@ -83,14 +84,14 @@ returns-in-Ok-Generate-clause-generate g c =
 pub returns-in-Ok-Generate-clause-causes : goal.returns-in-Ok-Generate-clause-causes
 returns-in-Ok-Generate-clause-causes g c =
     let e : order_of_words c.args.words.now ≡ Ok (order.Generate c.in-Ok-Generate.count c.in-Ok-Generate.workers) = search rules in
-    of_migration_any c.args.words.now _ (generate_causes c.args.words.now c.in-Ok-Generate.count c.in-Ok-Generate.workers _ _ _ _ _ _ _ _ e c.run_generated.ensures.told c.run_generated.ensures.causes)
+    generate_causes c.args.words.now c.in-Ok-Generate.count c.in-Ok-Generate.workers _ _ _ _ _ _ _ _ e c.run_generated.ensures.told c.run_generated.ensures.causes
 
 pub returns-in-Err-clause-stands : goal.returns-in-Err-clause-stands
 returns-in-Err-clause-stands g c = err_stands c.args.words.now c.in-Err.fault _ _ _ c.status_of_words.ensures
 
 pub returns-in-Err-clause-first : goal.returns-in-Err-clause-first
 returns-in-Err-clause-first g c =
-    of_migration_any c.args.words.now _ (λ m l ef ek. err_first c.args.words.now c.in-Err.fault _ m l c.in-Err.ensures.err c.status_of_words.ensures)
+    λ m l ef ek. err_first c.args.words.now c.in-Err.fault _ m l c.in-Err.ensures.err c.status_of_words.ensures
 
 pub returns-in-Err-clause-output : goal.returns-in-Err-clause-output
 returns-in-Err-clause-output g c = err_reported c.args.words.now c.in-Err.fault _ _ _ _ c.status_of_words.ensures
@@ -109,7 +110,7 @@ returns-in-Err-clause-generate g c = err_tells c.args.words.now c.in-Err.fault _
 
 pub returns-in-Err-clause-causes : goal.returns-in-Err-clause-causes
 returns-in-Err-clause-causes g c =
-    of_migration_any c.args.words.now _ (err_causes c.args.words.now c.in-Err.fault _ _ _ _ _ c.in-Err.ensures.err c.status_of_words.ensures)
+    err_causes c.args.words.now c.in-Err.fault _ _ _ _ _ c.in-Err.ensures.err c.status_of_words.ensures
 
 pub returns-in-Ok-Run-clause-query : goal.returns-in-Ok-Run-clause-query
 returns-in-Ok-Run-clause-query g c =
@@ -153,13 +154,13 @@ returns-in-Ok-Query-clause-committed g c =
 
 pub returns-in-Ok-Query-clause-first : goal.returns-in-Ok-Query-clause-first
 returns-in-Ok-Query-clause-first g c =
+    λ m l ef ek.
     let e : order_of_words c.args.words.now ≡ Ok (order.Query c.in-Ok-Query.asked) = search rules in
-    migration_of c.args.words.now (Ok (order.Query c.in-Ok-Query.asked)) _ e tt
+    query_first c.args.words.now c.in-Ok-Query.asked m l _ _ _ _ _ _ _ _ e ef c.run_query.ensures.answer
 
 pub returns-in-Ok-Query-clause-causes : goal.returns-in-Ok-Query-clause-causes
 returns-in-Ok-Query-clause-causes g c =
-    let e : order_of_words c.args.words.now ≡ Ok (order.Query c.in-Ok-Query.asked) = search rules in
-    migration_of c.args.words.now (Ok (order.Query c.in-Ok-Query.asked)) _ e tt
+    query_causes c.in-Ok-Query.asked _ _ _ _ _ _ _ _ _ _ _ c.run_query.ensures.answer
 
 pub returns-in-Ok-Query-clause-untouched : goal.returns-in-Ok-Query-clause-untouched
 returns-in-Ok-Query-clause-untouched g c =
@@ -238,13 +239,13 @@ returns-in-Ok-GenerateSql-clause-committed g c =
 
 pub returns-in-Ok-GenerateSql-clause-first : goal.returns-in-Ok-GenerateSql-clause-first
 returns-in-Ok-GenerateSql-clause-first g c =
+    λ m l ef ek.
     let e : order_of_words c.args.words.now ≡ Ok (order.GenerateSql c.in-Ok-GenerateSql.count c.in-Ok-GenerateSql.workers) = search rules in
-    migration_of c.args.words.now (Ok (order.GenerateSql c.in-Ok-GenerateSql.count c.in-Ok-GenerateSql.workers)) _ e tt
+    sql_first c.args.words.now c.in-Ok-GenerateSql.count c.in-Ok-GenerateSql.workers m l _ _ _ _ _ _ _ _ _ e ek c.run_generated_sql.ensures.told
 
 pub returns-in-Ok-GenerateSql-clause-causes : goal.returns-in-Ok-GenerateSql-clause-causes
 returns-in-Ok-GenerateSql-clause-causes g c =
-    let e : order_of_words c.args.words.now ≡ Ok (order.GenerateSql c.in-Ok-GenerateSql.count c.in-Ok-GenerateSql.workers) = search rules in
-    migration_of c.args.words.now (Ok (order.GenerateSql c.in-Ok-GenerateSql.count c.in-Ok-GenerateSql.workers)) _ e tt
+    sql_causes c.in-Ok-GenerateSql.count _ _ _ _ _ _ _ _ _ _ _ _ _ c.run_generated_sql.ensures.told
 
 pub returns-in-Ok-GenerateSql-clause-untouched : goal.returns-in-Ok-GenerateSql-clause-untouched
 returns-in-Ok-GenerateSql-clause-untouched g c =

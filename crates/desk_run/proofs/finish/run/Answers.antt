@@ -1,4 +1,4 @@
-use Rattle.desk_run.specs.Named.{asked_roots}
+use Rattle.desk_run.specs.Asked.{asked_roots}
 use Rattle.desk_run.proofs.Ending.{told_first, told_reported, told_stands}
 use Rattle.desk_run.proofs.finish.run.Goals as goal
 

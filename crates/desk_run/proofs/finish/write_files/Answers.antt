@@ -1,6 +1,6 @@
 use Rattle.std.proofs.Common.{◌≡◌, subst, sym}
 use Rattle.desk_run.specs.Endings.{HaltsEarly, StandsAfter, Tells}
-use Rattle.desk_run.specs.Named.{asked_roots}
+use Rattle.desk_run.specs.Asked.{asked_roots}
 use Rattle.desk_run.proofs.Preparing.{gather_early}
 use Rattle.desk_run.proofs.Promised.{early_told}
 use Rattle.desk_run.proofs.finish.write_files.Goals as goal

@@ -5,7 +5,7 @@ use Rattle.desk_run.proofs.Measures.{all_routed}
 use Rattle.desk_run.proofs.Preparing.{plan_early}
 use Rattle.desk_run.proofs.Promised.{early_told}
 use Rattle.desk_run.specs.Endings.{HaltsEarly, StandsAfter, Tells}
-use Rattle.desk_run.specs.Named.{asked_roots}
+use Rattle.desk_run.specs.Asked.{asked_roots}
 use Rattle.desk_run.proofs.finish.write_gathered.Goals as goal
 
 pub write_and_commit-requires-clause-routes : goal.write_and_commit-requires-clause-routes

@@ -1,5 +1,5 @@
 use Rattle.std.proofs.Common.{refl}
-use Rattle.desk_run.specs.Named.{asked_roots}
+use Rattle.desk_run.specs.Asked.{asked_roots}
 use Rattle.desk_run.proofs.Gathering.{err_reading, ok_gathered}
 use Rattle.desk_run.proofs.gather.gather.Goals as goal
 
