@@ -1,4 +1,3 @@
-pub mod Searched
 pub mod Numbering
 pub mod Sets
 pub mod Orders

@@ -9,10 +9,10 @@ use Rattle.std.proofs.lemmas.Cmp.{nat_list_cmp_total}
 use Rattle.std.proofs.lemmas.Bool.{cases_order}
 use Rattle.std.proofs.lemmas.List.{get_or_append_left, get_or_default}
 use Rattle.desk_base.specs.Names.{Text}
-use Rattle.desk_packages.specs.Keys.{RiseBy}
+use Rattle.desk_packages.specs.Keys.{RiseBy, IsNowhere, IsPlaceOf}
 use Rattle.desk_packages.proofs.Picks.{In}
 use Rattle.desk_packages.proofs.Searched.{at_in}
-use Rattle.desk_graph.specs.Tables.{IsNowhere, IsPlaceOf, as_is}
+use Rattle.desk_graph.specs.Tables.{as_is}
 use Rattle.desk_class.specs.Held.{Holds, held_in, ascending}
 use Rattle.desk_class.proofs.Ascending.{same_sorted, in_front, in_back, in_either, from_contains, to_contains, in_ascending, from_ascending, ascending_sorted}
 use Rattle.desk_graph.proofs.Orders.{rises, tested, from_tested}

@@ -7,11 +7,11 @@ use Rattle.std.specs.Cmp.Lexicographic.{slice_cmp}
 use Rattle.std.proofs.lemmas.Cmp.{nat_list_cmp_total, tied_itself}
 use Rattle.std.proofs.lemmas.Bool.{cases_order}
 use Rattle.desk_base.specs.Names.{Text}
-use Rattle.desk_packages.specs.Keys.{RiseBy}
+use Rattle.desk_packages.specs.Keys.{RiseBy, IsNowhere, IsPlaceOf}
 use Rattle.desk_packages.proofs.Picks.{In}
 use Rattle.desk_packages.proofs.Searched.{at_in}
 use Rattle.desk_graph.specs.Application.{Pair}
-use Rattle.desk_graph.specs.Tables.{IsNowhere, IsPlaceOf, as_is}
+use Rattle.desk_graph.specs.Tables.{as_is}
 use Rattle.desk_graph.specs.Nodes.{firsts, nodes_from, defined_of, AreNodes, IsTable}
 
 pub nodes_are : (passes : Text → Bool) (count : ℕ) (ns : List Text) → AreNodes count ns (nodes_from passes count ns)

@@ -15,12 +15,12 @@ use Rattle.std.proofs.lemmas.Slice.Eq.{bytes_eq-Decides}
 use Rattle.std.proofs.lemmas.Bool.{cases_order, and_parts, or_left, or_right, not-true, both_ways}
 use Rattle.desk_base.specs.Names.{Text}
 use Rattle.desk_base.proofs.Bools.{same_answer, cond_or}
-use Rattle.desk_packages.specs.Keys.{RiseBy}
+use Rattle.desk_packages.specs.Keys.{RiseBy, IsNowhere, IsPlaceOf}
 use Rattle.desk_packages.proofs.Picks.{In}
 use Rattle.desk_packages.proofs.Searched.{in_at, find_nothing}
 use Rattle.desk_rules.proofs.Ordered.{keys_rise}
 use Rattle.desk_graph.specs.Application.{Pair, with_image, meets}
-use Rattle.desk_graph.specs.Tables.{texts, holds, is_name, IsNowhere, IsPlaceOf, HoldsShared, IsKnownBy, meets_known}
+use Rattle.desk_graph.specs.Tables.{texts, holds, is_name, HoldsShared, IsKnownBy, meets_known}
 use Rattle.desk_class.specs.Held.{put_all, ascending}
 use Rattle.desk_class.specs.Marks.{marked_cmp}
 use Rattle.desk_class.specs.MarkOrder.{same_of_tie, marked_tie}

@@ -7,8 +7,9 @@ use Rattle.std.proofs.lemmas.List.Folds.{list_any_none, list_any_at}
 use Rattle.std.proofs.lemmas.Bool.{false_from_ne_true}
 use Rattle.std.proofs.lemmas.Slice.Eq.{bytes_eq-Decides}
 use Rattle.desk_base.specs.Names.{Text}
+use Rattle.desk_packages.specs.Keys.{IsNowhere, IsPlaceOf}
 use Rattle.desk_graph.specs.Application.{Pair, strands, stranded_at, stranded_among, least_onto, earlier}
-use Rattle.desk_graph.specs.Tables.{IsKnownBy, IsNowhere, IsPlaceOf, as_is}
+use Rattle.desk_graph.specs.Tables.{IsKnownBy, as_is}
 use Rattle.desk_graph.specs.Nodes.{firsts, defined_of, IsTable}
 use Rattle.desk_graph.proofs.Numbering.{node_is, unknown}
 use Rattle.desk_graph.proofs.Building.{image_at}

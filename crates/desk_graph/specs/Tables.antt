@@ -9,14 +9,6 @@ use Rattle.desk_class.specs.Marks.{marked_cmp}
 use Rattle.desk_graph.specs.Application.{Pair, with_image, defined_names}
 use Rattle.desk_graph.specs.declared.scanned.Scanned.{Scanned}
 
--- nothing in a table has a name
-abbrev pub IsNowhere : {A : Type 0} → (A → Text) → List A → Text → Type 0
-IsNowhere {A} f xs name = (k : ℕ) (d : A) → k < length xs → f (slice_index_or xs k d) ≢ name
-
--- what stands at a place has a name
-abbrev pub IsPlaceOf : {A : Type 0} → (A → Text) → List A → Text → ℕ → Type 0
-IsPlaceOf {A} f xs name k = (k < length xs) × ((d : A) → f (slice_index_or xs k d) ≡ name)
-
 -- the texts of a set, in byte order
 abbrev pub texts : BTreeSet Text → List Text
 texts set = ascending set.keys

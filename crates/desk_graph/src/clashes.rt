@@ -11,9 +11,9 @@ ghost use Rattle.desk_graph.specs.Clashes.{clash_pair};
 
 use crate::known::NameAndImage;
 use crate::names::{holds, put};
-use crate::search::place_in;
 use desk_base::Memory;
 use desk_class::Marked;
+use desk_packages::place_of;
 use std::alloc::Global;
 use std::collections::BTreeSet;
 
@@ -22,7 +22,7 @@ fn is_met<'a>(known: &[NameAndImage], seen: &BTreeSet<Marked<'a>>, image: &'a [u
     requires { RiseBy (λ k. k.0) known.now }
     ensures { result ≡ (holds seen.now image.now || is_name known.now image.now) }
 {
-    holds(seen, image) || place_in(known, image).is_some()
+    holds(seen, image) || place_of(known, image).is_some()
 }
 
 /// The images that two names have, or more. A name that doesn't change is its own image, so that only those that change are

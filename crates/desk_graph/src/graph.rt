@@ -1,10 +1,11 @@
 //! The graph of an application's classes.
 
 ghost use Rattle.std.specs.Prelude.{◌≡◌, ◌<◌, ◌^◌, length, None, MatchOption, OnOk, IfOk, IfErr, IfSome, Contains};
+ghost use Rattle.desk_packages.specs.Keys.{IsNowhere, IsPlaceOf};
 ghost use Rattle.desk_rename.specs.Images.{cls};
 ghost use Rattle.desk_graph.specs.Application.{name_clash, stranded, OneImage, NoneStranded};
 ghost use Rattle.desk_graph.specs.Graphs.{graph_of, links_of};
-ghost use Rattle.desk_graph.specs.Tables.{IsNowhere, IsPlaceOf, as_is};
+ghost use Rattle.desk_graph.specs.Tables.{as_is};
 ghost use Rattle.desk_graph.specs.Refusals.{Refuses};
 ghost use Rattle.desk_graph.specs.declared.graph.GraphFault.TheVariants as graph_faults;
 
@@ -13,10 +14,10 @@ use crate::known::{NameAndImage, known_of};
 use crate::names::{all_names, held_in_order};
 use crate::nodes::{node_in, nodes_of};
 use crate::scanned::{Scanned, without_paths};
-use crate::search::place_in;
 use crate::stranded::first_stranded;
 use desk_base::{Memory, Text};
 use desk_class::ClassView;
+use desk_packages::place_of;
 use desk_rename::Images;
 use desk_rules::RuleSet;
 use std::alloc::Global;
@@ -148,7 +149,7 @@ impl Images for ClassGraph<'_> {
         ensures image { IfSome result (λ image. image.now ≡ cls self.now.renames name.now) }
         ensures known { MatchOption result (IsNowhere as_is self.now.names name.now) (λ _. Contains self.now.names name.now) }
     {
-        match place_in(self.known.as_slice(), name) {
+        match place_of(self.known.as_slice(), name) {
             Some(place) => Some(self.known[place].image()),
             None => None,
         }

@@ -6,8 +6,8 @@ ghost use Rattle.desk_rename.specs.Images.{cls};
 ghost use Rattle.desk_graph.specs.Application.{with_image};
 
 use crate::name::Name;
-use crate::search::Named;
 use desk_base::{Memory, Text};
+use desk_packages::Keyed;
 use desk_rename::rename_class;
 use desk_rules::RuleSet;
 use std::alloc::Global;
@@ -74,10 +74,11 @@ impl NameAndImage {
     }
 }
 
-impl Named for NameAndImage {
-    ghost name_of = { λ k. k.0 };
+impl Keyed for NameAndImage {
+    ghost key_of = { λ k. k.0 };
 
-    fn bytes(&self) -> &[u8] {
+    /// The class name.
+    fn key(&self) -> &[u8] {
         self.name.as_bytes()
     }
 }

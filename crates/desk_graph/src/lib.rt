@@ -10,7 +10,6 @@ mod name_set;
 mod names;
 mod nodes;
 mod scanned;
-mod search;
 mod stranded;
 
 pub use graph::{ClassGraph, GraphFault};

@@ -1,16 +1,17 @@
 //! The nodes of a graph: the defined names, numbered in byte order.
 
 ghost use Rattle.std.specs.Prelude.{◌≡◌, IfOk, MatchOption};
-ghost use Rattle.desk_graph.specs.Tables.{IsNowhere, IsPlaceOf, as_is, holds, is_defined};
+ghost use Rattle.desk_packages.specs.Keys.{IsNowhere, IsPlaceOf};
+ghost use Rattle.desk_graph.specs.Tables.{as_is, holds, is_defined};
 ghost use Rattle.desk_graph.specs.Nodes.{IsTable, firsts, defined_of, nodes_from};
 
 use crate::known::NameAndImage;
 use crate::name::Name;
 use crate::names::{defined_in, holds};
 use crate::scanned::Scanned;
-use crate::search::place_in;
 use desk_base::Memory;
 use desk_class::Marked;
+use desk_packages::place_of;
 use std::alloc::Global;
 use std::collections::BTreeSet;
 
@@ -52,7 +53,7 @@ pub fn node_in(known: &[NameAndImage], nodes: &[Option<u32>], name: &[u8]) -> Op
     requires { IsTable known.now nodes.now }
     ensures { MatchOption result (IsNowhere as_is (defined_of (firsts known.now) nodes.now) name.now) (IsPlaceOf as_is (defined_of (firsts known.now) nodes.now) name.now) }
 {
-    match place_in(known, name) {
+    match place_of(known, name) {
         Some(place) => nodes[place],
         None => None,
     }

@@ -8,10 +8,9 @@ ghost use Rattle.desk_graph.specs.Tables.{IsKnownBy};
 ghost use Rattle.desk_graph.specs.Nodes.{IsTable, firsts, defined_of};
 
 use crate::known::NameAndImage;
-use crate::nodes::node_in;
 use crate::scanned::Scanned;
-use crate::search::place_in;
 use desk_base::Text;
+use desk_packages::place_of;
 use std::cmp::Ordering;
 
 /// The path of an unselected class, and a defined name that it holds and that changes.
@@ -55,7 +54,7 @@ fn strands(known: &[NameAndImage], nodes: &[Option<u32>], name: &[u8]) -> bool
     requires { IsTable known.now nodes.now }
     ensures { (f : TextOf → TextOf) → IsKnownBy f known.now → result ≡ strands f (defined_of (firsts known.now) nodes.now) name.now }
 {
-    match place_in(known, name) {
+    match place_of(known, name) {
         Some(place) => nodes[place].is_some() && known[place].changes(),
         None => false,
     }
