@@ -1,12 +1,15 @@
 -- Parts, read one by one.
-use Rattle.std.proofs.Common.{◌≡◌, ◌<◌, ◌≤◌, ◌+◌, ℕ, zero, suc, Bool, true, false, cond, not, ◌&&◌, ◌==◌, List, [], ◌∷◌, ◌++◌, length, take, drop, Option, Some, None, refl, sym, ap, ap₂, ◌∙◌, arith, append-nil, append_assoc, map, ◌-◌, nat_lt, length-drop}
+use Rattle.std.proofs.Common.{◌≡◌, ◌<◌, ℕ, suc, Bool, true, false, cond, not, ◌&&◌, ◌==◌, List, [], ◌∷◌, ◌++◌, length, drop, Option, Some, None, refl, sym, ap, ap₂, ◌∙◌, arith, append-nil, map, ◌-◌, nat_lt, length-drop}
 use Rattle.std.specs.List.{list_all}
-use Rattle.std.proofs.lemmas.Bool.{and_parts, and_from, not-true, eqb-true, ltb-true, lt-ltb}
+use Rattle.std.proofs.lemmas.Bool.{and_parts, eqb-true, ltb-true, lt-ltb}
 use Rattle.desk_base.specs.Names.{Text, is_empty}
 use Rattle.desk_lines.specs.Blanks.{trimmed}
 use Rattle.desk_clauses.specs.Quotes.{next, is_outside, before_mark, from_mark, cut, onto_first}
 use Rattle.desk_clauses.specs.Grammar.{is_parameter, are_parts, is_clause, parts}
-use Rattle.desk_clauses.specs.Cuts.{parts_of, behind, IsFirstPart}
+use Rattle.desk_clauses.specs.Cuts.{parts_of, IsFirstPart}
+use Rattle.desk_clauses.specs.Places.{place_behind}
+use Rattle.desk_clauses.specs.declared.grammar.ClausePlace.{ClausePlace}
+use Rattle.desk_clauses.specs.declared.grammar.ClausePlace.TheVariants.{Start, BehindPath, BehindParameter}
 use Rattle.desk_clauses.specs.declared.quotes.Quoting.{Quoting}
 use Rattle.desk_clauses.specs.declared.quotes.Quoting.TheVariants.{Outside, Quoted, Escaped}
 
@@ -15,19 +18,53 @@ abbrev pub left : Option Text → ℕ
 left None = 0
 left (Some t) = suc (length t)
 
--- whether parts may stand behind a path, or behind a parameter
-abbrev pub may_stand : Bool → List Text → Bool
-may_stand true = list_all is_parameter
-may_stand false = are_parts
+-- whether what is left of a clause may stand at a place
+abbrev pub may_stand : ClausePlace → Option Text → Bool
+may_stand Start None = true
+may_stand Start (Some t) = is_clause (parts t)
+may_stand BehindPath rest = are_parts (parts_of parts rest)
+may_stand BehindParameter rest = list_all is_parameter (parts_of parts rest)
 
-abbrev pub clause_behind : Bool → Bool → Option Text → Bool
-clause_behind false parameter None = true
-clause_behind false parameter (Some t) = is_clause (parts t)
-clause_behind true parameter rest = may_stand parameter (parts_of parts rest)
+abbrev pub may_go_on : Option ClausePlace → Option Text → Bool
+may_go_on None rest = false
+may_go_on (Some place) rest = may_stand place rest
 
-pub record ClauseLeft (clause : Text) (path parameter : Bool) (rest : Option Text) : Type 0 where
-  pub same : is_clause (parts clause) ≡ clause_behind path parameter rest
-  pub order : path ≡ false → parameter ≡ false
+-- one more part is read
+pub part_read : (place : ClausePlace) (t part : Text) (more : Option Text) → IsFirstPart 59 t part more → may_stand place (Some t) ≡ may_go_on (place_behind place part) more
+part_read Start t part more first = ap is_clause first.parts ∙ by (is_parameter part) (is_empty (trimmed part))
+  where
+    by : (x e : Bool) → (not x && cond x (list_all is_parameter (parts_of parts more)) (not e && are_parts (parts_of parts more))) ≡ may_go_on (cond x None (cond e None (Some BehindPath))) more
+    by true e = refl
+    by false true = refl
+    by false false = refl
+part_read BehindPath t part more first = ap are_parts first.parts ∙ by (is_parameter part) (is_empty (trimmed part))
+  where
+    by : (x e : Bool) → cond x (list_all is_parameter (parts_of parts more)) (not e && are_parts (parts_of parts more)) ≡ may_go_on (cond x (Some BehindParameter) (cond e None (Some BehindPath))) more
+    by true e = refl
+    by false true = refl
+    by false false = refl
+part_read BehindParameter t part more first = ap (list_all is_parameter) first.parts ∙ by (is_parameter part)
+  where
+    by : (x : Bool) → (x && list_all is_parameter (parts_of parts more)) ≡ may_go_on (cond x (Some BehindParameter) None) more
+    by true = refl
+    by false = refl
+
+-- behind a parameter
+abbrev pub parameter_behind : ClausePlace → Option ClausePlace
+parameter_behind Start = None
+parameter_behind BehindPath = Some BehindParameter
+parameter_behind BehindParameter = Some BehindParameter
+
+pub behind_parameter : (place : ClausePlace) (part : Text) → is_parameter part ≡ true → place_behind place part ≡ parameter_behind place
+behind_parameter Start part e = ap (λ (b : Bool). cond b None (cond (is_empty (trimmed part)) None (Some BehindPath))) e
+behind_parameter BehindPath part e = ap (λ (b : Bool). cond b (Some BehindParameter) (cond (is_empty (trimmed part)) None (Some BehindPath))) e
+behind_parameter BehindParameter part e = ap (λ (b : Bool). cond b (Some BehindParameter) None) e
+
+-- a clause that is read to its end
+pub none_left : (place : ClausePlace) → may_stand place None ≡ true
+none_left Start = refl
+none_left BehindPath = refl
+none_left BehindParameter = refl
 
 -- the part before a mark, and what follows it
 abbrev parts_behind : ℕ → Quoting → Text → List Text
@@ -88,6 +125,10 @@ stands_behind t [] n e =
 stands_behind t (b ∷ d) n e =
     let size : length t - n ≡ suc (length d) = sym (length-drop n t) ∙ ap length e in
     lt-ltb n (length t) (omega (arith, size))
+
+-- a part with a `=` outside quotes
+pub parameter_at : (part : Text) (mark : ℕ) → drop mark part ≡ from_mark 61 Outside part → mark < length part → is_parameter part ≡ true
+parameter_at part mark from within = sym (stands_behind part (from_mark 61 Outside part) mark from) ∙ lt-ltb mark (length part) within
 
 pub all_parts : (xs : List Text) → list_all is_clause (map parts xs) ≡ list_all (λ (t : Text). is_clause (parts t)) xs
 all_parts [] = refl

@@ -1,5 +1,5 @@
 -- What readers of values answer.
-use Rattle.std.specs.Prelude.{◌≡◌, ◌<◌, ℕ, Bool, ◌&&◌, ◌==◌, List, [], ◌∷◌, ◌++◌, Option, Some, None, length, take, drop}
+use Rattle.std.specs.Prelude.{◌≡◌, ◌<◌, ◌≤◌, ℕ, Bool, ◌&&◌, ◌==◌, List, [], ◌∷◌, ◌++◌, Option, Some, None, length, take, drop}
 use Rattle.std.specs.List.{slice_split}
 use Rattle.std.specs.Str.{bytes_eq}
 use Rattle.desk_base.specs.Names.{Text}
@@ -30,6 +30,12 @@ IsFirstPart mark = IsFirst (cut mark Outside) mark
 -- the first item of a list
 abbrev pub IsFirstItem : Text → Text → Option Text → Type 0
 IsFirstItem = IsFirst (slice_split (λ b. b == 44)) 44
+
+-- so many bytes of a part stand before its first `=` outside quotes; all where it has none
+pub record IsMark (part : Text) (place : ℕ) : Type 0 where
+  pub before : take place part ≡ before_mark 61 Outside part
+  pub from : drop place part ≡ from_mark 61 Outside part
+  pub inside : place ≤ length part
 
 -- the `=` of a parameter stands at a place
 pub record IsMarkPlace (part : Text) (place : ℕ) : Type 0 where

@@ -2,3 +2,4 @@ pub mod Quotes
 pub mod Grammar
 pub mod Edits
 pub mod Cuts
+pub mod Places

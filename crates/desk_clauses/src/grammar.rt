@@ -1,17 +1,49 @@
 //! The grammar of clauses.
 
-ghost use Rattle.std.specs.Prelude.{◌≡◌, ◌<◌, length};
-ghost use Rattle.desk_clauses.specs.Grammar.{is_parameter, key, argument, is_directive, parts, is_clause, is_in_grammar, first_path};
-ghost use Rattle.desk_clauses.specs.Cuts.{has_key_of};
+ghost use Rattle.std.specs.Prelude.{◌≡◌};
+ghost use Rattle.desk_clauses.specs.Grammar.{parts, is_clause, is_in_grammar, first_path};
+ghost use Rattle.desk_clauses.specs.Cuts.{IsMark, has_key_of};
+ghost use Rattle.desk_clauses.specs.Places.{place_behind};
 
 use crate::quotes::{is_closed, mark_place, split_first_part};
 use desk_lines::trim_blanks;
 
-/// Whether a part is a parameter: it has a `=` outside quotes.
-pub fn is_parameter(part: &[u8]) -> bool
-    ensures { result ≡ is_parameter part.now }
-{
-    mark_place(part, b'=') < part.len()
+/// Where a reader of a clause stands, by the parts before it.
+#[derive(Clone, Copy)]
+pub enum ClausePlace {
+    /// At the first part.
+    Start,
+    /// Behind a path.
+    BehindPath,
+    /// Behind a parameter.
+    BehindParameter,
+}
+
+impl ClausePlace {
+    /// Where the reader stands behind one more part, of which so many bytes stand before its first `=` outside quotes, and all
+    /// where it has none; none exactly where no clause of the grammar has that part here.
+    pub fn behind(self, part: &[u8], mark: usize) -> Option<ClausePlace>
+        requires { IsMark part.now mark }
+        ensures { result ≡ place_behind self part.now }
+    {
+        if mark < part.len() {
+            return match self {
+                ClausePlace::Start => None,
+                ClausePlace::BehindPath => Some(ClausePlace::BehindParameter),
+                ClausePlace::BehindParameter => Some(ClausePlace::BehindParameter),
+            };
+        }
+        match self {
+            ClausePlace::BehindParameter => None,
+            ClausePlace::Start | ClausePlace::BehindPath => {
+                if trim_blanks(part).is_empty() {
+                    None
+                } else {
+                    Some(ClausePlace::BehindPath)
+                }
+            }
+        }
+    }
 }
 
 /// Whether the key of a parameter is that of a directive of this name: a `:` ends it.
@@ -26,19 +58,12 @@ fn is_clause(clause: &[u8]) -> bool
     ensures { result ≡ is_clause (parts clause.now) }
 {
     let mut rest = Some(clause);
-    let mut has_path = false;
-    let mut has_parameter = false;
+    let mut place = ClausePlace::Start;
     while let Some(text) = rest {
         let (part, more) = split_first_part(text, b';');
-        if is_parameter(part) {
-            has_parameter = true;
-        } else if has_parameter || trim_blanks(part).is_empty() {
-            return false;
-        } else {
-            has_path = true;
-        }
-        if !has_path {
-            return false;
+        match place.behind(part, mark_place(part, b'=')) {
+            None => return false,
+            Some(next) => place = next,
         }
         rest = more;
     }

@@ -1,5 +1,5 @@
 -- Images of items, paths and clauses.
-use Rattle.std.proofs.Common.{◌≡◌, ℕ, Bool, true, false, cond, List, [], ◌∷◌, ◌++◌, map, refl, sym, ap, ap₂, ◌∙◌}
+use Rattle.std.proofs.Common.{◌≡◌, Bool, true, false, cond, List, [], ◌∷◌, map, refl, sym, ap, ◌∙◌}
 use Rattle.desk_base.specs.Names.{Text, is_dotted}
 use Rattle.desk_lines.specs.Blanks.{trimmed}
 use Rattle.desk_packages.specs.Renames.{Renaming}

@@ -1,5 +1,5 @@
 -- Images of parameters, by their keys.
-use Rattle.std.proofs.Common.{◌≡◌, ◌<◌, ◌+◌, ℕ, Bool, true, false, cond, not, ◌&&◌, ◌==◌, List, [], ◌∷◌, ◌++◌, length, take, drop, nat_lt, Option, Some, None, refl, sym, ap, ap₂, ◌∙◌, arith, append_assoc, take-append-drop}
+use Rattle.std.proofs.Common.{◌≡◌, ◌<◌, ◌+◌, ℕ, Bool, true, false, cond, ◌&&◌, List, [], ◌∷◌, ◌++◌, length, drop, nat_lt, Option, refl, sym, ap, ap₂, ◌∙◌, append_assoc, take-append-drop}
 use Rattle.std.specs.Prelude.{codes}
 use Rattle.std.specs.Str.{bytes_eq}
 use Rattle.std.proofs.lemmas.Bool.{ltb-true}
@@ -13,7 +13,7 @@ use Rattle.desk_clauses.specs.Cuts.{IsMarkPlace, has_key_of}
 use Rattle.desk_clauses.specs.declared.quotes.Quoting.TheVariants.{Outside}
 use Rattle.desk_clauses.proofs.Firsts.{stands_behind}
 use Rattle.desk_clauses.proofs.Between.{between_own, argument_at}
-use Rattle.desk_listings.specs.Images.{is_export, version_name, versioned, uses_image, is_uses, path_image, parameter_image, part_image}
+use Rattle.desk_listings.specs.Images.{is_export, version_name, versioned, uses_image, path_image, parameter_image, part_image}
 use Rattle.desk_listings.specs.declared.listings.Listing.{Listing}
 
 abbrev by_keys : Rules → Option Text → Text → Bool → Bool → Text

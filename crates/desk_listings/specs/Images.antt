@@ -1,11 +1,11 @@
 -- What becomes of a header's value that is a list of clauses: packages with their versions and `uses`, or bundles with theirs.
-use Rattle.std.specs.Prelude.{ℕ, Bool, true, false, cond, not, ◌&&◌, ◌||◌, ◌==◌, List, [], ◌∷◌, ◌++◌, map, length, take, drop, Option, Some, None, codes, ◌-◌}
+use Rattle.std.specs.Prelude.{ℕ, Bool, true, false, cond, ◌&&◌, ◌==◌, List, [], ◌∷◌, ◌++◌, map, length, take, drop, Option, Some, None, codes, ◌-◌}
 use Rattle.std.specs.List.{slice_split, ends_with}
 use Rattle.std.specs.Str.{bytes_eq}
-use Rattle.desk_base.specs.Names.{Text, dot, is_dotted, is_empty}
+use Rattle.desk_base.specs.Names.{Text, dot, is_dotted}
 use Rattle.desk_lines.specs.Blanks.{trimmed}
 use Rattle.desk_packages.specs.Renames.{Renaming}
-use Rattle.desk_rules.specs.Rules.{Rules, Update, Versions, TextMap}
+use Rattle.desk_rules.specs.Rules.{Rules, Update}
 use Rattle.desk_rules.specs.RuleSets.{version_of, changing_update}
 use Rattle.desk_rules.specs.Images.{package_written}
 use Rattle.desk_clauses.specs.Quotes.{with_marks}
@@ -104,6 +104,10 @@ abbrev pub clause_version : Rules → Listing → List Text → Option Text
 clause_version rules listing [] = None
 clause_version rules listing (p ∷ ps) =
     cond (is_parameter p) (clause_version rules listing ps) (or_version (path_version rules listing (trimmed p)) (clause_version rules listing ps))
+
+-- the version that a clause has brought behind one more part
+abbrev pub version_behind : Rules → Listing → Option Text → Text → Option Text
+version_behind rules listing version part = cond (is_parameter part) version (or_version version (path_version rules listing (trimmed part)))
 
 -- the attribute that takes the version
 abbrev pub version_name : Listing → Text

@@ -1,14 +1,19 @@
 //! Header values as lists of clauses.
 
-ghost use Rattle.std.specs.Prelude.{◌≡◌, IfOk, map};
+ghost use Rattle.std.specs.Prelude.{◌≡◌, IfOk, IfErr, OnOk, map, true, false};
 ghost use Rattle.std.specs.Option.{option_copied};
+ghost use Rattle.std.specs.List.{list_all};
 ghost use Rattle.desk_rules.specs.Images.{IsImage};
-ghost use Rattle.desk_clauses.specs.Grammar.{parts, clauses, clause_text, value_text};
-ghost use Rattle.desk_listings.specs.Images.{lists_packages, is_export, version_name, clause_version, clause_image, listing_image, identity_version};
+ghost use Rattle.desk_clauses.specs.Grammar.{parts, clauses, clause_text, value_text, is_clause};
+ghost use Rattle.desk_clauses.specs.Cuts.{IsMark};
+ghost use Rattle.desk_listings.specs.Images.{lists_packages, is_export, version_name, version_behind, clause_image, listing_image, identity_version};
+ghost use Rattle.desk_listings.specs.declared.listings.ListingFault.TheVariants as listing_faults;
 
 use crate::parts::{path_version, rename_part};
 use desk_base::{Memory, Text};
-use desk_clauses::{Edits, first_path, is_in_grammar, is_parameter, split_first_part};
+use desk_clauses::{
+    ClausePlace, Edits, first_path, is_closed, is_in_grammar, mark_place, split_first_part,
+};
 use desk_lines::trim_blanks;
 use desk_rules::RuleSet;
 use std::alloc::Global;
@@ -58,61 +63,88 @@ impl Listing {
     }
 }
 
-/// The version of the first path of a clause that brings one. The only error is want of memory.
-fn clause_version<'r>(
+/// Why a list of clauses has no image.
+#[derive(Clone, Copy)]
+enum ListingFault {
+    /// A clause isn't in the grammar.
+    OutsideGrammar,
+    /// Memory ran out.
+    Memory,
+}
+
+impl From<Memory> for ListingFault {
+    ghost from_gives = { λ _ fault. fault ≡ listing_faults.Memory };
+
+    fn from(_: Memory) -> ListingFault {
+        ListingFault::Memory
+    }
+}
+
+/// The version that a clause has brought behind one more part: that of its first path that brings one. So many bytes of the part
+/// stand before its `=`, and all of a path's. The only error is want of memory.
+fn version_behind<'r>(
     alloc: Global,
     rules: &'r RuleSet,
     listing: Listing,
-    clause: &[u8],
+    version: Option<&'r [u8]>,
+    part: &[u8],
+    mark: usize,
 ) -> Result<Option<&'r [u8]>, Memory>
-    ensures { IfOk result (λ version. option_copied version ≡ clause_version rules.now listing (parts clause.now)) }
+    requires { IsMark part.now mark }
+    ensures { IfOk result (λ behind. option_copied behind ≡ version_behind rules.now listing (option_copied version.entry) part.now) }
 {
-    let mut rest = Some(clause);
-    while let Some(text) = rest {
-        let (part, more) = split_first_part(text, b';');
-        if !is_parameter(part) {
-            let version = path_version(alloc, rules, listing, trim_blanks(part))?;
-            if version.is_some() {
-                return Ok(version);
-            }
-        }
-        rest = more;
+    if version.is_some() || mark < part.len() {
+        return Ok(version);
     }
-    Ok(None)
+    path_version(alloc, rules, listing, trim_blanks(part))
 }
 
-/// The image of a clause; none exactly where it is the clause itself. The only error is want of memory.
+/// The image of a clause; none exactly where it is the clause itself. Each part is cut once: in the grammar all paths stand before
+/// the first parameter, so that the version of the clause is known there. The errors are a clause outside the grammar and want of
+/// memory.
 fn rename_clause(
     alloc: Global,
     rules: &RuleSet,
     listing: Listing,
     clause: &[u8],
-) -> Result<Option<Text>, Memory>
-    ensures { IfOk result (IsImage clause.now (clause_text (clause_image rules.now listing (parts clause.now)))) }
+) -> Result<Option<Text>, ListingFault>
+    ensures image { IfOk result (IsImage clause.now (clause_text (clause_image rules.now listing (parts clause.now)))) }
+    ensures formed { OnOk result (is_clause (parts clause.now) ≡ true) }
+    ensures fault { IfErr result (λ fault. fault ≡ listing_faults.OutsideGrammar → is_clause (parts clause.now) ≡ false) }
 {
-    let version = clause_version(alloc, rules, listing, clause)?;
     let mut edits = Edits::new(alloc);
+    let mut place = ClausePlace::Start;
+    let mut version = None;
     let mut rest = Some(clause);
     let mut from = 0;
     while let Some(text) = rest {
         let (part, more) = split_first_part(text, b';');
+        let mark = mark_place(part, b'=');
+        match place.behind(part, mark) {
+            None => return Err(ListingFault::OutsideGrammar),
+            Some(next) => place = next,
+        }
+        version = version_behind(alloc, rules, listing, version, part, mark)?;
         let to = from + part.len();
-        let image = rename_part(alloc, rules, listing, version, part)?;
+        let image = rename_part(alloc, rules, listing, version, part, mark)?;
         edits.put(clause, from, to, image)?;
         from = to + 1;
         rest = more;
     }
-    edits.finish(clause)
+    Ok(edits.finish(clause)?)
 }
 
-/// The image of the clauses of a value; none exactly where it is the value itself. The only error is want of memory.
+/// The image of the clauses of a value; none exactly where it is the value itself. The errors are a clause outside the grammar and
+/// want of memory.
 fn rename_clauses(
     alloc: Global,
     rules: &RuleSet,
     listing: Listing,
     value: &[u8],
-) -> Result<Option<Text>, Memory>
-    ensures { IfOk result (IsImage value.now (value_text (map (clause_image rules.now listing) (clauses value.now)))) }
+) -> Result<Option<Text>, ListingFault>
+    ensures image { IfOk result (IsImage value.now (value_text (map (clause_image rules.now listing) (clauses value.now)))) }
+    ensures formed { OnOk result (list_all is_clause (clauses value.now) ≡ true) }
+    ensures fault { IfErr result (λ fault. fault ≡ listing_faults.OutsideGrammar → list_all is_clause (clauses value.now) ≡ false) }
 {
     let mut edits = Edits::new(alloc);
     let mut rest = Some(value);
@@ -125,7 +157,7 @@ fn rename_clauses(
         from = to + 1;
         rest = more;
     }
-    edits.finish(value)
+    Ok(edits.finish(value)?)
 }
 
 /// The image of a header's value. In a list of packages each path that is a dotted name goes as a package, and so does what
@@ -142,10 +174,14 @@ pub fn rename_listing(
 ) -> Result<Option<Text>, Memory>
     ensures { IfOk result (IsImage value.now (listing_image rules.now listing value.now)) }
 {
-    if !is_in_grammar(value) {
+    if !is_closed(value) {
         return Ok(None);
     }
-    rename_clauses(alloc, rules, listing, value)
+    match rename_clauses(alloc, rules, listing, value) {
+        Ok(image) => Ok(image),
+        Err(ListingFault::OutsideGrammar) => Ok(None),
+        Err(ListingFault::Memory) => Err(Memory),
+    }
 }
 
 /// The new version of the bundle that a Bundle-SymbolicName of this value names: that of the update of its first path; none

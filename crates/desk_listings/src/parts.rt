@@ -7,14 +7,12 @@ ghost use Rattle.desk_rules.specs.Images.{IsImage};
 ghost use Rattle.desk_lines.specs.Blanks.{trimmed};
 ghost use Rattle.desk_clauses.specs.Grammar.{with_argument, between_blanks, argument};
 ghost use Rattle.desk_listings.specs.Images.{is_export, version_name, versioned, uses_image, path_image, path_version, parameter_image, part_image};
-ghost use Rattle.desk_clauses.specs.Cuts.{IsMarkPlace, has_key_of};
+ghost use Rattle.desk_clauses.specs.Cuts.{IsMark, IsMarkPlace, has_key_of};
 
 use crate::Listing;
 use crate::packages::{package_version, rename_package_path, rename_uses};
 use desk_base::{Memory, Text};
-use desk_clauses::{
-    between_blanks, has_directive_key, image_or_none, mark_place, quoted, with_argument,
-};
+use desk_clauses::{between_blanks, has_directive_key, image_or_none, quoted, with_argument};
 use desk_lines::trim_blanks;
 use desk_rules::{RuleSet, Side};
 use std::alloc::Global;
@@ -139,20 +137,21 @@ fn rename_parameter(
     Ok(None)
 }
 
-/// The image of a part of a clause that gets this version; none exactly where it is the part itself. The only error is want of
-/// memory.
+/// The image of a part of a clause that gets this version; none exactly where it is the part itself. So many of its bytes stand
+/// before its `=`, and all of a path's. The only error is want of memory.
 pub(crate) fn rename_part(
     alloc: Global,
     rules: &RuleSet,
     listing: Listing,
     version: Option<&[u8]>,
     part: &[u8],
+    mark: usize,
 ) -> Result<Option<Text>, Memory>
+    requires { IsMark part.now mark }
     ensures { IfOk result (IsImage part.now (part_image rules.now listing (option_copied version.entry) part.now)) }
 {
-    let place = mark_place(part, b'=');
-    if place < part.len() {
-        return rename_parameter(alloc, rules, listing, version, part, place);
+    if mark < part.len() {
+        return rename_parameter(alloc, rules, listing, version, part, mark);
     }
     match rename_path(alloc, rules, listing, trim_blanks(part))? {
         None => Ok(None),

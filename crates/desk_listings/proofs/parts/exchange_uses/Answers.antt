@@ -1,4 +1,4 @@
-use Rattle.std.proofs.Common.{◌+◌, ◌∙◌, ap, sym, subst}
+use Rattle.std.proofs.Common.{◌+◌, ◌∙◌, ap, subst}
 use Rattle.std.proofs.lemmas.List.{take_rest}
 use Rattle.desk_base.specs.Names.{Text}
 use Rattle.desk_lines.specs.Blanks.{trimmed}
