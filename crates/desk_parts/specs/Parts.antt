@@ -15,12 +15,63 @@ use Rattle.desk_format.specs.declared.attributes.Slot.TheVariants as slot_of
 use Rattle.desk_format.specs.Rows.{tag_check, tag_branch}
 use Rattle.desk_parts.specs.declared.parts.Part.{Part}
 use Rattle.desk_parts.specs.declared.parts.Part.TheVariants as parts
+use Rattle.desk_parts.specs.declared.parts.ClassPart.{ClassPart}
+use Rattle.desk_parts.specs.declared.parts.ClassPart.TheVariants as classes
+use Rattle.desk_parts.specs.declared.parts.StackPart.{StackPart}
+use Rattle.desk_parts.specs.declared.parts.StackPart.TheVariants as stacks
+use Rattle.desk_parts.specs.declared.parts.AnnotationPart.{AnnotationPart}
+use Rattle.desk_parts.specs.declared.parts.AnnotationPart.TheVariants as annotations
+use Rattle.desk_parts.specs.declared.parts.TypeAnnotationPart.{TypeAnnotationPart}
+use Rattle.desk_parts.specs.declared.parts.TypeAnnotationPart.TheVariants as type_annotations
 use Rattle.desk_parts.specs.declared.parts.Structure.{Structure}
 use Rattle.desk_parts.specs.declared.parts.Structure.TheVariants as structures
 use Rattle.desk_parts.specs.declared.parts.Union.{Union}
 use Rattle.desk_parts.specs.declared.parts.Union.TheVariants as unions
 
--- the layout of a part, as the definitions of the class file format have it
+-- the layouts of parts, as the definitions of the class file format have them
+
+abbrev pub class_layout : ClassPart → Layout
+class_layout classes.Body = class_body
+class_layout classes.Fields = many field_info
+class_layout classes.Field = field_info
+class_layout classes.Methods = many method_info
+class_layout classes.Method = method_info
+class_layout classes.MethodParameters = Layout.table w8 (row_layout (slot_of.Index kinds.PlainOrNone ∷ slot_of.Number ∷ []))
+class_layout classes.Code = Layout.row code_head (inner_attributes locations.OfCode)
+class_layout classes.CodeHead = code_head
+class_layout classes.Components = many (Layout.row component_head (inner_attributes locations.OfComponent))
+class_layout classes.Component = Layout.row component_head (inner_attributes locations.OfComponent)
+class_layout classes.Module = module_body
+
+abbrev pub stack_layout : StackPart → Layout
+stack_layout stacks.Frames = many frame
+stack_layout stacks.Frame = frame
+stack_layout stacks.Type = verification_type
+stack_layout stacks.Types = many verification_type
+stack_layout stacks.OffsetAndType = rows (u2 ∷ verification_type ∷ [])
+stack_layout stacks.OffsetAndTwoTypes = rows (u2 ∷ verification_type ∷ verification_type ∷ [])
+stack_layout stacks.OffsetAndThreeTypes = rows (u2 ∷ verification_type ∷ verification_type ∷ verification_type ∷ [])
+stack_layout stacks.FullFrame = rows (u2 ∷ many verification_type ∷ many verification_type ∷ [])
+
+abbrev pub annotation_layout : AnnotationPart → Layout
+annotation_layout (annotations.One depth) = annotation_of (element (65 - depth))
+annotation_layout (annotations.Many depth) = many (annotation_of (element (65 - depth)))
+annotation_layout annotations.OfParameters = Layout.table w8 (many annotation)
+annotation_layout (annotations.Pair depth) = pair_of (element (65 - depth))
+annotation_layout (annotations.Pairs depth) = many (pair_of (element (65 - depth)))
+annotation_layout (annotations.Element depth) = element (65 - depth)
+annotation_layout (annotations.Elements depth) = many (element (65 - depth))
+
+abbrev pub type_annotation_layout : TypeAnnotationPart → Layout
+type_annotation_layout type_annotations.One = type_annotation
+type_annotation_layout type_annotations.Many = many type_annotation
+type_annotation_layout type_annotations.Target = target
+type_annotation_layout type_annotations.TypeParameterBound = rows (u1 ∷ u1 ∷ [])
+type_annotation_layout type_annotations.TypeArgument = rows (u2 ∷ u1 ∷ [])
+type_annotation_layout type_annotations.TypePath = type_path
+type_annotation_layout type_annotations.PathStep = path_step
+type_annotation_layout type_annotations.PathKind = Layout.number w8 path_kind
+
 abbrev pub part_layout : Part → Layout
 part_layout parts.Nothing = Layout.nothing
 part_layout parts.U1 = u1
@@ -30,44 +81,14 @@ part_layout parts.CodeBytes = Layout.sized w32 code_length
 part_layout (parts.Index kind) = Layout.index kind
 part_layout (parts.Slots slots) = row_layout slots.now
 part_layout (parts.Table slots) = table_layout slots.now
-part_layout parts.Body = class_body
-part_layout parts.Fields = many field_info
-part_layout parts.Field = field_info
-part_layout parts.Methods = many method_info
-part_layout parts.Method = method_info
-part_layout (parts.Attributes location) = attributes_of location
-part_layout parts.Code = Layout.row code_head (inner_attributes locations.OfCode)
-part_layout parts.CodeHead = code_head
-part_layout parts.Components = many (Layout.row component_head (inner_attributes locations.OfComponent))
-part_layout parts.Component = Layout.row component_head (inner_attributes locations.OfComponent)
 part_layout (parts.SlotsAndTable slots table) = rows (row_layout slots.now ∷ table_layout table.now ∷ [])
 part_layout (parts.SlotsAndTables slots table) = many (rows (row_layout slots.now ∷ table_layout table.now ∷ []))
 part_layout (parts.LastTable table) = rows (table_layout table.now ∷ [])
-part_layout parts.Module = module_body
-part_layout parts.Frames = many frame
-part_layout parts.Frame = frame
-part_layout parts.Type = verification_type
-part_layout parts.Types = many verification_type
-part_layout parts.OffsetAndType = rows (u2 ∷ verification_type ∷ [])
-part_layout parts.OffsetAndTwoTypes = rows (u2 ∷ verification_type ∷ verification_type ∷ [])
-part_layout parts.OffsetAndThreeTypes = rows (u2 ∷ verification_type ∷ verification_type ∷ verification_type ∷ [])
-part_layout parts.FullFrame = rows (u2 ∷ many verification_type ∷ many verification_type ∷ [])
-part_layout (parts.Annotation depth) = annotation_of (element (65 - depth))
-part_layout (parts.Annotations depth) = many (annotation_of (element (65 - depth)))
-part_layout parts.ParameterAnnotations = Layout.table w8 (many annotation)
-part_layout parts.MethodParameters = Layout.table w8 (row_layout (slot_of.Index kinds.PlainOrNone ∷ slot_of.Number ∷ []))
-part_layout (parts.Pair depth) = pair_of (element (65 - depth))
-part_layout (parts.Pairs depth) = many (pair_of (element (65 - depth)))
-part_layout (parts.Element depth) = element (65 - depth)
-part_layout (parts.Elements depth) = many (element (65 - depth))
-part_layout parts.TypeAnnotations = many type_annotation
-part_layout parts.TypeAnnotation = type_annotation
-part_layout parts.Target = target
-part_layout parts.TypeParameterBound = rows (u1 ∷ u1 ∷ [])
-part_layout parts.TypeArgument = rows (u2 ∷ u1 ∷ [])
-part_layout parts.TypePath = type_path
-part_layout parts.PathStep = path_step
-part_layout parts.PathKind = Layout.number w8 path_kind
+part_layout (parts.Attributes location) = attributes_of location
+part_layout (parts.Class piece) = class_layout piece
+part_layout (parts.Stack piece) = stack_layout piece
+part_layout (parts.Annotation piece) = annotation_layout piece
+part_layout (parts.TypeAnnotation piece) = type_annotation_layout piece
 
 -- ---- how deep parts lie in a part
 
@@ -77,46 +98,57 @@ level locations.OfCode = 1000
 level locations.OfComponent = 1000
 level _ = 2000
 
--- greater than that of each part inside it
+-- the rank of a part: greater than that of each part inside it
+
+abbrev pub class_rank : ClassPart → ℕ
+class_rank classes.MethodParameters = 1
+class_rank classes.CodeHead = 4
+class_rank classes.Module = 50
+class_rank classes.Code = 1002
+class_rank classes.Component = 1002
+class_rank classes.Components = 1003
+class_rank classes.Field = 2002
+class_rank classes.Fields = 2003
+class_rank classes.Method = 2002
+class_rank classes.Methods = 2003
+class_rank classes.Body = 9000
+
+abbrev pub stack_rank : StackPart → ℕ
+stack_rank stacks.Type = 1
+stack_rank stacks.Types = 2
+stack_rank stacks.Frame = 11
+stack_rank stacks.Frames = 12
+stack_rank _ = 10
+
+abbrev pub annotation_rank : AnnotationPart → ℕ
+annotation_rank (annotations.Element depth) = 10 * (65 - depth) + 2
+annotation_rank (annotations.Pair depth) = 10 * (65 - depth) + 3
+annotation_rank (annotations.Elements depth) = 10 * (65 - depth) + 3
+annotation_rank (annotations.Pairs depth) = 10 * (65 - depth) + 4
+annotation_rank (annotations.One depth) = 10 * (65 - depth) + 5
+annotation_rank (annotations.Many depth) = 10 * (65 - depth) + 6
+annotation_rank annotations.OfParameters = 700
+
+abbrev pub type_annotation_rank : TypeAnnotationPart → ℕ
+type_annotation_rank type_annotations.PathKind = 0
+type_annotation_rank type_annotations.TypeParameterBound = 3
+type_annotation_rank type_annotations.TypeArgument = 3
+type_annotation_rank type_annotations.Target = 4
+type_annotation_rank type_annotations.PathStep = 3
+type_annotation_rank type_annotations.TypePath = 4
+type_annotation_rank type_annotations.One = 700
+type_annotation_rank type_annotations.Many = 701
+
 abbrev pub rank : Part → ℕ
-rank parts.Type = 1
-rank parts.Types = 2
-rank parts.OffsetAndType = 10
-rank parts.OffsetAndTwoTypes = 10
-rank parts.OffsetAndThreeTypes = 10
-rank parts.FullFrame = 10
-rank parts.Frame = 11
-rank parts.Frames = 12
 rank (parts.Table slots) = 1
 rank (parts.LastTable table) = 2
 rank (parts.SlotsAndTable slots table) = 3
 rank (parts.SlotsAndTables slots table) = 4
-rank parts.Module = 50
-rank parts.MethodParameters = 1
-rank (parts.Element depth) = 10 * (65 - depth) + 2
-rank (parts.Pair depth) = 10 * (65 - depth) + 3
-rank (parts.Elements depth) = 10 * (65 - depth) + 3
-rank (parts.Pairs depth) = 10 * (65 - depth) + 4
-rank (parts.Annotation depth) = 10 * (65 - depth) + 5
-rank (parts.Annotations depth) = 10 * (65 - depth) + 6
-rank parts.ParameterAnnotations = 700
-rank parts.TypeParameterBound = 3
-rank parts.TypeArgument = 3
-rank parts.Target = 4
-rank parts.PathStep = 3
-rank parts.TypePath = 4
-rank parts.TypeAnnotation = 700
-rank parts.TypeAnnotations = 701
 rank (parts.Attributes location) = level location + 1
-rank parts.CodeHead = 4
-rank parts.Code = 1002
-rank parts.Component = 1002
-rank parts.Components = 1003
-rank parts.Field = 2002
-rank parts.Fields = 2003
-rank parts.Method = 2002
-rank parts.Methods = 2003
-rank parts.Body = 9000
+rank (parts.Class piece) = class_rank piece
+rank (parts.Stack piece) = stack_rank piece
+rank (parts.Annotation piece) = annotation_rank piece
+rank (parts.TypeAnnotation piece) = type_annotation_rank piece
 rank _ = 0
 
 -- the ranks of parts one behind the other

@@ -1,7 +1,7 @@
 //! The table of the parts of a class's body: which part is made of which.
 
 ghost use Rattle.std.specs.Prelude.{◌≡◌, ◌≤◌, ◌<◌, ◌+◌, ◌-◌, ◌*◌, true};
-ghost use Rattle.desk_parts.specs.Parts.{part_layout, structure_layout, branch_of, union_rank, rank, level, Below};
+ghost use Rattle.desk_parts.specs.Parts.{part_layout, class_layout, stack_layout, annotation_layout, type_annotation_layout, structure_layout, branch_of, union_rank, rank, class_rank, stack_rank, annotation_rank, type_annotation_rank, level, Below};
 ghost use Rattle.desk_format.specs.Attributes.{body_at, row_of, inner_attributes, is_among, signature_kind};
 
 use desk_base::UseKind;
@@ -27,6 +27,27 @@ pub enum Part {
     Slots(&'static [Slot]),
     /// A two-byte count, and as many rows of slots.
     Table(&'static [Slot]),
+    /// Slots, and a table of slots behind them.
+    SlotsAndTable(&'static [Slot], &'static [Slot]),
+    /// A two-byte count, and as many of these.
+    SlotsAndTables(&'static [Slot], &'static [Slot]),
+    /// A table of slots at the end of a row.
+    LastTable(&'static [Slot]),
+    /// The attributes at a location (JVMS 4.7).
+    Attributes(Location),
+    /// A class, or a piece of it.
+    Class(ClassPart),
+    /// The frames of a stack map, or a piece of them.
+    Stack(StackPart),
+    /// Annotations, or a piece of them.
+    Annotation(AnnotationPart),
+    /// Type annotations, or a piece of them.
+    TypeAnnotation(TypeAnnotationPart),
+}
+
+/// A class, its members, and what its attributes hold that is neither slots nor annotations.
+#[derive(Clone, Copy)]
+pub enum ClassPart {
     /// All of a class behind its constant pool (JVMS 4.1).
     Body,
     /// The fields of a class.
@@ -37,8 +58,8 @@ pub enum Part {
     Methods,
     /// JVMS 4.6.
     Method,
-    /// The attributes at a location (JVMS 4.7).
-    Attributes(Location),
+    /// The names of parameters (JVMS 4.7.24).
+    MethodParameters,
     /// The body of a Code attribute (JVMS 4.7.3).
     Code,
     /// Code without its attributes.
@@ -47,15 +68,14 @@ pub enum Part {
     Components,
     /// One of them.
     Component,
-    /// Slots, and a table of slots behind them.
-    SlotsAndTable(&'static [Slot], &'static [Slot]),
-    /// A two-byte count, and as many of these.
-    SlotsAndTables(&'static [Slot], &'static [Slot]),
-    /// A table of slots at the end of a row.
-    LastTable(&'static [Slot]),
     /// The body of a Module attribute (JVMS 4.7.25).
     Module,
-    /// The frames of a StackMapTable attribute (JVMS 4.7.4).
+}
+
+/// The frames of a StackMapTable attribute (JVMS 4.7.4).
+#[derive(Clone, Copy)]
+pub enum StackPart {
+    /// All of them.
     Frames,
     /// One of them.
     Frame,
@@ -71,14 +91,17 @@ pub enum Part {
     OffsetAndThreeTypes,
     /// A full frame behind its tag.
     FullFrame,
-    /// An annotation (JVMS 4.7.16) whose element values are of this depth, from 1 on.
-    Annotation(u8),
+}
+
+/// Annotations (JVMS 4.7.16), whose element values are of a depth, from 1 on.
+#[derive(Clone, Copy)]
+pub enum AnnotationPart {
+    /// An annotation.
+    One(u8),
     /// A two-byte count, and as many annotations.
-    Annotations(u8),
+    Many(u8),
     /// The annotations of parameters (JVMS 4.7.18).
-    ParameterAnnotations,
-    /// The names of parameters (JVMS 4.7.24).
-    MethodParameters,
+    OfParameters,
     /// The name of an element, and its value.
     Pair(u8),
     /// A two-byte count, and as many of these.
@@ -87,11 +110,16 @@ pub enum Part {
     Element(u8),
     /// A two-byte count, and as many element values.
     Elements(u8),
-    /// The type annotations of an attribute (JVMS 4.7.20).
-    TypeAnnotations,
+}
+
+/// Type annotations (JVMS 4.7.20).
+#[derive(Clone, Copy)]
+pub enum TypeAnnotationPart {
     /// One of them.
-    TypeAnnotation,
-    /// The target of a type annotation, behind its type (JVMS 4.7.20.1).
+    One,
+    /// All of an attribute.
+    Many,
+    /// The target of one, behind its type (JVMS 4.7.20.1).
     Target,
     /// The target of a bound of a type parameter.
     TypeParameterBound,
@@ -198,8 +226,8 @@ const THREE_NUMBERS: &[Slot] = &[Number, Number, Number];
 const BODY: &[Part] = &[
     Part::Slots(CLASS_HEAD),
     Part::Table(INTERFACES),
-    Part::Fields,
-    Part::Methods,
+    Part::Class(ClassPart::Fields),
+    Part::Class(ClassPart::Methods),
     Part::Attributes(Location::OfClass),
 ];
 
@@ -218,24 +246,149 @@ const MODULE_BODY: &[Part] = &[
     Part::SlotsAndTables(CLASS, CLASS),
 ];
 
-const OFFSET_AND_TYPE: &[Part] = &[Part::U2, Part::Type];
+const OFFSET_AND_TYPE: &[Part] = &[Part::U2, Part::Stack(StackPart::Type)];
 
-const OFFSET_AND_TWO_TYPES: &[Part] = &[Part::U2, Part::Type, Part::Type];
+const OFFSET_AND_TWO_TYPES: &[Part] = &[
+    Part::U2,
+    Part::Stack(StackPart::Type),
+    Part::Stack(StackPart::Type),
+];
 
-const OFFSET_AND_THREE_TYPES: &[Part] = &[Part::U2, Part::Type, Part::Type, Part::Type];
+const OFFSET_AND_THREE_TYPES: &[Part] = &[
+    Part::U2,
+    Part::Stack(StackPart::Type),
+    Part::Stack(StackPart::Type),
+    Part::Stack(StackPart::Type),
+];
 
-const FULL_FRAME: &[Part] = &[Part::U2, Part::Types, Part::Types];
+const FULL_FRAME: &[Part] = &[
+    Part::U2,
+    Part::Stack(StackPart::Types),
+    Part::Stack(StackPart::Types),
+];
 
-const TYPE_ANNOTATION: &[Part] = &[Part::Target, Part::TypePath, Part::Annotation(1)];
+const TYPE_ANNOTATION: &[Part] = &[
+    Part::TypeAnnotation(TypeAnnotationPart::Target),
+    Part::TypeAnnotation(TypeAnnotationPart::TypePath),
+    Part::Annotation(AnnotationPart::One(1)),
+];
 
 const TYPE_PARAMETER_BOUND: &[Part] = &[Part::U1, Part::U1];
 
 const TYPE_ARGUMENT: &[Part] = &[Part::U2, Part::U1];
 
-const PATH_STEP: &[Part] = &[Part::PathKind, Part::U1];
+const PATH_STEP: &[Part] = &[Part::TypeAnnotation(TypeAnnotationPart::PathKind), Part::U1];
+
+/// What a class, or a piece of it, is made of.
+#[tactic(auto, using(crate::proofs::Depths::code_is, crate::proofs::Depths::component_is), unfolding(desk_format::specs::Rows::row_layout, desk_format::specs::ClassBody::class_body))]
+fn class_structure(part: ClassPart) -> Structure
+    ensures layout { class_layout part ≡ structure_layout result }
+    ensures below { Below (class_rank part) result }
+{
+    match part {
+        ClassPart::Body => Structure::Row(BODY),
+        ClassPart::Fields => Structure::Table(Part::Class(ClassPart::Field)),
+        ClassPart::Field => Structure::Member(
+            Part::Slots(FIELD_HEAD),
+            Part::Attributes(Location::OfField),
+        ),
+        ClassPart::Methods => Structure::Table(Part::Class(ClassPart::Method)),
+        ClassPart::Method => Structure::Member(
+            Part::Slots(METHOD_HEAD),
+            Part::Attributes(Location::OfMethod),
+        ),
+        ClassPart::MethodParameters => Structure::ShortTable(Part::Slots(NAME_AND_FLAGS)),
+        ClassPart::Code => Structure::Both(
+            Part::Class(ClassPart::CodeHead),
+            Part::Attributes(Location::OfCode),
+        ),
+        ClassPart::CodeHead => Structure::Row(CODE_HEAD),
+        ClassPart::Components => Structure::Table(Part::Class(ClassPart::Component)),
+        ClassPart::Component => Structure::Both(
+            Part::Slots(COMPONENT_HEAD),
+            Part::Attributes(Location::OfComponent),
+        ),
+        ClassPart::Module => Structure::Row(MODULE_BODY),
+    }
+}
+
+/// What the frames of a stack map, or a piece of them, are made of.
+fn stack_structure(part: StackPart) -> Structure
+    ensures layout { stack_layout part ≡ structure_layout result }
+    ensures below { Below (stack_rank part) result }
+{
+    match part {
+        StackPart::Frames => Structure::Table(Part::Stack(StackPart::Frame)),
+        StackPart::Frame => Structure::Union(Union::Frame),
+        StackPart::Type => Structure::Union(Union::VerificationType),
+        StackPart::Types => Structure::Table(Part::Stack(StackPart::Type)),
+        StackPart::OffsetAndType => Structure::Row(OFFSET_AND_TYPE),
+        StackPart::OffsetAndTwoTypes => Structure::Row(OFFSET_AND_TWO_TYPES),
+        StackPart::OffsetAndThreeTypes => Structure::Row(OFFSET_AND_THREE_TYPES),
+        StackPart::FullFrame => Structure::Row(FULL_FRAME),
+    }
+}
+
+/// What annotations, or a piece of them, are made of.
+#[tactic(auto, using(crate::proofs::Depths::element_is, crate::proofs::Depths::element_ends))]
+fn annotation_structure(part: AnnotationPart) -> Structure
+    ensures layout { annotation_layout part ≡ structure_layout result }
+    ensures below { Below (annotation_rank part) result }
+{
+    match part {
+        AnnotationPart::One(depth) => Structure::Both(
+            Part::Index(UseKind::FieldDescriptor),
+            Part::Annotation(AnnotationPart::Pairs(depth)),
+        ),
+        AnnotationPart::Many(depth) => {
+            Structure::Table(Part::Annotation(AnnotationPart::One(depth)))
+        }
+        AnnotationPart::OfParameters => {
+            Structure::ShortTable(Part::Annotation(AnnotationPart::Many(1)))
+        }
+        AnnotationPart::Pair(depth) => Structure::Both(
+            Part::Index(UseKind::Plain),
+            Part::Annotation(AnnotationPart::Element(depth)),
+        ),
+        AnnotationPart::Pairs(depth) => {
+            Structure::Table(Part::Annotation(AnnotationPart::Pair(depth)))
+        }
+        AnnotationPart::Element(depth) => {
+            if depth >= 65 {
+                Structure::Fault
+            } else {
+                Structure::Union(Union::Element(depth + 1))
+            }
+        }
+        AnnotationPart::Elements(depth) => {
+            Structure::Table(Part::Annotation(AnnotationPart::Element(depth)))
+        }
+    }
+}
+
+/// What type annotations, or a piece of them, are made of.
+fn type_annotation_structure(part: TypeAnnotationPart) -> Structure
+    ensures layout { type_annotation_layout part ≡ structure_layout result }
+    ensures below { Below (type_annotation_rank part) result }
+{
+    match part {
+        TypeAnnotationPart::One => Structure::Row(TYPE_ANNOTATION),
+        TypeAnnotationPart::Many => {
+            Structure::Table(Part::TypeAnnotation(TypeAnnotationPart::One))
+        }
+        TypeAnnotationPart::Target => Structure::Union(Union::Target),
+        TypeAnnotationPart::TypeParameterBound => Structure::Row(TYPE_PARAMETER_BOUND),
+        TypeAnnotationPart::TypeArgument => Structure::Row(TYPE_ARGUMENT),
+        TypeAnnotationPart::TypePath => {
+            Structure::ShortTable(Part::TypeAnnotation(TypeAnnotationPart::PathStep))
+        }
+        TypeAnnotationPart::PathStep => Structure::Row(PATH_STEP),
+        TypeAnnotationPart::PathKind => Structure::PathKind,
+    }
+}
 
 /// What a part is made of, by the table.
-#[tactic(auto, using(crate::proofs::Depths::element_is, crate::proofs::Depths::element_ends, crate::proofs::Depths::code_is, crate::proofs::Depths::component_is), unfolding(desk_format::specs::Rows::row_layout, desk_format::specs::ClassBody::class_body))]
+#[tactic(auto, unfolding(desk_format::specs::Rows::row_layout))]
 pub fn structure_of(part: Part) -> Structure
     ensures layout { part_layout part ≡ structure_layout result }
     ensures below { Below (rank part) result }
@@ -244,70 +397,22 @@ pub fn structure_of(part: Part) -> Structure
         Part::Nothing => Structure::Nothing,
         Part::U1 => Structure::U1,
         Part::U2 => Structure::U2,
-        Part::PathKind => Structure::PathKind,
         Part::Raw(size) => Structure::Raw(size),
         Part::CodeBytes => Structure::CodeBytes,
         Part::Index(kind) => Structure::Index(kind),
         Part::Slots(slots) => Structure::Slots(slots),
         Part::Table(slots) => Structure::Table(Part::Slots(slots)),
-        Part::Body => Structure::Row(BODY),
-        Part::Fields => Structure::Table(Part::Field),
-        Part::Field => Structure::Member(
-            Part::Slots(FIELD_HEAD),
-            Part::Attributes(Location::OfField),
-        ),
-        Part::Methods => Structure::Table(Part::Method),
-        Part::Method => Structure::Member(
-            Part::Slots(METHOD_HEAD),
-            Part::Attributes(Location::OfMethod),
-        ),
-        Part::Attributes(location) => Structure::Attributes(location),
-        Part::Code => Structure::Both(Part::CodeHead, Part::Attributes(Location::OfCode)),
-        Part::CodeHead => Structure::Row(CODE_HEAD),
-        Part::Components => Structure::Table(Part::Component),
-        Part::Component => Structure::Both(
-            Part::Slots(COMPONENT_HEAD),
-            Part::Attributes(Location::OfComponent),
-        ),
-        Part::SlotsAndTables(slots, table) => Structure::Table(Part::SlotsAndTable(slots, table)),
         Part::SlotsAndTable(slots, table) => Structure::Both(
             Part::Slots(slots),
             Part::LastTable(table),
         ),
+        Part::SlotsAndTables(slots, table) => Structure::Table(Part::SlotsAndTable(slots, table)),
         Part::LastTable(table) => Structure::Both(Part::Table(table), Part::Nothing),
-        Part::Module => Structure::Row(MODULE_BODY),
-        Part::Frames => Structure::Table(Part::Frame),
-        Part::Frame => Structure::Union(Union::Frame),
-        Part::Type => Structure::Union(Union::VerificationType),
-        Part::Types => Structure::Table(Part::Type),
-        Part::OffsetAndType => Structure::Row(OFFSET_AND_TYPE),
-        Part::OffsetAndTwoTypes => Structure::Row(OFFSET_AND_TWO_TYPES),
-        Part::OffsetAndThreeTypes => Structure::Row(OFFSET_AND_THREE_TYPES),
-        Part::FullFrame => Structure::Row(FULL_FRAME),
-        Part::Annotation(depth) => Structure::Both(
-            Part::Index(UseKind::FieldDescriptor),
-            Part::Pairs(depth),
-        ),
-        Part::Annotations(depth) => Structure::Table(Part::Annotation(depth)),
-        Part::ParameterAnnotations => Structure::ShortTable(Part::Annotations(1)),
-        Part::MethodParameters => Structure::ShortTable(Part::Slots(NAME_AND_FLAGS)),
-        Part::Pair(depth) => Structure::Both(Part::Index(UseKind::Plain), Part::Element(depth)),
-        Part::Pairs(depth) => Structure::Table(Part::Pair(depth)),
-        Part::Element(depth) => {
-            if depth >= 65 {
-                Structure::Fault
-            } else {
-                Structure::Union(Union::Element(depth + 1))
-            }
-        }
-        Part::Elements(depth) => Structure::Table(Part::Element(depth)),
-        Part::TypeAnnotations => Structure::Table(Part::TypeAnnotation),
-        Part::TypeAnnotation => Structure::Row(TYPE_ANNOTATION),
-        Part::Target => Structure::Union(Union::Target),
-        Part::TypeParameterBound => Structure::Row(TYPE_PARAMETER_BOUND),
-        Part::TypeArgument => Structure::Row(TYPE_ARGUMENT),
-        Part::TypePath => Structure::ShortTable(Part::PathStep),
-        Part::PathStep => Structure::Row(PATH_STEP),
+        Part::Attributes(location) => Structure::Attributes(location),
+        Part::Class(piece) => class_structure(piece),
+        Part::Stack(piece) => stack_structure(piece),
+        Part::Annotation(piece) => annotation_structure(piece),
+        Part::TypeAnnotation(piece) => type_annotation_structure(piece),
     }
 }
 
@@ -316,12 +421,12 @@ fn frame_part(tag: u8) -> Part
     ensures below { rank result < 11 }
 {
     match tag {
-        64..=127 => Part::Type,
-        247 | 252 => Part::OffsetAndType,
+        64..=127 => Part::Stack(StackPart::Type),
+        247 | 252 => Part::Stack(StackPart::OffsetAndType),
         248..=251 => Part::U2,
-        253 => Part::OffsetAndTwoTypes,
-        254 => Part::OffsetAndThreeTypes,
-        255 => Part::FullFrame,
+        253 => Part::Stack(StackPart::OffsetAndTwoTypes),
+        254 => Part::Stack(StackPart::OffsetAndThreeTypes),
+        255 => Part::Stack(StackPart::FullFrame),
         _ => Part::Nothing,
     }
 }
@@ -345,9 +450,9 @@ fn target_part(tag: u8) -> Part
     match tag {
         0x00 | 0x01 | 0x16 => Part::U1,
         0x10 | 0x17 | 0x42..=0x46 => Part::U2,
-        0x11 | 0x12 => Part::TypeParameterBound,
+        0x11 | 0x12 => Part::TypeAnnotation(TypeAnnotationPart::TypeParameterBound),
         0x40 | 0x41 => Part::Table(THREE_NUMBERS),
-        0x47..=0x4B => Part::TypeArgument,
+        0x47..=0x4B => Part::TypeAnnotation(TypeAnnotationPart::TypeArgument),
         _ => Part::Nothing,
     }
 }
@@ -365,8 +470,8 @@ fn element_part(depth: u8, tag: u8) -> Part
         b's' => Part::Index(UseKind::Str),
         b'c' => Part::Index(UseKind::ReturnDescriptor),
         b'e' => Part::Slots(CONSTANT),
-        b'@' => Part::Annotation(depth),
-        b'[' => Part::Elements(depth),
+        b'@' => Part::Annotation(AnnotationPart::One(depth)),
+        b'[' => Part::Annotation(AnnotationPart::Elements(depth)),
         _ => Part::Nothing,
     }
 }
@@ -477,8 +582,8 @@ fn known_part(attribute: Attribute, location: Location, length: u32) -> Part
 {
     match attribute {
         Attribute::ConstantValue => Part::Slots(CONSTANT_VALUE),
-        Attribute::Code => Part::Code,
-        Attribute::StackMapTable => Part::Frames,
+        Attribute::Code => Part::Class(ClassPart::Code),
+        Attribute::StackMapTable => Part::Stack(StackPart::Frames),
         Attribute::Exceptions => Part::Table(CLASS),
         Attribute::InnerClasses => Part::Table(INNER_CLASSES),
         Attribute::EnclosingMethod => Part::Slots(ENCLOSING_METHOD),
@@ -490,21 +595,23 @@ fn known_part(attribute: Attribute, location: Location, length: u32) -> Part
         Attribute::LocalVariableTable => Part::Table(LOCAL_VARIABLES),
         Attribute::LocalVariableTypeTable => Part::Table(LOCAL_VARIABLE_TYPES),
         Attribute::RuntimeVisibleAnnotations | Attribute::RuntimeInvisibleAnnotations => {
-            Part::Annotations(1)
+            Part::Annotation(AnnotationPart::Many(1))
         }
         Attribute::RuntimeVisibleParameterAnnotations
-        | Attribute::RuntimeInvisibleParameterAnnotations => Part::ParameterAnnotations,
+        | Attribute::RuntimeInvisibleParameterAnnotations => Part::Annotation(
+            AnnotationPart::OfParameters,
+        ),
         Attribute::RuntimeVisibleTypeAnnotations | Attribute::RuntimeInvisibleTypeAnnotations => {
-            Part::TypeAnnotations
+            Part::TypeAnnotation(TypeAnnotationPart::Many)
         }
-        Attribute::AnnotationDefault => Part::Element(1),
+        Attribute::AnnotationDefault => Part::Annotation(AnnotationPart::Element(1)),
         Attribute::BootstrapMethods => Part::SlotsAndTables(HANDLE, LOADABLE),
-        Attribute::MethodParameters => Part::MethodParameters,
-        Attribute::Module => Part::Module,
+        Attribute::MethodParameters => Part::Class(ClassPart::MethodParameters),
+        Attribute::Module => Part::Class(ClassPart::Module),
         Attribute::ModulePackages => Part::Table(PACKAGES),
         Attribute::ModuleMainClass | Attribute::NestHost => Part::Slots(CLASS),
         Attribute::NestMembers | Attribute::PermittedSubclasses => Part::Table(CLASS),
-        Attribute::Record => Part::Components,
+        Attribute::Record => Part::Class(ClassPart::Components),
     }
 }
 

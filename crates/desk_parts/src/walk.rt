@@ -7,7 +7,7 @@ ghost use Rattle.desk_parts.specs.Steps.{along, times_on, location_on};
 ghost use Rattle.desk_parts.specs.Gives.{Gives};
 ghost use Rattle.desk_parts.specs.Parts.{part_layout};
 
-use crate::parts::{Part, Structure, attribute_part, selected_part, structure_of};
+use crate::parts::{ClassPart, Part, Structure, attribute_part, selected_part, structure_of};
 use crate::walker::{Stop, Walker};
 use desk_format::{Location, Slot};
 
@@ -153,5 +153,5 @@ fn walk_part<W: Walker>(part: Part, position: &mut W::Position, walker: &W) -> R
 pub fn walk_body<W: Walker>(position: &mut W::Position, walker: &W) -> Result<(), Stop>
     ensures { Gives result (along (W.steps walker.now) class_body (W.state position.old)) (W.state position.new) }
 {
-    walk_part(Part::Body, position, walker)
+    walk_part(Part::Class(ClassPart::Body), position, walker)
 }
