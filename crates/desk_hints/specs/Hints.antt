@@ -1,5 +1,5 @@
 -- The hints behind a status.
-use Rattle.std.specs.Prelude.{codes, Bool, true, false, not, Option, Some, None, List, ℕ, if◌then◌else◌}
+use Rattle.std.specs.Prelude.{codes, Bool, true, false, Option, Some, None, if◌then◌else◌}
 use Rattle.std.specs.Str.{bytes_eq}
 use Rattle.desk_base.specs.Names.{Text}
 use Rattle.desk_ledger.specs.declared.keeper.Header.{Header}

@@ -103,146 +103,189 @@ pub enum Hint {
     Overlap,
 }
 
-/// Every hint, in the order of the statuses that it is for.
-pub const HINTS: &[Hint] = &[
-    Hint::Refusals,
-    Hint::Memory,
-    Hint::Folders,
-    Hint::Ledger,
-    Hint::Output,
-    Hint::Usage,
-    Hint::Nested,
-    Hint::NoRenames,
-    Hint::NotUtf8,
-    Hint::Escape,
-    Hint::BadPackage,
-    Hint::BadKey,
-    Hint::BadValue,
-    Hint::MissingText,
-    Hint::Chain1,
-    Hint::Chain2,
-    Hint::Chain3,
-    Hint::Chain4,
-    Hint::Chain5,
-    Hint::Chain6,
-    Hint::Chain7,
-    Hint::Chain8,
-    Hint::Chain9,
-    Hint::Files,
-    Hint::PathLength,
-    Hint::FileSize,
-    Hint::RuleFiles,
-    Hint::RuleSize,
-    Hint::Clash,
-    Hint::NameClash,
-    Hint::Stranded,
-    Hint::Other,
-    Hint::OtherRules,
-    Hint::OtherTarget,
-    Hint::OtherTargetRules,
-    Hint::OtherSource,
-    Hint::OtherSourceRules,
-    Hint::OtherSourceTarget,
-    Hint::OtherSourceTargetRules,
-    Hint::Moved,
-    Hint::NotRenames,
-    Hint::NothingToInvert,
-    Hint::Overlap,
+/// Every hint with its text, in the order of the statuses that it is for. A text is two lines: what stands against the run, and
+/// what to do.
+pub const HINTS: &[(Hint, &[u8])] = &[
+    (
+        Hint::Refusals,
+        b"migrate: some files were refused, and nothing was written for them\n         the target isn't ready to be used until each line `refused` is dealt with: see the counts by reason\n",
+    ),
+    (
+        Hint::Memory,
+        b"migrate: memory ran out, so the run stopped\n         give it more memory and run again: what was written and noted in the ledger is kept\n",
+    ),
+    (
+        Hint::Folders,
+        b"migrate: a file or folder could not be used as it should, so the run stopped\n         put right what is said above and run again: what was done is kept\n",
+    ),
+    (
+        Hint::Ledger,
+        b"migrate: the ledger could not be used, so the run stopped\n         put right what is said above and run again, or name another ledger, which starts anew\n",
+    ),
+    (
+        Hint::Output,
+        b"migrate: standard output took no more, so the report isn't whole; all files are done\n         run again with an output that takes it: the files are kept, and the report is printed\n",
+    ),
+    (
+        Hint::Usage,
+        b"migrate: these words ask for nothing that can be done\n         give the words as in the line of usage; docs/REFERENCE.md says each\n",
+    ),
+    (
+        Hint::Nested,
+        b"migrate: no root may lie where another would be changed: source and target, rules and target, the ledger in any\n         name a target and a ledger that lie in none of the other folders\n",
+    ),
+    (
+        Hint::NoRenames,
+        b"migrate: the rule folder has no `renames.properties`, or it has no key\n         write into it a line for each package, as `javax.servlet.*=jakarta.servlet`\n",
+    ),
+    (
+        Hint::NotUtf8,
+        b"migrate: a rule file isn't in UTF-8, from the byte on that is told\n         store the file in UTF-8 without a byte order mark\n",
+    ),
+    (
+        Hint::Escape,
+        b"migrate: a rule file has a `\\u` that isn't followed by four hexadecimal digits of a character, at the byte that is told\n         write the character itself, or two backslashes where one is meant\n",
+    ),
+    (
+        Hint::BadPackage,
+        b"migrate: a key of `renames.properties` isn't a package\n         mend that line: a package is identifiers joined by `.`, with `.*` at its end for all below it\n",
+    ),
+    (
+        Hint::BadKey,
+        b"migrate: a key of a rule file hasn't the form that the file asks for\n         mend that line: docs/REFERENCE.md lists for each file what a key may be\n",
+    ),
+    (
+        Hint::BadValue,
+        b"migrate: a value of a rule file hasn't the form that the file asks for\n         mend that line: docs/REFERENCE.md lists for each file what a value may be\n",
+    ),
+    (
+        Hint::MissingText,
+        b"migrate: `text.properties` names a file that the rule folder lacks\n         add the file, or mend its name\n",
+    ),
+    (
+        Hint::Chain1,
+        b"migrate: rules must not change what another rule gives: the first rename gives a package that the second renames\n         let the first give the last name at once, or remove one of the two\n",
+    ),
+    (
+        Hint::Chain2,
+        b"migrate: rules must not change what another rule gives: a rename gives a name that a direct rule changes\n         remove one of the two rules, or let both give the same name\n",
+    ),
+    (
+        Hint::Chain3,
+        b"migrate: rules must not change what another rule gives: a direct rule gives a string that the second direct rule changes\n         let the first give the last string at once, or remove one of the two\n",
+    ),
+    (
+        Hint::Chain4,
+        b"migrate: rules must not change what another rule gives: a direct rule gives a name that a rename changes\n         let the direct rule give the renamed name, or remove one of the two\n",
+    ),
+    (
+        Hint::Chain5,
+        b"migrate: rules must not change what another rule gives: a bundle update gives a name that the second update changes\n         let the first give the last name at once, or remove one of the two\n",
+    ),
+    (
+        Hint::Chain6,
+        b"migrate: the package that the first rename gives is itself, read as a class name, renamed by the second\n         give the first another package, or remove one of the two\n",
+    ),
+    (
+        Hint::Chain7,
+        b"migrate: the first rename gives, read as a class name, the very package that the second renames\n         give the first another package, or remove one of the two\n",
+    ),
+    (
+        Hint::Chain8,
+        b"migrate: the package that a rename gives is a string that a direct rule changes\n         remove the direct rule, or give the rename another package\n",
+    ),
+    (
+        Hint::Chain9,
+        b"migrate: a direct rule gives the package of a rename, which would change it once more\n         let the direct rule give the new package, or remove it\n",
+    ),
+    (
+        Hint::Files,
+        b"migrate: the source holds more than 200,000 files\n         migrate it in parts, each with a target and a ledger of its own\n",
+    ),
+    (
+        Hint::PathLength,
+        b"migrate: a path of the source, or its target, has more than 1,024 bytes\n         shorten the names of its folders, or leave the file out of the source\n",
+    ),
+    (
+        Hint::FileSize,
+        b"migrate: a file of the source is too large: one that is migrated may have 67,108,864 bytes, another 1,099,511,627,776\n         leave it out of the source, and copy it by hand\n",
+    ),
+    (
+        Hint::RuleFiles,
+        b"migrate: the rule folder holds more than 1,000 files\n         keep nothing but rule files there\n",
+    ),
+    (
+        Hint::RuleSize,
+        b"migrate: a rule file has more than 1,048,576 bytes\n         keep nothing but rule files there, or split a long one\n",
+    ),
+    (
+        Hint::Clash,
+        b"migrate: two files of the source would get one target, or the target of one would be a folder of the other's\n         rename or remove one of the two, or leave one out by `selection.properties`\n",
+    ),
+    (
+        Hint::NameClash,
+        b"migrate: a class of the source and another name that it uses would get one name\n         change the rules so that the two stay apart, or leave the class out by `selection.properties`\n",
+    ),
+    (
+        Hint::Stranded,
+        b"migrate: a class that is left out by `selection.properties` names a class of the source that is renamed, and would not find it\n         select that class too, or leave out the class that it names\n",
+    ),
+    (
+        Hint::Other,
+        b"migrate: the ledger belongs to another run\n         name what it was made with, or another ledger: another one starts anew, and writes every file\n",
+    ),
+    (
+        Hint::OtherRules,
+        b"migrate: the ledger belongs to a run with other rules\n         name what it was made with, or another ledger: another one starts anew, and writes every file\n",
+    ),
+    (
+        Hint::OtherTarget,
+        b"migrate: the ledger belongs to a run with another target\n         name what it was made with, or another ledger: another one starts anew, and writes every file\n",
+    ),
+    (
+        Hint::OtherTargetRules,
+        b"migrate: the ledger belongs to a run with other target and rules\n         name what it was made with, or another ledger: another one starts anew, and writes every file\n",
+    ),
+    (
+        Hint::OtherSource,
+        b"migrate: the ledger belongs to a run with another source\n         name what it was made with, or another ledger: another one starts anew, and writes every file\n",
+    ),
+    (
+        Hint::OtherSourceRules,
+        b"migrate: the ledger belongs to a run with other source and rules\n         name what it was made with, or another ledger: another one starts anew, and writes every file\n",
+    ),
+    (
+        Hint::OtherSourceTarget,
+        b"migrate: the ledger belongs to a run with other source and target\n         name what it was made with, or another ledger: another one starts anew, and writes every file\n",
+    ),
+    (
+        Hint::OtherSourceTargetRules,
+        b"migrate: the ledger belongs to a run with other source, target and rules\n         name what it was made with, or another ledger: another one starts anew, and writes every file\n",
+    ),
+    (
+        Hint::Moved,
+        b"migrate: a file of the source changed while the run read it\n         run again once nothing writes to the source\n",
+    ),
+    (
+        Hint::NotRenames,
+        b"migrate: the rules have more than renames, and only renames can be taken back\n         take that file out, or invert a folder that holds `renames.properties` alone\n",
+    ),
+    (
+        Hint::NothingToInvert,
+        b"migrate: no rename of the rules changes its package, so there is nothing to take back\n         name rules that rename a package to another one\n",
+    ),
+    (
+        Hint::Overlap,
+        b"migrate: two renames give one package, or a name in it, so it can not be told which of them to take back\n         give them targets of which neither is, or holds, what the other gives\n",
+    ),
 ];
 
 impl Hint {
-    /// The text: a line that says what stands against the run, and one that says what to do.
+    /// The text of the table.
     pub fn text(self) -> &'static [u8]
         ensures { result.now ≡ hint_text self }
     {
-        match self {
-            Hint::Refusals =>
-                b"migrate: some files were refused, and nothing was written for them\n         the target isn't ready to be used until each line `refused` is dealt with: see the counts by reason\n",
-            Hint::Memory =>
-                b"migrate: memory ran out, so the run stopped\n         give it more memory and run again: what was written and noted in the ledger is kept\n",
-            Hint::Folders =>
-                b"migrate: a file or folder could not be used as it should, so the run stopped\n         put right what is said above and run again: what was done is kept\n",
-            Hint::Ledger =>
-                b"migrate: the ledger could not be used, so the run stopped\n         put right what is said above and run again, or name another ledger, which starts anew\n",
-            Hint::Output =>
-                b"migrate: standard output took no more, so the report isn't whole; all files are done\n         run again with an output that takes it: the files are kept, and the report is printed\n",
-            Hint::Usage =>
-                b"migrate: these words ask for nothing that can be done\n         give the words as in the line of usage; docs/REFERENCE.md says each\n",
-            Hint::Nested =>
-                b"migrate: no root may lie where another would be changed: source and target, rules and target, the ledger in any\n         name a target and a ledger that lie in none of the other folders\n",
-            Hint::NoRenames =>
-                b"migrate: the rule folder has no `renames.properties`, or it has no key\n         write into it a line for each package, as `javax.servlet.*=jakarta.servlet`\n",
-            Hint::NotUtf8 =>
-                b"migrate: a rule file isn't in UTF-8, from the byte on that is told\n         store the file in UTF-8 without a byte order mark\n",
-            Hint::Escape =>
-                b"migrate: a rule file has a `\\u` that isn't followed by four hexadecimal digits of a character, at the byte that is told\n         write the character itself, or two backslashes where one is meant\n",
-            Hint::BadPackage =>
-                b"migrate: a key of `renames.properties` isn't a package\n         mend that line: a package is identifiers joined by `.`, with `.*` at its end for all below it\n",
-            Hint::BadKey =>
-                b"migrate: a key of a rule file hasn't the form that the file asks for\n         mend that line: docs/REFERENCE.md lists for each file what a key may be\n",
-            Hint::BadValue =>
-                b"migrate: a value of a rule file hasn't the form that the file asks for\n         mend that line: docs/REFERENCE.md lists for each file what a value may be\n",
-            Hint::MissingText =>
-                b"migrate: `text.properties` names a file that the rule folder lacks\n         add the file, or mend its name\n",
-            Hint::Chain1 =>
-                b"migrate: rules must not change what another rule gives: the first rename gives a package that the second renames\n         let the first give the last name at once, or remove one of the two\n",
-            Hint::Chain2 =>
-                b"migrate: rules must not change what another rule gives: a rename gives a name that a direct rule changes\n         remove one of the two rules, or let both give the same name\n",
-            Hint::Chain3 =>
-                b"migrate: rules must not change what another rule gives: a direct rule gives a string that the second direct rule changes\n         let the first give the last string at once, or remove one of the two\n",
-            Hint::Chain4 =>
-                b"migrate: rules must not change what another rule gives: a direct rule gives a name that a rename changes\n         let the direct rule give the renamed name, or remove one of the two\n",
-            Hint::Chain5 =>
-                b"migrate: rules must not change what another rule gives: a bundle update gives a name that the second update changes\n         let the first give the last name at once, or remove one of the two\n",
-            Hint::Chain6 =>
-                b"migrate: the package that the first rename gives is itself, read as a class name, renamed by the second\n         give the first another package, or remove one of the two\n",
-            Hint::Chain7 =>
-                b"migrate: the first rename gives, read as a class name, the very package that the second renames\n         give the first another package, or remove one of the two\n",
-            Hint::Chain8 =>
-                b"migrate: the package that a rename gives is a string that a direct rule changes\n         remove the direct rule, or give the rename another package\n",
-            Hint::Chain9 =>
-                b"migrate: a direct rule gives the package of a rename, which would change it once more\n         let the direct rule give the new package, or remove it\n",
-            Hint::Files =>
-                b"migrate: the source holds more than 200,000 files\n         migrate it in parts, each with a target and a ledger of its own\n",
-            Hint::PathLength =>
-                b"migrate: a path of the source, or its target, has more than 1,024 bytes\n         shorten the names of its folders, or leave the file out of the source\n",
-            Hint::FileSize =>
-                b"migrate: a file of the source is too large: one that is migrated may have 67,108,864 bytes, another 1,099,511,627,776\n         leave it out of the source, and copy it by hand\n",
-            Hint::RuleFiles =>
-                b"migrate: the rule folder holds more than 1,000 files\n         keep nothing but rule files there\n",
-            Hint::RuleSize =>
-                b"migrate: a rule file has more than 1,048,576 bytes\n         keep nothing but rule files there, or split a long one\n",
-            Hint::NameClash =>
-                b"migrate: a class of the source and another name that it uses would get one name\n         change the rules so that the two stay apart, or leave the class out by `selection.properties`\n",
-            Hint::Stranded =>
-                b"migrate: a class that is left out by `selection.properties` names a class of the source that is renamed, and would not find it\n         select that class too, or leave out the class that it names\n",
-            Hint::Clash =>
-                b"migrate: two files of the source would get one target, or the target of one would be a folder of the other's\n         rename or remove one of the two, or leave one out by `selection.properties`\n",
-            Hint::Other =>
-                b"migrate: the ledger belongs to another run\n         name what it was made with, or another ledger: another one starts anew, and writes every file\n",
-            Hint::OtherRules =>
-                b"migrate: the ledger belongs to a run with other rules\n         name what it was made with, or another ledger: another one starts anew, and writes every file\n",
-            Hint::OtherTarget =>
-                b"migrate: the ledger belongs to a run with another target\n         name what it was made with, or another ledger: another one starts anew, and writes every file\n",
-            Hint::OtherTargetRules =>
-                b"migrate: the ledger belongs to a run with other target and rules\n         name what it was made with, or another ledger: another one starts anew, and writes every file\n",
-            Hint::OtherSource =>
-                b"migrate: the ledger belongs to a run with another source\n         name what it was made with, or another ledger: another one starts anew, and writes every file\n",
-            Hint::OtherSourceRules =>
-                b"migrate: the ledger belongs to a run with other source and rules\n         name what it was made with, or another ledger: another one starts anew, and writes every file\n",
-            Hint::OtherSourceTarget =>
-                b"migrate: the ledger belongs to a run with other source and target\n         name what it was made with, or another ledger: another one starts anew, and writes every file\n",
-            Hint::OtherSourceTargetRules =>
-                b"migrate: the ledger belongs to a run with other source, target and rules\n         name what it was made with, or another ledger: another one starts anew, and writes every file\n",
-            Hint::Moved =>
-                b"migrate: a file of the source changed while the run read it\n         run again once nothing writes to the source\n",
-            Hint::NotRenames =>
-                b"migrate: the rules have more than renames, and only renames can be taken back\n         take that file out, or invert a folder that holds `renames.properties` alone\n",
-            Hint::NothingToInvert =>
-                b"migrate: no rename of the rules changes its package, so there is nothing to take back\n         name rules that rename a package to another one\n",
-            Hint::Overlap =>
-                b"migrate: two renames give one package, or a name in it, so it can not be told which of them to take back\n         give them targets of which neither is, or holds, what the other gives\n",
-        }
+        HINTS[self as usize].1
     }
 }
 

@@ -29,7 +29,7 @@ fn is_hint(text: &[u8]) -> bool {
 /// How many of the hints have this text.
 fn with_text(text: &[u8]) -> u32 {
     let mut count = 0_u32;
-    for hint in HINTS.iter() {
+    for (hint, _) in HINTS.iter() {
         if hint.text() == text {
             count = count.saturating_add(1);
         }
@@ -40,7 +40,7 @@ fn with_text(text: &[u8]) -> u32 {
 /// Tells how many hints there are, how many of them are two lines for people, and how many of them have a text of their own.
 pub fn tell_hints(out: &mut String) -> Result<(), Memory> {
     let (mut two_lines, mut unlike) = (0_u32, 0_u32);
-    for hint in HINTS.iter() {
+    for (hint, _) in HINTS.iter() {
         two_lines = two_lines.saturating_add(u32::from(is_hint(hint.text())));
         unlike = unlike.saturating_add(u32::from(with_text(hint.text()) == 1));
     }
