@@ -6,7 +6,7 @@ use Rattle.std.specs.List.{AllByRecursion}
 use Rattle.std.specs.FinMap as fin
 use Rattle.sqlite.specs.declared.types.Value.{Value}
 use Rattle.sqlite.specs.declared.types.Value.TheVariants.{Null, Int, Blob}
-use Rattle.sqlite.specs.Order.{Row, column, value_cmp}
+use Rattle.sqlite.specs.Order.{Row, value_cmp}
 use Rattle.sqlite_value.proofs.OrderLemmas.{value_cmp_total}
 use Rattle.sqlite_value.specs.Keys.{first_key}
 use Rattle.sqlite.specs.Tree.{Trees, rowid, has_rowid, put_row, IsTable}
@@ -43,7 +43,7 @@ use Rattle.desk_ledger_tables.specs.Rows.{output_in, output_value, row_values}
 use Rattle.desk_ledger_tables.specs.Statements.{Means, has_number, on_same_target, program_of, row_terms, written_over}
 use Rattle.desk_ledger_tables.specs.Tables.{rows_table, ledger_schema}
 use Rattle.desk_ledger_tables.proofs.Meanings.{command_found}
-use Rattle.desk_ledger_sql.specs.Told.{AreApart, IsAt, IsRow, IsLedger, held_in_row, ledger_in, meets, target_in}
+use Rattle.desk_ledger_sql.specs.Told.{AreApart, IsAt, IsRow, IsLedger, held_in_row, ledger_in, meets, target_column, target_in}
 use Rattle.desk_ledger_sql.proofs.Statements.{went, same_value, written_at}
 use Rattle.desk_ledger_sql.proofs.Shown.{and_true, answered, equal_blob, equal_int, passes, shows}
 use Rattle.desk_ledger_sql.proofs.Changes.{task_on, KeepsOthers, IsPut, new_row, puts, inserts, cast_null, cast_int}
@@ -69,7 +69,7 @@ bare false = refl
 -- a row conflicts with a new one under the target where it has the new one's
 conflict_is : (id : ℤ) (t s d : Text) (out : Value) (r : Row) → IsRow r → conflicts (Some (1 ∷ [])) ledger_schema.indexes rows_at (stored id t s d out) r ≡ meets t r
 unfolding first_key
-conflict_is id t s d out r is = bare _ ∙ equal_blob (column r 1) t is.1
+conflict_is id t s d out r is = bare _ ∙ equal_blob (target_column r) t is.1
 
 -- of rows with numbers of their own, a test that only one passes leaves that one
 one_kept : (rows : List Row) (r : Row) (p : Row → Bool) → IsTable rows → Has rows r → ((x : Row) → Has rows x → p x ≡ true → x ≡ r) → p r ≡ true → filter p rows ≡ r ∷ []
@@ -152,7 +152,7 @@ module _ (limit : Option ℕ) (db : Trees) (table : IsTable (db 1)) (are : AllBy
 
     -- the row keeps its number and its target
     abbrev over : Row
-    over = Int (id_in (rowid r)) ∷ column r 1 ∷ Blob s ∷ Blob d ∷ out ∷ []
+    over = Int (id_in (rowid r)) ∷ target_column r ∷ Blob s ∷ Blob d ∷ out ∷ []
 
     put_over : (id : ℤ) (one : Written) → Updates (task_on limit rows_at params) (program_of 1 (has_number ∷ []) written_over) (given (id_in (rowid r)) id) db (Ok one) → PutsRow db one.trees t s d out
     put_over id one h =
@@ -165,9 +165,9 @@ module _ (limit : Option ℕ) (db : Trees) (table : IsTable (db 1)) (are : AllBy
         let it = one_step ledger_schema Enforced db wrote.0 (edit_by asked.0) refl wrote.1 in
         let last : one.trees ≡ wrote.0 = ap (λ (w : Written). w.trees) (same_value wrote.2) in
         let ids = id_in (rowid r) ∷ [] in
-        let cast_is : cast_row rows_at (column r 0 ∷ column r 1 ∷ Blob s ∷ Blob d ∷ out ∷ []) ≡ over = rw (number, cast_int (id_in (rowid r))) in
-        let rows : wrote.0 1 ≡ put_row (cast_row rows_at (column r 0 ∷ column r 1 ∷ Blob s ∷ Blob d ∷ out ∷ [])) (without_all (db 1) ids) = it.rows ∙ ap (λ rs. edited db (edit_by rs)) is in
-        let fresh : are_fresh (without_all (db 1) ids) (cast_row rows_at (column r 0 ∷ column r 1 ∷ Blob s ∷ Blob d ∷ out ∷ []) ∷ []) ≡ true =
+        let cast_is : cast_row rows_at (rowid r ∷ target_column r ∷ Blob s ∷ Blob d ∷ out ∷ []) ≡ over = rw (number, cast_int (id_in (rowid r))) in
+        let rows : wrote.0 1 ≡ put_row (cast_row rows_at (rowid r ∷ target_column r ∷ Blob s ∷ Blob d ∷ out ∷ [])) (without_all (db 1) ids) = it.rows ∙ ap (λ rs. edited db (edit_by rs)) is in
+        let fresh : are_fresh (without_all (db 1) ids) (cast_row rows_at (rowid r ∷ target_column r ∷ Blob s ∷ Blob d ∷ out ∷ []) ∷ []) ≡ true =
         subst (λ rs. are_fresh (left_by db (edit_by rs)) (edit_by rs).news ≡ true) is it.fresh in
         record {
           gone = (rowid r ∷ []) ∷ [];

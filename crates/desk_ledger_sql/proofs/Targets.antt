@@ -1,5 +1,5 @@
 -- What the statements that remove the row of a target and ask for it do.
-use Rattle.std.proofs.Common.{◌≡◌, inl, inr, ℕ, List, [], ◌∷◌, map, filter, true, false, ◌&&◌, Bool, arith, Some, None, Ok, refl, sym, ap, subst, ◌∙◌, Option}
+use Rattle.std.proofs.Common.{◌≡◌, inl, inr, ℕ, List, [], ◌∷◌, map, filter, true, arith, Some, None, Ok, refl, sym, ap, subst, ◌∙◌, Option}
 use Rattle.std.specs.Prelude.{option_map}
 use Rattle.std.proofs.lemmas.Bool.{cases_Bool}
 use Rattle.std.proofs.lemmas.List.Sorted.{IsPermutation-sym}
@@ -7,7 +7,7 @@ use Rattle.std.specs.List.{AllByRecursion}
 use Rattle.std.specs.List.Sorted.{IsPermutation}
 use Rattle.std.specs.FinMap as fin
 use Rattle.sqlite.specs.declared.types.Value.TheVariants.{Blob}
-use Rattle.sqlite.specs.Order.{Row, column}
+use Rattle.sqlite.specs.Order.{Row}
 use Rattle.sqlite.specs.Tree.{Trees, rowid, IsTable}
 use Rattle.sqlite.specs.Term.{col}
 use Rattle.sqlite.specs.Command.TheVariants.{Delete}
@@ -31,7 +31,7 @@ use Rattle.desk_ledger_tables.specs.Rows.{shown_row}
 use Rattle.desk_ledger_tables.specs.Statements.{Means, has_target, program_of, shown_columns}
 use Rattle.desk_ledger_tables.specs.Tables.{ledger_schema}
 use Rattle.desk_ledger_tables.proofs.Meanings.{command_found}
-use Rattle.desk_ledger_sql.specs.Told.{IsRow, IsLedger, Shows, entry_in, held_in_row, ledger_in, meets, target_in}
+use Rattle.desk_ledger_sql.specs.Told.{IsRow, IsLedger, Shows, entry_in, held_in_row, ledger_in, meets, target_column, target_in}
 use Rattle.desk_ledger_sql.proofs.Statements.{went, same_value, written_at}
 use Rattle.desk_ledger_sql.proofs.Changes.{task_on, KeepsOthers}
 use Rattle.desk_ledger_sql.proofs.Shown.{and_true, passes, shows, answered, equal_blob, no_image, no_permutation, one_image}
@@ -40,7 +40,7 @@ use Rattle.desk_ledger_sql.proofs.Puts.{rows_at}
 
 -- the test of both statements is whether the row has the target
 passes_is : (t : Text) (r : Row) → IsRow r → passes (has_target ∷ []) (Blob t ∷ []) r ≡ meets t r
-passes_is t r is = and_true _ ∙ equal_blob (column r 1) t is.1
+passes_is t r is = and_true _ ∙ equal_blob (target_column r) t is.1
 
 -- ---- the row of a target is removed
 

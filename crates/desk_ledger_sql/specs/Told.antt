@@ -1,10 +1,11 @@
 -- What the tables of a ledger tell.
-use Rattle.std.specs.Prelude.{◌≡◌, pos, Bool, false, List, [], ◌∷◌, map, Option, Some, None, IsTrue}
+use Rattle.std.specs.Prelude.{◌≡◌, ℕ, pos, Bool, false, List, [], ◌∷◌, map, Option, Some, None, IsTrue}
 use Rattle.std.specs.Ordering.{nat_cmp}
 use Rattle.std.specs.Cmp.Lexicographic.{slice_cmp}
 use Rattle.std.specs.BTreeMap.{is_at}
 use Rattle.std.specs.List.{AllByRecursion}
 use Rattle.std.specs.FinMap as fin
+use Rattle.sqlite.specs.declared.types.Value.{Value}
 use Rattle.sqlite.specs.declared.types.Value.TheVariants.{Int}
 use Rattle.sqlite.specs.Order.{Row, bytes, column}
 use Rattle.sqlite.specs.Tree.{Trees, rowid, IsTable}
@@ -22,22 +23,52 @@ use Rattle.desk_ledger.specs.Ledger.{Ledger}
 use Rattle.desk_ledger_tables.specs.Rows.{digest_in, is_bytes, output_in}
 use Rattle.desk_ledger_tables.specs.Tables.{ledger_schema}
 
--- a row's number stands before its columns
+-- the value at a place of a row: its number stands at 0, and its columns behind it
+abbrev value_at : ℕ → Row → Value
+value_at place row = column row place
+
+-- ---- the table of the rows
+
+abbrev pub target_column : Row → Value
+target_column = value_at 1
+
+abbrev pub source_column : Row → Value
+source_column = value_at 2
+
+abbrev pub digest_column : Row → Value
+digest_column = value_at 3
+
+abbrev pub output_column : Row → Value
+output_column = value_at 4
+
 abbrev pub target_in : Row → Text
-target_in row = bytes (column row 1)
+target_in row = bytes (target_column row)
 
 abbrev pub held_in_row : Row → Held
-held_in_row row = record { source = bytes (column row 2); digest = digest_in (column row 3); output = output_in (column row 4) }
+held_in_row row = record { source = bytes (source_column row); digest = digest_in (digest_column row); output = output_in (output_column row) }
 
 abbrev pub entry_in : Row → Text × Held
 entry_in row = (target_in row, held_in_row row)
 
+-- ---- the table of the header, whose first column is its number, which is kept at 0
+
+abbrev pub from_column : Row → Value
+from_column = value_at 2
+
+abbrev pub to_column : Row → Value
+to_column = value_at 3
+
+abbrev pub rules_column : Row → Value
+rules_column = value_at 4
+
 abbrev pub header_in : Row → Header
-header_in row = record { from = bytes (column row 2); to = bytes (column row 3); rules = digest_in (column row 4) }
+header_in row = record { from = bytes (from_column row); to = bytes (to_column row); rules = digest_in (rules_column row) }
 
 abbrev pub first_header : List Row → Option Header
 first_header [] = None
 first_header (row ∷ rows) = Some (header_in row)
+
+-- ---- what the two tables tell
 
 -- the header is the row of the one table, and the rows are those of the other, by their targets
 abbrev pub ledger_in : Trees → Ledger
@@ -57,7 +88,7 @@ abbrev pub meets : Text → Row → Bool
 meets target row = is_at (slice_cmp nat_cmp target) (target_in row)
 
 abbrev pub IsRow : Row → Type 0
-IsRow row = IsTrue (is_int (rowid row)) × IsTrue (is_bytes (column row 1))
+IsRow row = IsTrue (is_int (rowid row)) × IsTrue (is_bytes (target_column row))
 
 -- no two rows have one target
 abbrev pub AreApart : List Row → Type 0
