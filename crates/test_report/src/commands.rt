@@ -2,7 +2,7 @@
 
 use crate::lines::{Made, Refusal, Told};
 use crate::names::Command as OnName;
-use crate::statuses::{Ended, Fault, Uninverted};
+use crate::statuses::{Ended, Fault, Outside, Source, Uninverted};
 use crate::texts::Command as OnTexts;
 use desk_names::{Want, Which};
 use desk_report::LimitKind;
@@ -132,10 +132,19 @@ pub const COMMANDS: &[(&[u8], Command)] = &[
     (b"total", Command::Total),
     (b"done", Command::Status(Ended::Done)),
     (b"refusals", Command::Status(Ended::Refusals)),
-    (b"memory", Command::Status(Ended::Memory)),
-    (b"folder-fault", Command::Status(Ended::FolderFault)),
-    (b"ledger-fault", Command::Status(Ended::LedgerFault)),
-    (b"output-fault", Command::Status(Ended::OutputFault)),
+    (b"memory", Command::Status(Ended::Outside(Outside::Memory))),
+    (
+        b"folder-fault",
+        Command::Status(Ended::Outside(Outside::Folder)),
+    ),
+    (
+        b"ledger-fault",
+        Command::Status(Ended::Outside(Outside::Ledger)),
+    ),
+    (
+        b"output-fault",
+        Command::Status(Ended::Outside(Outside::Output)),
+    ),
     (b"usage", Command::Status(Ended::Usage)),
     (b"nested-roots", Command::Status(Ended::NestedRoots)),
     (
@@ -177,11 +186,20 @@ pub const COMMANDS: &[(&[u8], Command)] = &[
         b"limit-rule-size",
         Command::Status(Ended::Limit(LimitKind::RuleSize)),
     ),
-    (b"path-clash", Command::Status(Ended::PathClash)),
-    (b"name-clash", Command::Status(Ended::NameClash)),
-    (b"stranded", Command::Status(Ended::Stranded)),
+    (
+        b"path-clash",
+        Command::Status(Ended::Source(Source::PathClash)),
+    ),
+    (
+        b"name-clash",
+        Command::Status(Ended::Source(Source::NameClash)),
+    ),
+    (
+        b"stranded",
+        Command::Status(Ended::Source(Source::Stranded)),
+    ),
     (b"other-run", Command::Status(Ended::OtherRun)),
-    (b"moved", Command::Status(Ended::Moved)),
+    (b"moved", Command::Status(Ended::Source(Source::Moved))),
     (b"sink-4", Command::Sink(4)),
     (b"standard", Command::Standard),
 ];

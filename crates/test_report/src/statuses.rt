@@ -14,20 +14,32 @@ use std::alloc::Global;
 pub enum Ended {
     Done,
     Refusals,
-    Memory,
-    FolderFault,
-    LedgerFault,
-    OutputFault,
+    Outside(Outside),
     Usage,
     NestedRoots,
     BadRules(Fault),
     Limit(LimitKind),
+    Source(Source),
+    OtherRun,
+    NotInvertible(Uninverted),
+}
+
+/// What failed outside; behind it stand its values.
+#[derive(Clone, Copy)]
+pub enum Outside {
+    Memory,
+    Folder,
+    Ledger,
+    Output,
+}
+
+/// What stands against the files of the source; behind it stand its values.
+#[derive(Clone, Copy)]
+pub enum Source {
     PathClash,
     NameClash,
     Stranded,
-    OtherRun,
     Moved,
-    NotInvertible(Uninverted),
 }
 
 /// Why rules have no inverse; behind it stand its values.
@@ -118,19 +130,50 @@ fn invert_fault_of(why: Uninverted, values: &mut Values) -> InvertFault {
     }
 }
 
+/// The status of what failed outside, with its values.
+fn outside_status(failed: Outside, values: &mut Values) -> Status {
+    match failed {
+        Outside::Memory => Status::Memory,
+        Outside::Folder => Status::FolderFault {
+            done: values.number(),
+        },
+        Outside::Ledger => Status::LedgerFault {
+            done: values.number(),
+        },
+        Outside::Output => Status::OutputFault,
+    }
+}
+
+/// The status of what stands against the files of the source, with its values.
+fn source_status(unfit: Source, values: &mut Values) -> Status {
+    match unfit {
+        Source::PathClash => Status::PathClash {
+            first: values.text(),
+            second: values.text(),
+        },
+        Source::NameClash => Status::NameClash {
+            defined: values.text(),
+            other: values.text(),
+            image: values.text(),
+        },
+        Source::Stranded => Status::Stranded {
+            path: values.text(),
+            name: values.text(),
+        },
+        Source::Moved => Status::Moved {
+            path: values.text(),
+            first: digest_of(&values.text()),
+            second: digest_of(&values.text()),
+        },
+    }
+}
+
 /// A status with its values.
 fn status_of(ended: Ended, values: &mut Values) -> Status {
     match ended {
         Ended::Done => Status::Done,
         Ended::Refusals => Status::Refusals,
-        Ended::Memory => Status::Memory,
-        Ended::FolderFault => Status::FolderFault {
-            done: values.number(),
-        },
-        Ended::LedgerFault => Status::LedgerFault {
-            done: values.number(),
-        },
-        Ended::OutputFault => Status::OutputFault,
+        Ended::Outside(failed) => outside_status(failed, values),
         Ended::Usage => Status::Usage,
         Ended::NestedRoots => Status::NestedRoots {
             first: values.text(),
@@ -141,27 +184,10 @@ fn status_of(ended: Ended, values: &mut Values) -> Status {
             kind,
             path: values.text(),
         },
-        Ended::PathClash => Status::PathClash {
-            first: values.text(),
-            second: values.text(),
-        },
-        Ended::NameClash => Status::NameClash {
-            defined: values.text(),
-            other: values.text(),
-            image: values.text(),
-        },
-        Ended::Stranded => Status::Stranded {
-            path: values.text(),
-            name: values.text(),
-        },
+        Ended::Source(unfit) => source_status(unfit, values),
         Ended::OtherRun => Status::OtherRun {
             kept: header_of(values),
             wanted: header_of(values),
-        },
-        Ended::Moved => Status::Moved {
-            path: values.text(),
-            first: digest_of(&values.text()),
-            second: digest_of(&values.text()),
         },
         Ended::NotInvertible(why) => Status::NotInvertible(invert_fault_of(why, values)),
     }
