@@ -118,49 +118,8 @@ impl Finding {
         Ok(())
     }
 
-    /// Makes room for so many bytes: where there is none, the workers look at the batch.
-    fn make_room<R: Threads + Sync, G: Gate + Sync>(
-        &mut self,
-        rt: &R,
-        alloc: Global,
-        gate: &G,
-        package: &TextList,
-        size: u64,
-    ) -> Result<(), Memory>
-        requires few { length self.old.batch.items < 2 ^ 32 }
-        requires size { size ≤ file_size }
-        ensures room { OnOk result (size ≤ self.new.room) }
-        ensures found { OnOk result (all_found «package».now self.new ≡ all_found «package».now self.old) }
-        ensures batch { OnOk result (length self.new.batch.items ≤ length self.old.batch.items) }
-    {
-        if size <= self.room {
-            Ok(())
-        } else {
-            self.close_batch(rt, alloc, gate, package)
-        }
-    }
-
-    /// Takes one class more.
-    fn add_class<R: Threads + Sync, G: Gate + Sync>(
-        &mut self,
-        rt: &R,
-        alloc: Global,
-        gate: &G,
-        package: &TextList,
-        file: ClassFile,
-    ) -> Result<(), Memory>
-        requires { length self.old.batch.items < 2 ^ 32 }
-        ensures found { OnOk result (all_found «package».now self.new ≡ all_found «package».now self.old ++ sites_in «package».now file ∷ []) }
-        ensures batch { OnOk result (length self.new.batch.items ≤ length self.old.batch.items + 1) }
-    {
-        let size = size_of(&file);
-        self.make_room(rt, alloc, gate, package, size)?;
-        self.batch.push(file)?;
-        self.room -= size;
-        Ok(())
-    }
-
-    /// Takes what was read of one file more: a class, or nothing.
+    /// Takes what was read of one file more: a class, or nothing. Where the batch has no room for a class, the workers look at it
+    /// first.
     pub(crate) fn add<R: Threads + Sync, G: Gate + Sync>(
         &mut self,
         rt: &R,
@@ -173,10 +132,16 @@ impl Finding {
         ensures found { OnOk result (all_found «package».now self.new ≡ all_found «package».now self.old ++ map (sites_in «package».now) (classes_of read)) }
         ensures batch { OnOk result (length self.new.batch.items ≤ length self.old.batch.items + 1) }
     {
-        match read {
-            Some(file) => self.add_class(rt, alloc, gate, package, file),
-            None => Ok(()),
+        let Some(file) = read else {
+            return Ok(());
+        };
+        let size = size_of(&file);
+        if self.room < size {
+            self.close_batch(rt, alloc, gate, package)?;
         }
+        self.batch.push(file)?;
+        self.room -= size;
+        Ok(())
     }
 
     /// What was found of all of them: the workers look at the last batch.
