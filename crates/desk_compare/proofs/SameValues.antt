@@ -9,7 +9,7 @@ use Rattle.desk_base.specs.declared.kinds.Role.{Role}
 use Rattle.desk_base.specs.declared.kinds.UseKind.{UseKind}
 use Rattle.desk_base.specs.declared.referents.Referent.{Referent}
 use Rattle.desk_base.specs.declared.referents.Referent.TheVariants as referents
-use Rattle.desk_base.specs.Entries.{Entry, utf8, integer, float, long, double, class, string, fieldref, methodref, interface_methodref, name_and_type, method_handle, method_type, dynamic, invoke_dynamic, module_named, package_named, Pool, entry_at, text_at}
+use Rattle.desk_base.specs.Entries.{Entry, utf8, fieldref, methodref, interface_methodref, method_handle, dynamic, invoke_dynamic, Pool, entry_at, text_at}
 use Rattle.desk_base.specs.Referents.{referent_of, may_be_none}
 use Rattle.desk_format.specs.Values.{Value, value_in, value_within, value_of, value_as, value_of_kind}
 use Rattle.desk_format.specs.Values.{none, text, text_as, number, class_named, string_of, named_typed, member, handle, method_typed, computed, module_called, package_called}
@@ -41,22 +41,7 @@ value_by v f (Some tags.InvokeDynamic) = computed tags.InvokeDynamic f.number (v
 by_parts : (v : ℕ → Value) (t : ℕ → Text) (e : Option Entry) → value_in v t e ≡ value_by v (parts_in t e) (parts_in t e).tag
 by_parts v t None = refl
 by_parts v t (Some (utf8 s)) = refl
-by_parts v t (Some (integer b)) = refl
-by_parts v t (Some (float b)) = refl
-by_parts v t (Some (long b)) = refl
-by_parts v t (Some (double b)) = refl
-by_parts v t (Some (class i)) = refl
-by_parts v t (Some (string i)) = refl
-by_parts v t (Some (fieldref c n)) = refl
-by_parts v t (Some (methodref c n)) = refl
-by_parts v t (Some (interface_methodref c n)) = refl
-by_parts v t (Some (name_and_type n d)) = refl
-by_parts v t (Some (method_handle k i)) = refl
-by_parts v t (Some (method_type d)) = refl
-by_parts v t (Some (dynamic n i)) = refl
-by_parts v t (Some (invoke_dynamic n i)) = refl
-by_parts v t (Some (module_named i)) = refl
-by_parts v t (Some (package_named i)) = refl
+by_parts v t (Some _) = refl
 
 -- ---- what a value tells of these parts
 
@@ -115,24 +100,13 @@ record Told (v : ℕ → Value) (f : EntryParts) (w : Value) : Type 0 where
 
 module _ (v : ℕ → Value) (t : ℕ → Text) (z : none ≡ v 0) where
   told : (e : Option Entry) → Told v (parts_in t e) (value_in v t e)
-  told None = record { tag = refl; number = refl; text = refl; descriptor = refl; first = z; second = z }
-  told (Some (utf8 s)) = record { tag = refl; number = refl; text = refl; descriptor = refl; first = z; second = z }
-  told (Some (integer b)) = record { tag = refl; number = refl; text = refl; descriptor = refl; first = z; second = z }
-  told (Some (float b)) = record { tag = refl; number = refl; text = refl; descriptor = refl; first = z; second = z }
-  told (Some (long b)) = record { tag = refl; number = refl; text = refl; descriptor = refl; first = z; second = z }
-  told (Some (double b)) = record { tag = refl; number = refl; text = refl; descriptor = refl; first = z; second = z }
-  told (Some (class i)) = record { tag = refl; number = refl; text = refl; descriptor = refl; first = z; second = z }
-  told (Some (string i)) = record { tag = refl; number = refl; text = refl; descriptor = refl; first = z; second = z }
   told (Some (fieldref c n)) = record { tag = refl; number = refl; text = refl; descriptor = refl; first = refl; second = refl }
   told (Some (methodref c n)) = record { tag = refl; number = refl; text = refl; descriptor = refl; first = refl; second = refl }
   told (Some (interface_methodref c n)) = record { tag = refl; number = refl; text = refl; descriptor = refl; first = refl; second = refl }
-  told (Some (name_and_type n d)) = record { tag = refl; number = refl; text = refl; descriptor = refl; first = z; second = z }
   told (Some (method_handle k i)) = record { tag = refl; number = refl; text = refl; descriptor = refl; first = refl; second = z }
-  told (Some (method_type d)) = record { tag = refl; number = refl; text = refl; descriptor = refl; first = z; second = z }
   told (Some (dynamic n i)) = record { tag = refl; number = refl; text = refl; descriptor = refl; first = refl; second = z }
   told (Some (invoke_dynamic n i)) = record { tag = refl; number = refl; text = refl; descriptor = refl; first = refl; second = z }
-  told (Some (module_named i)) = record { tag = refl; number = refl; text = refl; descriptor = refl; first = z; second = z }
-  told (Some (package_named i)) = record { tag = refl; number = refl; text = refl; descriptor = refl; first = z; second = z }
+  told _ = record { tag = refl; number = refl; text = refl; descriptor = refl; first = z; second = z }
 
 at_none : (n : ℕ) (pool : Pool) → none ≡ value_within n pool 0
 unfolding value_within
@@ -148,22 +122,7 @@ tag_back : (o : Option Tag) → tag_by (tag_number o) ≡ o
 unfolding tag_numbered
 tag_back None = refl
 tag_back (Some tags.Utf8) = refl
-tag_back (Some tags.Integer) = refl
-tag_back (Some tags.Float) = refl
-tag_back (Some tags.Long) = refl
-tag_back (Some tags.Double) = refl
-tag_back (Some tags.Class) = refl
-tag_back (Some tags.String) = refl
-tag_back (Some tags.Fieldref) = refl
-tag_back (Some tags.Methodref) = refl
-tag_back (Some tags.InterfaceMethodref) = refl
-tag_back (Some tags.NameAndType) = refl
-tag_back (Some tags.MethodHandle) = refl
-tag_back (Some tags.MethodType) = refl
-tag_back (Some tags.Dynamic) = refl
-tag_back (Some tags.InvokeDynamic) = refl
-tag_back (Some tags.Module) = refl
-tag_back (Some tags.Package) = refl
+tag_back (Some _) = refl
 
 same_tag : (o p : Option Tag) → tag_number o ≡ tag_number p → o ≡ p
 same_tag o p h = sym (tag_back o) ∙ ap tag_by h ∙ tag_back p
@@ -196,22 +155,7 @@ parts_from f g p =
 same_by : (v w : ℕ → Value) (f g : EntryParts) → f.number ≡ g.number → f.text ≡ g.text → f.descriptor ≡ g.descriptor → v f.first ≡ w g.first → v f.second ≡ w g.second → (o : Option Tag) → value_by v f o ≡ value_by w g o
 same_by v w f g a b c d e None = refl
 same_by v w f g a b c d e (Some tags.Utf8) = cc
-same_by v w f g a b c d e (Some tags.Integer) = cc
-same_by v w f g a b c d e (Some tags.Float) = cc
-same_by v w f g a b c d e (Some tags.Long) = cc
-same_by v w f g a b c d e (Some tags.Double) = cc
-same_by v w f g a b c d e (Some tags.Class) = cc
-same_by v w f g a b c d e (Some tags.String) = cc
-same_by v w f g a b c d e (Some tags.MethodType) = cc
-same_by v w f g a b c d e (Some tags.Module) = cc
-same_by v w f g a b c d e (Some tags.Package) = cc
-same_by v w f g a b c d e (Some tags.NameAndType) = cc
-same_by v w f g a b c d e (Some tags.Fieldref) = cc
-same_by v w f g a b c d e (Some tags.Methodref) = cc
-same_by v w f g a b c d e (Some tags.InterfaceMethodref) = cc
-same_by v w f g a b c d e (Some tags.MethodHandle) = cc
-same_by v w f g a b c d e (Some tags.Dynamic) = cc
-same_by v w f g a b c d e (Some tags.InvokeDynamic) = cc
+same_by v w f g a b c d e (Some _) = cc
 
 -- ---- two indices
 
