@@ -1,8 +1,8 @@
 -- The opcodes of code (JVMS 6.5), as data: which opcodes, and what stands behind them.
-use Rattle.std.specs.Prelude.{ℕ, Bool, true, false, ◌&&◌, nat_le, List, [], ◌∷◌, Option, Some, None, if◌then◌else◌}
+use Rattle.std.specs.Prelude.{ℕ, Bool, true, false, not, ◌&&◌, ◌||◌, nat_le, List, [], ◌∷◌, Option, Some, None, if◌then◌else◌}
 use Rattle.desk_base.specs.declared.kinds.Tag.{Tag}
 use Rattle.desk_base.specs.declared.kinds.Tag.TheVariants as tags
-use Rattle.desk_base.specs.Referents.{is_tag, is_any_method}
+use Rattle.desk_base.specs.Referents.{is_tag, is_loadable, is_any_method}
 use Rattle.desk_code.specs.declared.opcodes.Operand.{Operand}
 use Rattle.desk_code.specs.declared.opcodes.Operand.TheVariants as operands
 use Rattle.desk_code.specs.declared.opcodes.Shape.{Shape}
@@ -10,25 +10,15 @@ use Rattle.desk_code.specs.declared.opcodes.Shape.TheVariants as shapes
 
 -- ---- what an index names
 
-abbrev pub is_loadable : Tag → Bool
-is_loadable tags.Integer = true
-is_loadable tags.Float = true
-is_loadable tags.String = true
-is_loadable tags.Class = true
-is_loadable tags.MethodHandle = true
-is_loadable tags.MethodType = true
-is_loadable tags.Dynamic = true
-is_loadable _ = false
-
-abbrev pub is_wide_loadable : Tag → Bool
-is_wide_loadable tags.Long = true
-is_wide_loadable tags.Double = true
-is_wide_loadable tags.Dynamic = true
-is_wide_loadable _ = false
+-- the constants that take two places of the operand stack
+abbrev pub is_wide : Tag → Bool
+is_wide tags.Long = true
+is_wide tags.Double = true
+is_wide _ = false
 
 abbrev pub names : Operand → Tag → Bool
-names operands.Loadable tag = is_loadable tag
-names operands.WideLoadable tag = is_wide_loadable tag
+names operands.Loadable tag = is_loadable tag && not (is_wide tag)
+names operands.WideLoadable tag = is_wide tag || is_tag tags.Dynamic tag
 names operands.Field tag = is_tag tags.Fieldref tag
 names operands.Method tag = is_tag tags.Methodref tag
 names operands.AnyMethod tag = is_any_method tag
