@@ -2,17 +2,18 @@
 //! the status that the desk answers, and tells people on standard error what stands behind it.
 #![tactic(auto)]
 
+mod ledger;
+
 use desk_base::{Memory, Text};
 use desk_disk::DiskFolders;
-use desk_ledger_sql::SqlKeeper;
 use desk_notes::Overheard;
 use desk_program::{
     Asked, Ending, Streams, asked_of, exit_of, guarded, read_words, tell_end, tell_unread, unread,
 };
 use desk_report::{Status, StdSink, write_fault};
 use desk_run::{FreeGate, desk};
-use desk_sqlite::SqliteKeeper;
 use desk_words::Roots;
+use ledger::AnyLedger;
 use std::process::ExitCode;
 use std::thread::Threads;
 
@@ -21,16 +22,16 @@ use std::thread::Threads;
 struct Outside<'r> {
     rt: &'r HostRuntime,
     folders: DiskFolders<'r>,
-    keeper: SqliteKeeper<'r>,
+    ledger: Box<AnyLedger<'r>>,
     out: Overheard<'r, StdSink<'r>>,
 }
 
 impl<'r> Outside<'r> {
-    fn new(rt: &'r HostRuntime) -> Outside<'r> {
+    fn new(rt: &'r HostRuntime, ledger: Box<AnyLedger<'r>>) -> Outside<'r> {
         Outside {
             rt,
             folders: DiskFolders::new(rt),
-            keeper: SqliteKeeper::new(rt),
+            ledger,
             out: Overheard::new(rt, StdSink::new(rt)),
         }
     }
@@ -47,34 +48,27 @@ impl<'r> Outside<'r> {
         stopped
     }
 
-    /// Follows the words, with the ledger on disk.
+    /// Shows how far a task is, unless its ledger is in memory: that of `generate --sql` touches no folder on disk.
+    fn show_progress(&mut self) {
+        if !self.ledger.is_in_memory {
+            self.folders.show_progress();
+        }
+    }
+
+    /// Follows the words.
     fn run<R: Threads + Sync>(&mut self, threads: &R, words: &[Text]) -> Status {
         let status = desk(
             threads,
             self.rt.alloc(),
             words,
             &mut self.folders,
-            &mut self.keeper,
+            &mut *self.ledger,
             &mut self.out,
             &FreeGate,
         );
         self.folders.end_progress();
-        self.keeper.remove_new_log();
+        self.ledger.file.remove_new_log();
         status
-    }
-
-    /// Follows the words, with a ledger that is an SQL database in memory.
-    fn run_sql<R: Threads + Sync>(&mut self, threads: &R, words: &[Text]) -> Status {
-        let mut keeper = SqlKeeper::in_memory(self.rt.alloc());
-        desk(
-            threads,
-            self.rt.alloc(),
-            words,
-            &mut self.folders,
-            &mut keeper,
-            &mut self.out,
-            &FreeGate,
-        )
     }
 
     /// Tells what stands behind a status.
@@ -86,7 +80,7 @@ impl<'r> Outside<'r> {
                 roots,
                 status,
                 folders: self.folders.last_fault(),
-                ledger: self.keeper.last_fault(),
+                ledger: self.ledger.file.last_fault(),
                 notes: &self.out.notes,
             },
         );
@@ -100,7 +94,10 @@ fn follow_run<R: Threads + Sync>(
     words: &[Text],
     roots: &Roots,
 ) -> Status {
-    let mut outside = Outside::new(rt);
+    let Ok(ledger) = AnyLedger::boxed(rt, false) else {
+        return end_without_task(rt, Status::Memory);
+    };
+    let mut outside = Outside::new(rt, ledger);
     let (status, roots) = match outside.begin(roots) {
         Some(status) => (status, None),
         None => (outside.run(threads, words), Some(roots)),
@@ -109,20 +106,19 @@ fn follow_run<R: Threads + Sync>(
     status
 }
 
-/// Follows the words of any other task, and tells what stands behind the status.
+/// Follows the words of any other task with a ledger in a file or in memory, and tells what stands behind the status.
 fn follow_other<R: Threads + Sync>(
     rt: &HostRuntime,
     threads: &R,
     words: &[Text],
     sql: bool,
 ) -> Status {
-    let mut outside = Outside::new(rt);
-    outside.folders.show_progress();
-    let status = if sql {
-        outside.run_sql(threads, words)
-    } else {
-        outside.run(threads, words)
+    let Ok(ledger) = AnyLedger::boxed(rt, sql) else {
+        return end_without_task(rt, Status::Memory);
     };
+    let mut outside = Outside::new(rt, ledger);
+    outside.show_progress();
+    let status = outside.run(threads, words);
     outside.tell(words, None, &status);
     status
 }
