@@ -1,4 +1,5 @@
-"""Times the program, whose ledger is a file, beside the desk with its ledger in memory, and prints ratios."""
+"""Times the program, whose ledger is a file, beside the desk with its ledger in memory, and the rows of a ledger in memory as an
+SQL database beside those of a table, and prints ratios."""
 
 import os
 import shutil
@@ -6,7 +7,7 @@ import subprocess
 import sys
 import time
 
-FILES, ROUNDS = 30000, 5
+FILES, ROWS, ROUNDS = 30000, 20000, 5
 
 
 def make(place):
@@ -78,8 +79,25 @@ def before(program, other, name, place):
     print(f"{name}: a first run takes {min(new) / min(old):.2f} times that of the other program ({min(new):.2f} s to {min(old):.2f} s; aim: at most 1.1)")
 
 
+def rows(program, kind):
+    """The seconds in which so many rows of a ledger in memory are put, found and put again."""
+    return [int(word) / 1e6 for word in run([program, "rows", kind, str(ROWS)])[1].split()]
+
+
+def in_sql(program):
+    """Prints what rows of an SQL database in memory take beside those of a table."""
+    tables, databases = [], []
+    for _ in range(ROUNDS):
+        tables.append(rows(program, "memory"))
+        databases.append(rows(program, "sql"))
+    for i, what in enumerate(("to put", "to find", "to put again")):
+        least, beside = (min(it[i] for it in all) for all in (databases, tables))
+        print(f"{what} each of {ROWS} rows in an SQL database in memory takes {least / beside:.0f} times that in a table ({least / ROWS * 1e6:.1f} to {beside / ROWS * 1e6:.2f} microseconds a row)")
+
+
 def main():
     migrate, bench, disk, memory, *others = sys.argv[1:]
+    in_sql(bench)
     for name, place in (("on disk", disk), ("in /dev/shm", memory)):
         make(place)
         file, held = [], []

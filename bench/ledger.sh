@@ -2,7 +2,8 @@
 # Times runs over 30,000 small files with the ledger on disk beside the same runs with the ledger in memory, and prints the
 # ratios: a first run, and a run that keeps every file, each with all folders on disk and in memory (/dev/shm). Beside them a
 # run with --verify that keeps every file, as a ratio to sha256sum over source and target; and, where another program is
-# named, as that of an earlier state, a first run as a ratio to its.
+# named, as that of an earlier state, a first run as a ratio to its. Before them, 20,000 rows that are put, found and put again
+# in a ledger in memory that is an SQL database, as ratios to the same in one that is a table.
 #
 # Usage: bench/ledger.sh [PROGRAM]
 #

@@ -24,7 +24,7 @@ fn texts_of(alloc: Global, words: &[String]) -> Option<Vec<Text>> {
 }
 
 /// An empty ledger in memory.
-fn empty_ledger(alloc: Global) -> Option<Box<MemoryKeeper>> {
+pub fn empty_ledger(alloc: Global) -> Option<Box<MemoryKeeper>> {
     let keeper = MemoryKeeper::new(alloc, Vec::new(alloc)).ok()?;
     Box::new(alloc, keeper).ok()
 }

@@ -7,6 +7,7 @@
 //! bench texts RULES TEXT TIMES          a text by text rules
 //! bench graph MODE COUNT|LIST           classes that are made up, or that a list names
 //! bench ledger TIMES WORD..             runs of the desk by these words with its ledger in memory
+//! bench rows memory|sql COUNT           rows of a ledger in memory: a table, or an SQL database
 //! ```
 #![tactic(auto)]
 
@@ -17,6 +18,7 @@ mod ledger;
 mod made;
 mod names;
 mod reading;
+mod rows;
 mod rules;
 mod scan;
 mod texts;
@@ -39,6 +41,7 @@ fn measure<R: Threads + Sync>(
         "texts" => texts::run(rt, words),
         "graph" => graph::run(rt, words),
         "ledger" => ledger::run(rt, threads, words),
+        "rows" => rows::run(rt, words),
         _ => Err(bad_words()),
     }
 }
