@@ -1,13 +1,13 @@
 -- A text between its blanks.
-use Rattle.std.proofs.Common.{◌≡◌, ◌≤◌, ◌<◌, ◌+◌, ℕ, [], ◌∷◌, ◌++◌, length, take, drop, refl, sym, ap, ap₂, ◌∙◌, arith, append_assoc, get_or}
+use Rattle.std.proofs.Common.{◌≡◌, ◌≤◌, ◌+◌, ℕ, [], ◌∷◌, ◌++◌, length, take, drop, refl, sym, ap, ap₂, ◌∙◌, arith, append_assoc, get_or}
 use Rattle.std.proofs.lemmas.List.{drop_at, take_more, drop_more}
 use Rattle.desk_base.specs.Names.{Text}
-use Rattle.desk_lines.specs.Cuts.{until, onward}
+use Rattle.desk_lines.specs.Cuts.{onward}
 use Rattle.desk_lines.specs.Blanks.{not_blank, leading_blanks, trailing_blanks, trimmed_end, trimmed}
 use Rattle.desk_lines.proofs.Cuts.{take_until, drop_until, until-onward}
 use Rattle.desk_lines.proofs.Trimming.{trimmed-trailing, trimmed_end_within}
 use Rattle.desk_lines.specs.Lines.{rest}
-use Rattle.desk_clauses.specs.Quotes.{before_mark, from_mark}
+use Rattle.desk_clauses.specs.Quotes.{before_mark}
 use Rattle.desk_clauses.specs.Grammar.{between_blanks, with_argument, argument}
 use Rattle.desk_clauses.specs.Cuts.{IsMarkPlace}
 use Rattle.desk_clauses.specs.declared.quotes.Quoting.TheVariants.{Outside}

@@ -1,12 +1,9 @@
 -- A text with some of its bytes exchanged.
-use Rattle.std.proofs.Common.{◌≡◌, ◌≤◌, ◌+◌, ◌-◌, ℕ, zero, suc, [], ◌∷◌, ◌++◌, List, length, take, drop, map, Option, Some, None, refl, sym, ap, ap₂, ◌∙◌, arith, append_assoc, append-nil, take-append-drop, length-append, length-drop, length-take}
-use Rattle.std.proofs.lemmas.List.{drop-drop, take_at, drop_at, take_rest}
-use Rattle.std.proofs.Math.Seq.{take-append-add, drop-append-add}
+use Rattle.std.proofs.Common.{◌≡◌, ◌≤◌, ◌+◌, ◌-◌, ℕ, zero, suc, [], ◌∷◌, ◌++◌, take, drop, refl, sym, ap, ◌∙◌, arith, append_assoc}
+use Rattle.std.proofs.lemmas.List.{drop-drop}
 use Rattle.desk_base.specs.Names.{Text}
-use Rattle.desk_clauses.specs.Edits.{edited, between, IsEdited}
+use Rattle.desk_clauses.specs.Edits.{between, IsEdited}
 use Rattle.desk_clauses.specs.declared.edits.Edits.{Edits}
-use Rattle.desk_clauses.specs.Quotes.{with_marks}
-use Rattle.desk_clauses.specs.Cuts.{parts_of, behind, IsFirst}
 
 -- the first bytes of a text, cut in two
 take_nil : (n : ℕ) → take {A = ℕ} n [] ≡ []

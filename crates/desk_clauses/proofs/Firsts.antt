@@ -126,10 +126,6 @@ stands_behind t (b ∷ d) n e =
     let size : length t - n ≡ suc (length d) = sym (length-drop n t) ∙ ap length e in
     lt-ltb n (length t) (omega (arith, size))
 
--- a part with a `=` outside quotes
-pub parameter_at : (part : Text) (mark : ℕ) → drop mark part ≡ from_mark 61 Outside part → mark < length part → is_parameter part ≡ true
-parameter_at part mark from within = sym (stands_behind part (from_mark 61 Outside part) mark from) ∙ lt-ltb mark (length part) within
-
 pub all_parts : (xs : List Text) → list_all is_clause (map parts xs) ≡ list_all (λ (t : Text). is_clause (parts t)) xs
 all_parts [] = refl
 all_parts (x ∷ xs) = ap (λ (b : Bool). is_clause (parts x) && b) (all_parts xs)

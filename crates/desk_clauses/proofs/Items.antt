@@ -1,5 +1,5 @@
 -- Lists, cut at commas.
-use Rattle.std.proofs.Common.{◌≡◌, ◌<◌, ◌≤◌, ◌+◌, ℕ, Bool, true, false, cond, ◌==◌, List, [], ◌∷◌, ◌++◌, length, take, drop, Option, Some, None, get_or, refl, sym, ap, ap₂, ◌∙◌, arith, append-nil, take_all}
+use Rattle.std.proofs.Common.{◌≡◌, ◌<◌, ◌+◌, ℕ, Bool, true, false, cond, ◌==◌, List, [], ◌∷◌, ◌++◌, length, take, drop, Some, None, get_or, refl, sym, ap, ap₂, ◌∙◌, arith, append-nil, take_all}
 use Rattle.std.specs.List.{slice_split, onto_first}
 use Rattle.std.proofs.lemmas.List.{drop_more}
 use Rattle.std.proofs.lemmas.Bool.{eqb-true}
@@ -7,7 +7,7 @@ use Rattle.desk_base.specs.Names.{Text}
 use Rattle.desk_base.proofs.Lists.{none_behind}
 use Rattle.desk_lines.specs.Cuts.{until, onward}
 use Rattle.desk_lines.proofs.Cuts.{until_length, take_until, drop_until, until-onward}
-use Rattle.desk_clauses.specs.Cuts.{parts_of, behind, IsFirst, IsFirstItem}
+use Rattle.desk_clauses.specs.Cuts.{IsFirstItem}
 
 abbrev is_comma : ℕ → Bool
 is_comma b = b == 44

@@ -1,5 +1,5 @@
 -- A text, gone over part by part, each exchanged for its image.
-use Rattle.std.proofs.Common.{◌≡◌, ◌≢◌, ◌≤◌, ◌<◌, ◌+◌, ◌-◌, ℕ, zero, suc, Bool, true, false, cond, ◌&&◌, ◌==◌, [], ◌∷◌, ◌++◌, List, length, take, drop, map, Option, Some, None, refl, sym, ap, ap₂, ◌∙◌, arith, append_assoc, append-nil, length-append}
+use Rattle.std.proofs.Common.{◌≡◌, ◌≢◌, ◌≤◌, ◌+◌, ◌-◌, ℕ, suc, Bool, true, false, cond, ◌&&◌, ◌==◌, [], ◌∷◌, ◌++◌, List, length, take, drop, map, Option, Some, None, refl, sym, ap, ◌∙◌, arith, append_assoc, append-nil, length-append}
 use Rattle.std.specs.Prelude.{MatchOption, unwrap_or}
 use Rattle.std.specs.List.{slice_split, onto_first as onto}
 use Rattle.std.proofs.lemmas.List.{drop-drop, take_at, drop_at}
@@ -8,7 +8,7 @@ use Rattle.desk_clauses.specs.Edits.{edited, between, IsEdited}
 use Rattle.desk_clauses.specs.declared.edits.Edits.{Edits}
 use Rattle.desk_clauses.specs.declared.quotes.Quoting.{Quoting}
 use Rattle.desk_clauses.specs.Quotes.{next, is_outside, onto_first, cut, with_marks}
-use Rattle.desk_clauses.specs.Cuts.{parts_of, behind, IsFirst}
+use Rattle.desk_clauses.specs.Cuts.{behind, IsFirst}
 use Rattle.desk_clauses.proofs.Edited.{kept}
 
 pub cut_filled : (mark : ℕ) (at : Quoting) (t : Text) → is_empty (cut mark at t) ≡ false

@@ -1,6 +1,6 @@
 -- Header values as clauses (OSGi Core 3.2.4): cut at `,` into clauses and each clause at `;` into parts, outside quotes. A part
 -- is a path, or a parameter, which is a directive or an attribute.
-use Rattle.std.specs.Prelude.{ℕ, Bool, true, false, cond, not, ◌&&◌, ◌==◌, ◌-◌, List, [], ◌∷◌, ◌++◌, map, take, length}
+use Rattle.std.specs.Prelude.{Bool, true, false, cond, not, ◌&&◌, ◌==◌, ◌-◌, List, [], ◌∷◌, ◌++◌, map, take, length}
 use Rattle.std.specs.List.{list_all, ends_with}
 use Rattle.std.specs.Str.{bytes_eq}
 use Rattle.desk_base.specs.Names.{Text, is_empty}
@@ -8,7 +8,6 @@ use Rattle.desk_lines.specs.Lines.{rest}
 use Rattle.desk_lines.specs.Cuts.{onward}
 use Rattle.desk_lines.specs.Blanks.{not_blank, leading_blanks, trailing_blanks, trimmed}
 use Rattle.desk_clauses.specs.Quotes.{is_closed, before_mark, from_mark, cut, with_marks}
-use Rattle.desk_clauses.specs.declared.quotes.Quoting.{Quoting}
 use Rattle.desk_clauses.specs.declared.quotes.Quoting.TheVariants.{Outside}
 
 -- the parts of a clause, and the clauses of a value

@@ -8,6 +8,37 @@ ghost use Rattle.desk_clauses.specs.Places.{place_behind};
 use crate::quotes::{is_closed, mark_place, split_first_part};
 use desk_lines::trim_blanks;
 
+/// A part of a clause, with the place of its equals sign, or its length where it has none.
+#[derive(Clone, Copy)]
+pub struct Part<'p> {
+    /// Its bytes.
+    pub text: &'p [u8],
+    /// How many of them stand before its first `=` outside quotes; all where it has none.
+    pub mark: usize,
+    pub ghost marked: { IsMark text.now mark },
+}
+
+impl<'p> Part<'p> {
+    ghost use Rattle.desk_clauses.specs.Grammar.{is_parameter};
+
+    /// The part of these bytes.
+    pub fn of(text: &'p [u8]) -> Part<'p>
+        ensures { result.text.now ≡ text.now }
+    {
+        Part {
+            text,
+            mark: mark_place(text, b'='),
+        }
+    }
+
+    /// Whether it is a parameter: a `=` stands in it outside quotes.
+    pub fn is_parameter(&self) -> bool
+        ensures { result ≡ is_parameter self.now.text.now }
+    {
+        self.mark < self.text.len()
+    }
+}
+
 /// Where a reader of a clause stands, by the parts before it.
 #[derive(Clone, Copy)]
 pub enum ClausePlace {
@@ -20,13 +51,11 @@ pub enum ClausePlace {
 }
 
 impl ClausePlace {
-    /// Where the reader stands behind one more part, of which so many bytes stand before its first `=` outside quotes, and all
-    /// where it has none; none exactly where no clause of the grammar has that part here.
-    pub fn behind(self, part: &[u8], mark: usize) -> Option<ClausePlace>
-        requires { IsMark part.now mark }
-        ensures { result ≡ place_behind self part.now }
+    /// Where the reader stands behind one more part; none exactly where no clause of the grammar has that part here.
+    pub fn behind(self, part: &Part<'_>) -> Option<ClausePlace>
+        ensures { result ≡ place_behind self part.now.text.now }
     {
-        if mark < part.len() {
+        if part.is_parameter() {
             return match self {
                 ClausePlace::Start => None,
                 ClausePlace::BehindPath => Some(ClausePlace::BehindParameter),
@@ -36,7 +65,7 @@ impl ClausePlace {
         match self {
             ClausePlace::BehindParameter => None,
             ClausePlace::Start | ClausePlace::BehindPath => {
-                if trim_blanks(part).is_empty() {
+                if trim_blanks(part.text).is_empty() {
                     None
                 } else {
                     Some(ClausePlace::BehindPath)
@@ -61,7 +90,7 @@ fn is_clause(clause: &[u8]) -> bool
     let mut place = ClausePlace::Start;
     while let Some(text) = rest {
         let (part, more) = split_first_part(text, b';');
-        match place.behind(part, mark_place(part, b'=')) {
+        match place.behind(&Part::of(part)) {
             None => return false,
             Some(next) => place = next,
         }

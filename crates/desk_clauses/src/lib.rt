@@ -15,5 +15,5 @@ mod quotes;
 
 pub use blanks::{append_between_blanks, between_blanks, quoted, with_argument};
 pub use edits::{Edits, image_or_none};
-pub use grammar::{ClausePlace, first_path, has_directive_key, is_in_grammar};
-pub use quotes::{is_closed, is_quoted, mark_place, split_first_item, split_first_part};
+pub use grammar::{ClausePlace, Part, first_path, has_directive_key, is_in_grammar};
+pub use quotes::{is_closed, is_quoted, split_first_item, split_first_part};

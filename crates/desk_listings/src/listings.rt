@@ -5,14 +5,13 @@ ghost use Rattle.std.specs.Option.{option_copied};
 ghost use Rattle.std.specs.List.{list_all};
 ghost use Rattle.desk_rules.specs.Images.{IsImage};
 ghost use Rattle.desk_clauses.specs.Grammar.{parts, clauses, clause_text, value_text, is_clause};
-ghost use Rattle.desk_clauses.specs.Cuts.{IsMark};
 ghost use Rattle.desk_listings.specs.Images.{lists_packages, is_export, version_name, version_behind, clause_image, listing_image, identity_version};
 ghost use Rattle.desk_listings.specs.declared.listings.ListingFault.TheVariants as listing_faults;
 
 use crate::parts::{path_version, rename_part};
 use desk_base::{Memory, Text};
 use desk_clauses::{
-    ClausePlace, Edits, first_path, is_closed, is_in_grammar, mark_place, split_first_part,
+    ClausePlace, Edits, Part, first_path, is_closed, is_in_grammar, split_first_part,
 };
 use desk_lines::trim_blanks;
 use desk_rules::RuleSet;
@@ -80,23 +79,21 @@ impl From<Memory> for ListingFault {
     }
 }
 
-/// The version that a clause has brought behind one more part: that of its first path that brings one. So many bytes of the part
-/// stand before its `=`, and all of a path's. The only error is want of memory.
+/// The version that a clause has brought behind one more part: that of its first path that brings one. The only error is want of
+/// memory.
 fn version_behind<'r>(
     alloc: Global,
     rules: &'r RuleSet,
     listing: Listing,
     version: Option<&'r [u8]>,
-    part: &[u8],
-    mark: usize,
+    part: &Part<'_>,
 ) -> Result<Option<&'r [u8]>, Memory>
-    requires { IsMark part.now mark }
-    ensures { IfOk result (λ behind. option_copied behind ≡ version_behind rules.now listing (option_copied version.entry) part.now) }
+    ensures { IfOk result (λ behind. option_copied behind ≡ version_behind rules.now listing (option_copied version.entry) part.now.text.now) }
 {
-    if version.is_some() || mark < part.len() {
+    if version.is_some() || part.is_parameter() {
         return Ok(version);
     }
-    path_version(alloc, rules, listing, trim_blanks(part))
+    path_version(alloc, rules, listing, trim_blanks(part.text))
 }
 
 /// The image of a clause; none exactly where it is the clause itself. Each part is cut once: in the grammar all paths stand before
@@ -118,15 +115,15 @@ fn rename_clause(
     let mut rest = Some(clause);
     let mut from = 0;
     while let Some(text) = rest {
-        let (part, more) = split_first_part(text, b';');
-        let mark = mark_place(part, b'=');
-        match place.behind(part, mark) {
+        let (first, more) = split_first_part(text, b';');
+        let part = Part::of(first);
+        match place.behind(&part) {
             None => return Err(ListingFault::OutsideGrammar),
             Some(next) => place = next,
         }
-        version = version_behind(alloc, rules, listing, version, part, mark)?;
-        let to = from + part.len();
-        let image = rename_part(alloc, rules, listing, version, part, mark)?;
+        version = version_behind(alloc, rules, listing, version, &part)?;
+        let to = from + part.text.len();
+        let image = rename_part(alloc, rules, listing, version, &part)?;
         edits.put(clause, from, to, image)?;
         from = to + 1;
         rest = more;

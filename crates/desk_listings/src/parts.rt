@@ -7,12 +7,12 @@ ghost use Rattle.desk_rules.specs.Images.{IsImage};
 ghost use Rattle.desk_lines.specs.Blanks.{trimmed};
 ghost use Rattle.desk_clauses.specs.Grammar.{with_argument, between_blanks, argument};
 ghost use Rattle.desk_listings.specs.Images.{is_export, version_name, versioned, uses_image, path_image, path_version, parameter_image, part_image};
-ghost use Rattle.desk_clauses.specs.Cuts.{IsMark, IsMarkPlace, has_key_of};
+ghost use Rattle.desk_clauses.specs.Cuts.{IsMarkPlace, has_key_of};
 
 use crate::Listing;
 use crate::packages::{package_version, rename_package_path, rename_uses};
 use desk_base::{Memory, Text};
-use desk_clauses::{between_blanks, has_directive_key, image_or_none, quoted, with_argument};
+use desk_clauses::{Part, between_blanks, has_directive_key, image_or_none, quoted, with_argument};
 use desk_lines::trim_blanks;
 use desk_rules::{RuleSet, Side};
 use std::alloc::Global;
@@ -137,27 +137,26 @@ fn rename_parameter(
     Ok(None)
 }
 
-/// The image of a part of a clause that gets this version; none exactly where it is the part itself. So many of its bytes stand
-/// before its `=`, and all of a path's. The only error is want of memory.
+/// The image of a part of a clause that gets this version; none exactly where it is the part itself. The only error is want of
+/// memory.
 pub(crate) fn rename_part(
     alloc: Global,
     rules: &RuleSet,
     listing: Listing,
     version: Option<&[u8]>,
-    part: &[u8],
-    mark: usize,
+    part: &Part<'_>,
 ) -> Result<Option<Text>, Memory>
-    requires { IsMark part.now mark }
-    ensures { IfOk result (IsImage part.now (part_image rules.now listing (option_copied version.entry) part.now)) }
+    ensures { IfOk result (IsImage part.now.text.now (part_image rules.now listing (option_copied version.entry) part.now.text.now)) }
 {
-    if mark < part.len() {
-        return rename_parameter(alloc, rules, listing, version, part, mark);
+    let Part { text, mark, .. } = *part;
+    if mark < text.len() {
+        return rename_parameter(alloc, rules, listing, version, text, mark);
     }
-    match rename_path(alloc, rules, listing, trim_blanks(part))? {
+    match rename_path(alloc, rules, listing, trim_blanks(text))? {
         None => Ok(None),
         Some(image) => {
-            let image = between_blanks(alloc, part, image.as_bytes())?;
-            Ok(image_or_none(part, image))
+            let image = between_blanks(alloc, text, image.as_bytes())?;
+            Ok(image_or_none(text, image))
         }
     }
 }

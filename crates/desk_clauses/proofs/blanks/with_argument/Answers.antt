@@ -1,4 +1,4 @@
-use Rattle.std.proofs.Common.{◌+◌, ◌++◌, ◌∙◌, ap, ap₂}
+use Rattle.std.proofs.Common.{◌+◌, ◌++◌, ◌∙◌, ap₂}
 use Rattle.std.proofs.lemmas.List.{take_rest}
 use Rattle.desk_base.specs.Names.{Text}
 use Rattle.desk_clauses.specs.Grammar.{between_blanks}

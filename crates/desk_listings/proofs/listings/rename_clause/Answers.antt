@@ -2,6 +2,7 @@ use Rattle.std.proofs.Common.{rules, ◌≡◌, ◌+◌, ◌∙◌, length, refl
 use Rattle.std.specs.Option.{option_copied}
 use Rattle.desk_base.specs.Names.{Text}
 use Rattle.desk_rules.specs.Images.{IsImage}
+use Rattle.desk_clauses.specs.Cuts.{IsFirstPart}
 use Rattle.desk_clauses.specs.Edits.{between}
 use Rattle.desk_clauses.specs.Grammar.{parts, clause_text}
 use Rattle.desk_clauses.specs.declared.quotes.Quoting.TheVariants.{Outside}
@@ -26,9 +27,9 @@ loop-rest-preserved c =
     let next = c.in-Some-behind.next in
     let version = option_copied c.loop-rest.version in
     let text = c.in-Some.text.now in
-    let part = c.split_first_part.result.0.now in
+    let part = c.of-part.result.text.now in
     let more = option_copied c.split_first_part.result.1 in
-    let first = c.split_first_part.ensures in
+    let first = subst (λ (p : Text). IsFirstPart 59 text p more) (sym c.of-part.ensures) c.split_first_part.ensures in
     let to = from + length part in
     let before = subst (λ r. IsClauseGone held listing clause c.loop-rest.edits from place version (option_copied r)) c.in-Some.is c.loop-rest.invariant in
     let go = sym c.behind.ensures ∙ c.in-Some-behind.is in

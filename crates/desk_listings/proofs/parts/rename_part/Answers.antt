@@ -7,7 +7,7 @@ use Rattle.desk_listings.proofs.parts.rename_part.Goals as goal
 
 pub returns-in-None : goal.returns-in-None
 returns-in-None c =
-    path_stays c.args.rules.now c.args.listing (option_copied c.args.version) c.args.part.now c.trim_blanks.result.now
-    (no_parameter c.args.part.now c.args.mark c.requires.from (λ less. omega (arith, less, c.if-mark-part.false)))
+    path_stays c.args.rules.now c.args.listing (option_copied c.args.version) c.args.part.now.text.now c.trim_blanks.result.now
+    (no_parameter c.args.part.now.text.now c.args.part.now.mark c.args.part.now.marked.from (λ less. omega (arith, less, c.if-mark-text.false)))
     c.trim_blanks.ensures.trimmed
     (subst (IsImage c.trim_blanks.result.now (path_image c.args.rules.now c.args.listing c.trim_blanks.result.now)) c.in-None.is c.in_ok-rename_path.ensures)
