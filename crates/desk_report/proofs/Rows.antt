@@ -13,8 +13,8 @@ use Rattle.desk_report.specs.declared.lines.Detail.TheVariants.{Class, Service, 
 use Rattle.desk_report.specs.declared.lines.ReportLine.TheVariants.{Written, Kept, Refused}
 use Rattle.desk_report.specs.declared.lines.Reason.TheVariants.{Malformed, Overlong, PoolFull, Twins, BadLine, Unsettled}
 use Rattle.desk_base.specs.declared.faults.FaultKind.TheVariants as kinds
-use Rattle.desk_report.specs.declared.status.LimitKind.TheVariants.{Files, PathLength, FileSize, RuleFiles, RuleSize}
-use Rattle.desk_report.specs.declared.status.Status.TheVariants.{Done, Refusals, Memory, FolderFault, LedgerFault, OutputFault, Usage, NestedRoots, BadRules, Limit, PathClash, NameClash, Stranded, OtherRun, Moved}
+use Rattle.desk_report.specs.declared.status.LimitKind.TheVariants.{Files, PathLength, FileSize, RuleFiles, RuleSize, Both}
+use Rattle.desk_report.specs.declared.status.Status.TheVariants.{Done, Refusals, Memory, FolderFault, LedgerFault, OutputFault, Usage, NestedRoots, BadRules, Limit, PathClash, NameClash, Stranded, OtherRun, Moved, Differs}
 use Rattle.desk_report.specs.Texts.{line_text, summary_text, fault_text}
 
 -- a plain text stands for itself
@@ -102,7 +102,7 @@ fault_12 = refl
 fault_13 : fault_text OutputFault ≡ codes "migrate: 13 output fault\n"
 fault_13 = refl
 
-fault_20 : fault_text Usage ≡ codes "migrate: 20 usage: migrate run --rules R --from A --to B --ledger L [--workers N] [--verify] or migrate generate --count N [--workers N] [--sql] or migrate calls --from A --package P or migrate invert --rules R\n"
+fault_20 : fault_text Usage ≡ codes "migrate: 20 usage: migrate run --rules R --from A --to B --ledger L [--workers N] [--verify] or migrate generate --count N [--workers N] [--sql] or migrate calls --from A --package P or migrate compare --rules R --from A --other B or migrate invert --rules R\n"
 fault_20 = refl
 
 fault_21 : fault_text (NestedRoots (codes "in") (codes "in/x")) ≡ codes "migrate: 21 nested roots in in/x\n"
@@ -146,6 +146,12 @@ fault_23_rules = refl
 
 fault_23_rule : fault_text (Limit RuleSize (codes "x")) ≡ codes "migrate: 23 limit rule-size x\n"
 fault_23_rule = refl
+
+fault_23_both : fault_text (Limit Both (codes "a")) ≡ codes "migrate: 23 limit both a\n"
+fault_23_both = refl
+
+fault_3 : fault_text (Differs (codes "a")) ≡ []
+fault_3 = refl
 
 fault_24 : fault_text (PathClash (codes "jakarta/x/a.txt") (codes "javax/x/a.txt")) ≡ codes "migrate: 24 path clash jakarta/x/a.txt javax/x/a.txt\n"
 fault_24 = refl

@@ -14,9 +14,9 @@ use Rattle.desk_report.specs.declared.lines.Reason.{Reason}
 use Rattle.desk_report.specs.declared.lines.Reason.TheVariants.{Malformed, Overlong, PoolFull, Twins, BadLine, Unsettled, Code}
 use Rattle.desk_report.specs.declared.lines.Summary.{Summary}
 use Rattle.desk_report.specs.declared.status.Status.{Status}
-use Rattle.desk_report.specs.declared.status.Status.TheVariants.{Done, Refusals, Memory, FolderFault, LedgerFault, OutputFault, Usage, NestedRoots, BadRules, Limit, PathClash, NameClash, Stranded, OtherRun, Moved, NotInvertible}
+use Rattle.desk_report.specs.declared.status.Status.TheVariants.{Done, Refusals, Memory, FolderFault, LedgerFault, OutputFault, Usage, NestedRoots, BadRules, Limit, PathClash, NameClash, Stranded, OtherRun, Moved, NotInvertible, Differs}
 use Rattle.desk_report.specs.declared.status.LimitKind.{LimitKind}
-use Rattle.desk_report.specs.declared.status.LimitKind.TheVariants.{Files, PathLength, FileSize, RuleFiles, RuleSize}
+use Rattle.desk_report.specs.declared.status.LimitKind.TheVariants.{Files, PathLength, FileSize, RuleFiles, RuleSize, Both}
 use Rattle.desk_rules.specs.declared.InvertFault.{InvertFault}
 use Rattle.desk_rules.specs.declared.InvertFault.TheVariants as invert
 use Rattle.desk_report.specs.Joined.{joined, pair_pieces, placed_pieces}
@@ -79,6 +79,7 @@ limit_name PathLength = codes "path-length"
 limit_name FileSize = codes "file-size"
 limit_name RuleFiles = codes "rule-files"
 limit_name RuleSize = codes "rule-size"
+limit_name Both = codes "both"
 
 -- why rules have no inverse
 abbrev pub invert_pieces : InvertFault → List Text
@@ -94,7 +95,7 @@ fault_pieces Memory = codes "migrate: 10 out of memory\n" ∷ []
 fault_pieces (FolderFault done) = codes "migrate: 11 folder fault done=" ∷ decimal done ∷ codes "\n" ∷ []
 fault_pieces (LedgerFault done) = codes "migrate: 12 ledger fault done=" ∷ decimal done ∷ codes "\n" ∷ []
 fault_pieces OutputFault = codes "migrate: 13 output fault\n" ∷ []
-fault_pieces Usage = codes "migrate: 20 usage: migrate run --rules R --from A --to B --ledger L [--workers N] [--verify] or migrate generate --count N [--workers N] [--sql] or migrate calls --from A --package P or migrate invert --rules R\n" ∷ []
+fault_pieces Usage = codes "migrate: 20 usage: migrate run --rules R --from A --to B --ledger L [--workers N] [--verify] or migrate generate --count N [--workers N] [--sql] or migrate calls --from A --package P or migrate compare --rules R --from A --other B or migrate invert --rules R\n" ∷ []
 fault_pieces (NestedRoots first second) = pair_pieces (codes "migrate: 21 nested roots ") first second
 fault_pieces (BadRules fault) = rule_fault_pieces fault
 fault_pieces (Limit kind path) = codes "migrate: 23 limit " ∷ limit_name kind ∷ codes " " ∷ shown path ∷ codes "\n" ∷ []
@@ -104,8 +105,9 @@ fault_pieces (Stranded path name) = pair_pieces (codes "migrate: 26 stranded ") 
 fault_pieces (OtherRun kept wanted) = codes "migrate: 27 other run kept " ∷ header_pieces kept (codes " wanted ") ++ header_pieces wanted (codes "\n")
 fault_pieces (Moved path first second) = codes "migrate: 28 moved " ∷ shown path ∷ codes " " ∷ encode_lower first.0 ∷ codes " " ∷ encode_lower second.0 ∷ codes "\n" ∷ []
 fault_pieces (NotInvertible fault) = invert_pieces fault
+fault_pieces (Differs path) = []
 
--- the line of a fault; Done and Refusals have none
+-- the line of a fault; Done, Refusals and Differs have none
 abbrev pub fault_text : Status → Text
 fault_text status = joined (fault_pieces status)
 
@@ -127,3 +129,4 @@ code_of (Stranded path name) = 26
 code_of (OtherRun kept wanted) = 27
 code_of (Moved path first second) = 28
 code_of (NotInvertible fault) = 31
+code_of (Differs path) = 3

@@ -17,6 +17,7 @@ mod rule_faults;
 mod sink;
 mod standard;
 mod status;
+mod texts;
 mod writer;
 
 pub use lines::{Detail, Reason, ReportLine, Summary, write_line, write_summary};
@@ -25,3 +26,4 @@ pub use reasons::kind_name;
 pub use sink::{Sink, SinkFault};
 pub use standard::StdSink;
 pub use status::{LimitKind, Status, write_fault};
+pub use texts::{append_line, append_shown};

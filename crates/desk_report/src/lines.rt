@@ -127,7 +127,7 @@ pub enum ReportLine {
 
 impl ReportLine {
     /// The pieces of the line.
-    fn pieces(&self) -> Pieces<'_>
+    pub(crate) fn pieces(&self) -> Pieces<'_>
         ensures { pieces_text result ≡ line_text self.now }
     {
         match self {

@@ -2,6 +2,7 @@
 
 ghost use Rattle.std.specs.Prelude.{◌≡◌, ◌≤◌, [], ◌∷◌, OnOk, OnErr, codes, decimal};
 ghost use Rattle.desk_base.specs.Counts.{Rose};
+ghost use Rattle.desk_base.specs.Names.{Text};
 ghost use Rattle.desk_report.specs.Written.{writing, WritesFront};
 ghost use Rattle.desk_report.specs.Joined.{joined};
 ghost use Rattle.desk_report.specs.Pieces.{pieces_text};
@@ -18,7 +19,7 @@ use desk_rules::{InvertFault, RuleFault};
 
 /// The line of words without a task.
 const USAGE: &[u8] =
-    b"migrate: 20 usage: migrate run --rules R --from A --to B --ledger L [--workers N] [--verify] or migrate generate --count N [--workers N] [--sql] or migrate calls --from A --package P or migrate invert --rules R\n";
+    b"migrate: 20 usage: migrate run --rules R --from A --to B --ledger L [--workers N] [--verify] or migrate generate --count N [--workers N] [--sql] or migrate calls --from A --package P or migrate compare --rules R --from A --other B or migrate invert --rules R\n";
 
 /// Which limit of a run is passed, by what it counts.
 #[derive(Clone, Copy, Debug, PartialEq, Eq)]
@@ -33,6 +34,8 @@ pub enum LimitKind {
     RuleFiles,
     /// 1,048,576 bytes of a rule file.
     RuleSize,
+    /// 1,073,741,824 bytes of two applications that are compared, together.
+    Both,
 }
 
 impl LimitKind {
@@ -46,6 +49,7 @@ impl LimitKind {
             LimitKind::FileSize => b"file-size",
             LimitKind::RuleFiles => b"rule-files",
             LimitKind::RuleSize => b"rule-size",
+            LimitKind::Both => b"both",
         }
     }
 }
@@ -113,10 +117,14 @@ pub enum Status {
     },
     /// The rules have no inverse.
     NotInvertible(InvertFault),
+    /// What the rules make of an application differs from another application, first at this relative path.
+    Differs {
+        path: Text,
+    },
 }
 
 impl Status {
-    /// The exit status that the program ends with: 0, 2, 10 to 13, 20 to 28, or 31.
+    /// The exit status that the program ends with: 0, 2, 3, 10 to 13, 20 to 28, or 31.
     pub fn code(&self) -> u8
         ensures { result ≡ code_of self.now }
     {
@@ -137,17 +145,19 @@ impl Status {
             Status::OtherRun { .. } => 27,
             Status::Moved { .. } => 28,
             Status::NotInvertible(_) => 31,
+            Status::Differs { .. } => 3,
         }
     }
 
-    /// The pieces of its line; `Done` and `Refusals` have none.
+    /// The pieces of its line; `Done`, `Refusals` and `Differs` have none.
     fn pieces(&self) -> Pieces<'_>
         ensures text { pieces_text result ≡ fault_text self.now }
         ensures done { self.now ≡ Status.Done → result ≡ [] }
         ensures refusals { self.now ≡ Status.Refusals → result ≡ [] }
+        ensures differs { (path : Text) → self.now ≡ Status.Differs path → result ≡ [] }
     {
         match self {
-            Status::Done | Status::Refusals => Pieces::none(),
+            Status::Done | Status::Refusals | Status::Differs { .. } => Pieces::none(),
             Status::Memory => Pieces::plain(b"migrate: 10 out of memory\n"),
             Status::FolderFault { done } => counted(b"migrate: 11 folder fault done=", *done),
             Status::LedgerFault { done } => counted(b"migrate: 12 ledger fault done=", *done),
@@ -263,13 +273,14 @@ fn not_invertible(fault: &InvertFault) -> Pieces<'_>
     }
 }
 
-/// Writes the line of a status, in few writes; for `Done` and `Refusals` it does nothing. After an error a front of the
+/// Writes the line of a status, in few writes; for `Done`, `Refusals` and `Differs` it does nothing. After an error a front of the
 /// line was written. It takes no memory.
 pub fn write_fault<O: Sink>(status: &Status, out: &mut O) -> Result<(), SinkFault>
     ensures ok { OnOk result (O.told out.new ≡ writing (fault_text status.now) (O.told out.old)) }
     ensures err { OnErr result (WritesFront (fault_text status.now) (O.told out.old) (O.told out.new)) }
     ensures done { status.now ≡ Status.Done → out.new ≡ out.old }
     ensures refusals { status.now ≡ Status.Refusals → out.new ≡ out.old }
+    ensures differs { (path : Text) → status.now ≡ Status.Differs path → out.new ≡ out.old }
     ensures counts { O.faults out.old ≤ O.faults out.new }
     ensures failed { OnErr result (Rose (O.faults out.old) (O.faults out.new)) }
 {

@@ -2,7 +2,7 @@
 
 ghost use Rattle.std.specs.Prelude.{◌≡◌, ◌++◌, ◌<◌, ◌∷◌, [], OnOk, length, codes};
 ghost use Rattle.std.specs.List.{flat_map};
-ghost use Rattle.desk_base.specs.Shown.{shown, shown_byte, hex_digit};
+ghost use Rattle.desk_base.specs.Shown.{hex_digit};
 ghost use Rattle.desk_report.specs.Joined.{joined};
 ghost use Rattle.desk_sites.specs.Hex.{hex_byte};
 ghost use Rattle.desk_sites.specs.Lines.{site_line, refusal};
@@ -10,8 +10,9 @@ ghost use Rattle.desk_sites.specs.Pieces.{piece_text, pieces_text};
 
 use crate::members::{member_class, member_descriptor, member_name, text_at};
 use crate::sites::Site;
-use desk_base::{Memory, Text, show_byte};
+use desk_base::{Memory, Text};
 use desk_pool::Pool;
+use desk_report::append_shown;
 use itoa::Buffer;
 
 /// A piece of a line.
@@ -36,28 +37,6 @@ fn hex_digit(digit: u8) -> u8
         b'0' + digit
     } else {
         b'a' - 10 + digit
-    }
-}
-
-/// Adds the bytes of a text as they are shown. The only error is want of memory.
-#[tactic(auto, using(desk_base::proofs::Lists::texts_more))]
-fn append_bytes(lines: &mut Text, text: &[u8]) -> Result<(), Memory>
-    ensures { OnOk result (lines.new ≡ lines.old ++ flat_map shown_byte text.now) }
-{
-    for byte in text {
-        lines.append(show_byte(*byte).as_bytes())?;
-    }
-    Ok(())
-}
-
-/// Adds a text as it is shown. The only error is want of memory.
-fn append_shown(lines: &mut Text, text: &[u8]) -> Result<(), Memory>
-    ensures { OnOk result (lines.new ≡ lines.old ++ shown text.now) }
-{
-    if text.is_empty() {
-        lines.append(b"\\-")
-    } else {
-        append_bytes(lines, text)
     }
 }
 

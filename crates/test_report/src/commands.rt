@@ -132,6 +132,7 @@ pub const COMMANDS: &[(&[u8], Command)] = &[
     (b"total", Command::Total),
     (b"done", Command::Status(Ended::Done)),
     (b"refusals", Command::Status(Ended::Refusals)),
+    (b"differs", Command::Status(Ended::Differs)),
     (b"memory", Command::Status(Ended::Outside(Outside::Memory))),
     (
         b"folder-fault",
@@ -185,6 +186,10 @@ pub const COMMANDS: &[(&[u8], Command)] = &[
     (
         b"limit-rule-size",
         Command::Status(Ended::Limit(LimitKind::RuleSize)),
+    ),
+    (
+        b"limit-both",
+        Command::Status(Ended::Limit(LimitKind::Both)),
     ),
     (
         b"path-clash",

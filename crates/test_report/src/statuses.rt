@@ -14,6 +14,7 @@ use std::alloc::Global;
 pub enum Ended {
     Done,
     Refusals,
+    Differs,
     Outside(Outside),
     Usage,
     NestedRoots,
@@ -173,6 +174,9 @@ fn status_of(ended: Ended, values: &mut Values) -> Status {
     match ended {
         Ended::Done => Status::Done,
         Ended::Refusals => Status::Refusals,
+        Ended::Differs => Status::Differs {
+            path: values.text(),
+        },
         Ended::Outside(failed) => outside_status(failed, values),
         Ended::Usage => Status::Usage,
         Ended::NestedRoots => Status::NestedRoots {

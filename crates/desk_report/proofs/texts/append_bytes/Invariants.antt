@@ -1,7 +1,7 @@
 use Rattle.std.proofs.Common.{◌≡◌, ◌++◌, take}
 use Rattle.std.specs.List.{flat_map}
 use Rattle.desk_base.specs.Shown.{shown_byte}
-use Rattle.desk_sites.proofs.lines.append_bytes.Given as goal
+use Rattle.desk_report.proofs.texts.append_bytes.Given as goal
 
 abbrev pub invariant-loop-byte : goal.invariant-loop-byte
 invariant-loop-byte l = l.lines ≡ l.fn.lines ++ flat_map shown_byte (take l.byte-index l.text)
