@@ -7,8 +7,10 @@ mod telling;
 mod values;
 
 pub use joining::is_flag;
-pub use telling::{message_of_calls, message_of_generate, message_of_invert, message_of_run};
+pub use telling::{
+    message_of_calls, message_of_compare, message_of_generate, message_of_invert, message_of_run,
+};
 pub use values::{
-    CallsValues, GenerateValues, InvertValues, RunValues, calls_values, generate_values,
-    invert_values, run_values,
+    CallsValues, CompareValues, GenerateValues, InvertValues, RunValues, calls_values,
+    compare_values, generate_values, invert_values, run_values,
 };

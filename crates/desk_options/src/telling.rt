@@ -1,7 +1,9 @@
 //! What `clap` says against words.
 
 use crate::joining::whole_words;
-use crate::parsing::{calls_command, generate_command, invert_command, run_command};
+use crate::parsing::{
+    calls_command, compare_command, generate_command, invert_command, run_command,
+};
 use clap::Command;
 use desk_base::{Memory, Text};
 use std::alloc::Global;
@@ -56,6 +58,15 @@ pub fn message_of_generate(alloc: Global, words: &[Text]) -> Result<Option<Text>
 pub fn message_of_calls(alloc: Global, words: &[Text]) -> Result<Option<Text>, Memory> {
     match whole_words(alloc, words)? {
         Some(whole) => message_of(alloc, calls_command(alloc)?, whole.as_slice()),
+        None => Ok(None),
+    }
+}
+
+/// What `clap` says against the words behind `compare`; none where it says nothing, and where they are no options. The only
+/// error is want of memory.
+pub fn message_of_compare(alloc: Global, words: &[Text]) -> Result<Option<Text>, Memory> {
+    match whole_words(alloc, words)? {
+        Some(whole) => message_of(alloc, compare_command(alloc)?, whole.as_slice()),
         None => Ok(None),
     }
 }

@@ -11,15 +11,16 @@ use Rattle.desk_base.specs.Paths.{here, top, is_segment, is_relative_path, is_fu
 use Rattle.desk_base.proofs.Separated.{none_is, split_whole}
 use Rattle.desk_words.specs.declared.roots.Root.{Root}
 use Rattle.desk_words.specs.declared.words.Task.{Task}
-use Rattle.desk_words.specs.declared.words.Task.TheVariants.{Run, Generate, Calls, Invert}
+use Rattle.desk_words.specs.declared.words.Task.TheVariants.{Run, Generate, Calls, Compare, Invert}
 use Rattle.desk_options.specs.declared.values.RunValues.{RunValues}
 use Rattle.desk_options.specs.declared.values.GenerateValues.{GenerateValues}
 use Rattle.desk_options.specs.declared.values.CallsValues.{CallsValues}
+use Rattle.desk_options.specs.declared.values.CompareValues.{CompareValues}
 use Rattle.desk_options.specs.declared.values.InvertValues.{InvertValues}
-use Rattle.desk_options.specs.Values.{run_values, generate_values, calls_values, invert_values}
+use Rattle.desk_options.specs.Values.{run_values, generate_values, calls_values, compare_values, invert_values}
 use Rattle.desk_words.specs.Numbers.{workers_of, count_of}
 use Rattle.desk_words.specs.Packages.{package_of}
-use Rattle.desk_words.specs.Words.{parts, is_upward, is_dropped, named_parts, is_value, is_absolute, root_of, written as written_of, run_of, run_task, generate_of, generate_task, calls_of, calls_task, invert_of, invert_task, task_of}
+use Rattle.desk_words.specs.Words.{parts, is_upward, is_dropped, named_parts, is_value, is_absolute, root_of, written as written_of, run_of, run_task, generate_of, generate_task, calls_of, calls_task, compare_of, compare_task, invert_of, invert_task, task_of}
 use Rattle.desk_words.specs.Words.{overlap, first_nested}
 use Rattle.desk_words.specs.declared.roots.Order.{Order}
 use Rattle.desk_words.specs.declared.roots.Order.TheVariants as order
@@ -145,6 +146,7 @@ pub data Named (task : Task) : Type 0 where
   of_run : AreNamed task → Named task
   of_generate : (count workers : ℕ) (sql : Bool) → AreWorkers workers → task ≡ Generate count workers sql → Named task
   of_calls : (from : Root) (segments : List Text) → list_all is_named from.segments ≡ true → task ≡ Calls from segments → Named task
+  of_compare : (rules from other : Root) → list_all is_named rules.segments ≡ true → list_all is_named from.segments ≡ true → list_all is_named other.segments ≡ true → task ≡ Compare rules from other → Named task
   of_invert : (rules : Root) → list_all is_named rules.segments ≡ true → task ≡ Invert rules → Named task
 
 generate_named : (o : Option GenerateValues) (task : Task) → option_and_then generate_task o ≡ Some task → Named task
@@ -163,6 +165,16 @@ calls_named (Some values) task e = by (root_of values.from) (package_of values.�
   by None p k f = cc
   by (Some from) None k f = cc
 
+compare_named : (o : Option CompareValues) (task : Task) → option_and_then compare_task o ≡ Some task → Named task
+compare_named None task e = cc
+compare_named (Some values) task e = by (root_of values.rules) (root_of values.from) (root_of values.other) refl refl refl e where
+  by : (r f o : Option Root) → root_of values.rules ≡ r → root_of values.from ≡ f → root_of values.other ≡ o → compare_of r f o ≡ Some task → Named task
+  by (Some rules) (Some from) (Some other) j k l g =
+      of_compare rules from other (root_named values.rules rules j) (root_named values.from from k) (root_named values.other other l) (let h : Compare rules from other ≡ task = cc in sym h)
+  by None f o j k l g = cc
+  by (Some rules) None o j k l g = cc
+  by (Some rules) (Some from) None j k l g = cc
+
 invert_named : (o : Option InvertValues) (task : Task) → option_and_then invert_task o ≡ Some task → Named task
 invert_named None task e = cc
 invert_named (Some values) task e = by (root_of values.rules) refl e where
@@ -173,14 +185,15 @@ invert_named (Some values) task e = by (root_of values.rules) refl e where
 -- the task of words has such roots
 pub task_named : (words : List Text) (task : Task) → task_of words ≡ Some task → Named task
 task_named [] task e = cc
-task_named (first ∷ behind) task e = by (bytes_eq first (codes "run")) (bytes_eq first (codes "generate")) (bytes_eq first (codes "calls")) (bytes_eq first (codes "invert")) e where
-  by : (x y z w : Bool) → (if x then option_and_then run_task (run_values behind) else if y then option_and_then generate_task (generate_values behind)
-      else if z then option_and_then calls_task (calls_values behind) else if w then option_and_then invert_task (invert_values behind) else None) ≡ Some task → Named task
-  by true y z w f = of_run (run_named (run_values behind) task f)
-  by false true z w f = generate_named (generate_values behind) task f
-  by false false true w f = calls_named (calls_values behind) task f
-  by false false false true f = invert_named (invert_values behind) task f
-  by false false false false f = cc
+task_named (first ∷ behind) task e = by (bytes_eq first (codes "run")) (bytes_eq first (codes "generate")) (bytes_eq first (codes "calls")) (bytes_eq first (codes "compare")) (bytes_eq first (codes "invert")) e where
+  by : (x y z v w : Bool) → (if x then option_and_then run_task (run_values behind) else if y then option_and_then generate_task (generate_values behind)
+      else if z then option_and_then calls_task (calls_values behind) else if v then option_and_then compare_task (compare_values behind) else if w then option_and_then invert_task (invert_values behind) else None) ≡ Some task → Named task
+  by true y z v w f = of_run (run_named (run_values behind) task f)
+  by false true z v w f = generate_named (generate_values behind) task f
+  by false false true v w f = calls_named (calls_values behind) task f
+  by false false false true w f = compare_named (compare_values behind) task f
+  by false false false false true f = invert_named (invert_values behind) task f
+  by false false false false false f = cc
 
 if_some_no : {X : Type 0} (b : Bool) (x : X) (o : Option X) → (if b then Some x else o) ≡ None → (b ≡ false) × (o ≡ None)
 if_some_no true x o e = cc
@@ -223,6 +236,10 @@ order_is_sound words given e = by (task_of words) refl e where
         let h : order_of_task (Some (Calls from segments)) ≡ Ok given = ap (λ (t : Task). order_of_task (Some t)) (sym is) ∙ g in
         let k : order.Query (query.Calls (written_of from) segments) ≡ given = cc in
         subst IsSound k (written_is_root from named)
+    with_order (of_compare rules from other rules_named from_named other_named is) =
+        let h : order_of_task (Some (Compare rules from other)) ≡ Ok given = ap (λ (t : Task). order_of_task (Some t)) (sym is) ∙ g in
+        let k : order.Query (query.Compare (written_of rules) (written_of from) (written_of other)) ≡ given = cc in
+        subst IsSound k (written_is_root rules rules_named, (written_is_root from from_named, written_is_root other other_named))
     with_order (of_invert rules named is) =
         let h : order_of_task (Some (Invert rules)) ≡ Ok given = ap (λ (t : Task). order_of_task (Some t)) (sym is) ∙ g in
         let k : order.Query (query.Invert (written_of rules)) ≡ given = cc in

@@ -11,7 +11,7 @@ use Rattle.desk_words.specs.declared.roots.Query.TheVariants as query
 use Rattle.desk_words.specs.declared.roots.RootsFault.{RootsFault}
 use Rattle.desk_words.specs.declared.roots.RootsFault.TheVariants.{Memory, Usage, Nested}
 use Rattle.desk_words.specs.declared.words.Task.{Task}
-use Rattle.desk_words.specs.declared.words.Task.TheVariants.{Run, Generate, Calls, Invert}
+use Rattle.desk_words.specs.declared.words.Task.TheVariants.{Run, Generate, Calls, Compare, Invert}
 use Rattle.desk_words.specs.Words.{task_of, first_nested, written}
 
 -- two roots, as they are written, of which one lies in the other
@@ -33,6 +33,7 @@ order_of_task None = Err Usage
 order_of_task (Some (Run rules from to ledger workers verify)) = order_apart rules from to ledger workers verify (first_nested rules from to ledger)
 order_of_task (Some (Generate count workers sql)) = Ok (generate_order count workers sql)
 order_of_task (Some (Calls from segments)) = Ok (order.Query (query.Calls (written from) segments))
+order_of_task (Some (Compare rules from other)) = Ok (order.Query (query.Compare (written rules) (written from) (written other)))
 order_of_task (Some (Invert rules)) = Ok (order.Query (query.Invert (written rules)))
 
 -- what words ask for
@@ -66,12 +67,13 @@ pub record AreWorkers (workers : ℕ) : Type 0 where
   pub some : 0 < workers
   pub most : workers ≤ 64
 
--- a query names a root
+-- what a query names are roots
 abbrev pub IsSoundQuery : Query → Type 0
 IsSoundQuery (query.Calls from segments) = is_root from ≡ true
+IsSoundQuery (query.Compare rules from other) = (is_root rules ≡ true) × ((is_root from ≡ true) × (is_root other ≡ true))
 IsSoundQuery (query.Invert rules) = is_root rules ≡ true
 
--- the roots of a run are such, and so are the workers; and a query names a root
+-- the roots of a run are such, and so are the workers; and what a query names are roots
 abbrev pub IsSound : Order → Type 0
 IsSound (order.Run roots workers) = AreRoots roots × AreWorkers workers
 IsSound (order.Generate count workers) = AreWorkers workers

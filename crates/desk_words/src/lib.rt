@@ -8,7 +8,9 @@
 //! // generate --count=5000
 //! read_order(alloc, &more)?                // Order::Generate { count: 5000, workers: 1 }
 //! // calls --from in --package javax.servlet
-//! read_order(alloc, &calls)?               // Order::Calls { from: in, package: [javax, servlet] }
+//! read_order(alloc, &calls)?               // Order::Query(Query::Calls { from: in, package: [javax, servlet] })
+//! // compare --rules r --from in --other ./other/
+//! read_order(alloc, &compare)?             // Order::Query(Query::Compare { rules: r, from: in, other: other })
 //! ```
 #![tactic(auto)]
 

@@ -166,9 +166,20 @@ pub enum Order {
 #[derive(Debug, Drop)]
 pub enum Query {
     /// Where the classes below this root use members of the classes of this package, or of one below it.
-    Calls { from: Text, package: TextList },
+    Calls {
+        from: Text,
+        package: TextList,
+    },
+    /// Whether the application below `other` is what the rules in this folder make of the application below `from`.
+    Compare {
+        rules: Text,
+        from: Text,
+        other: Text,
+    },
     /// The inverse of the rules in this folder.
-    Invert { rules: Text },
+    Invert {
+        rules: Text,
+    },
 }
 
 /// Why words ask for nothing that can be done.
@@ -293,6 +304,16 @@ fn calls_query(alloc: Global, from: &Root, package: TextList) -> Result<Order, M
     Ok(Order::Query(Query::Calls { from, package }))
 }
 
+/// What is asked of two applications.
+fn compare_query(alloc: Global, rules: &Root, from: &Root, other: &Root) -> Result<Order, Memory>
+    ensures { IfOk result (λ given. given ≡ order.Query (query.Compare (written rules.now) (written from.now) (written other.now))) }
+{
+    let rules = rules.written(alloc)?;
+    let from = from.written(alloc)?;
+    let other = other.written(alloc)?;
+    Ok(Order::Query(Query::Compare { rules, from, other }))
+}
+
 /// What is asked of the rules in a folder.
 fn invert_query(alloc: Global, rules: &Root) -> Result<Order, Memory>
     ensures { IfOk result (λ given. given ≡ order.Query (query.Invert (written rules.now))) }
@@ -325,6 +346,9 @@ fn order_of(alloc: Global, words: &[Text]) -> Result<Order, RootsFault>
             },
         ) => Ok(generate_order(count, workers, sql)),
         Ok(Task::Calls { from, package }) => Ok(calls_query(alloc, &from, package)?),
+        Ok(Task::Compare { rules, from, other }) => Ok(compare_query(
+            alloc, &rules, &from, &other,
+        )?),
         Ok(Task::Invert { rules }) => Ok(invert_query(alloc, &rules)?),
         Err(WordsFault::Usage) => Err(RootsFault::Usage),
         Err(WordsFault::Memory) => Err(RootsFault::Memory),
@@ -333,6 +357,7 @@ fn order_of(alloc: Global, words: &[Text]) -> Result<Order, RootsFault>
 
 /// What words ask for: a run over roots, as they are written, a run over a generated application, or a query. The
 /// roots are such that paths stand below them, and of a run source and target have no path in common; the workers are 1 to 64.
+/// In a query roots may lie in each other.
 /// The errors: `Usage` of words without a task; `Nested` with the first two roots of which one lies
 /// in the other; `Memory`, which may come at any words.
 pub fn read_order(alloc: Global, words: &[Text]) -> Result<Order, RootsFault>

@@ -2,16 +2,16 @@
 
 ghost use Rattle.std.specs.Prelude.{◌≡◌, Some, None, Err, IfOk};
 ghost use Rattle.std.specs.Option.{option_and_then};
-ghost use Rattle.desk_options.specs.Values.{run_values, generate_values, calls_values, invert_values};
-ghost use Rattle.desk_words.specs.Words.{run_task, generate_task, calls_task, invert_task, task_of};
+ghost use Rattle.desk_options.specs.Values.{run_values, generate_values, calls_values, compare_values, invert_values};
+ghost use Rattle.desk_words.specs.Words.{run_task, generate_task, calls_task, compare_task, invert_task, task_of};
 
 use crate::numbers::{count_of, workers_of};
 use crate::packages::package_of;
 use crate::roots::Root;
 use desk_base::{Memory, Text, TextList};
 use desk_options::{
-    CallsValues, GenerateValues, InvertValues, RunValues, calls_values, generate_values,
-    invert_values, run_values,
+    CallsValues, CompareValues, GenerateValues, InvertValues, RunValues, calls_values,
+    compare_values, generate_values, invert_values, run_values,
 };
 use std::alloc::Global;
 
@@ -40,6 +40,12 @@ pub enum Task {
         from: Root,
         /// The segments of the package.
         package: TextList,
+    },
+    /// Whether another application is what rules make of an application.
+    Compare {
+        rules: Root,
+        from: Root,
+        other: Root,
     },
     /// The inverse of the rules in a folder.
     Invert {
@@ -115,6 +121,19 @@ fn calls_task(alloc: Global, values: &CallsValues) -> Result<Option<Task>, Memor
     }
 }
 
+/// The task of the values that `compare` is given, if they have one.
+fn compare_task(alloc: Global, values: &CompareValues) -> Result<Option<Task>, Memory>
+    ensures { IfOk result (λ task. task ≡ compare_task values.now) }
+{
+    let rules = Root::read(alloc, values.rules.as_bytes())?;
+    let from = Root::read(alloc, values.from.as_bytes())?;
+    let other = Root::read(alloc, values.other.as_bytes())?;
+    match (rules, from, other) {
+        (Some(rules), Some(from), Some(other)) => Ok(Some(Task::Compare { rules, from, other })),
+        _ => Ok(None),
+    }
+}
+
 /// The task of the value that `invert` is given, if it has one.
 fn invert_task(alloc: Global, values: &InvertValues) -> Result<Option<Task>, Memory>
     ensures { IfOk result (λ task. task ≡ invert_task values.now) }
@@ -155,6 +174,16 @@ fn calls_behind(alloc: Global, behind: &[Text]) -> Result<Option<Task>, Memory>
     }
 }
 
+/// The task of words behind `compare`.
+fn compare_behind(alloc: Global, behind: &[Text]) -> Result<Option<Task>, Memory>
+    ensures { IfOk result (λ task. task ≡ option_and_then compare_task (compare_values behind.now)) }
+{
+    match compare_values(alloc, behind)? {
+        Some(values) => compare_task(alloc, &values),
+        None => Ok(None),
+    }
+}
+
 /// The task of words behind `invert`.
 fn invert_behind(alloc: Global, behind: &[Text]) -> Result<Option<Task>, Memory>
     ensures { IfOk result (λ task. task ≡ option_and_then invert_task (invert_values behind.now)) }
@@ -177,6 +206,8 @@ fn task_of(alloc: Global, words: &[Text]) -> Result<Option<Task>, Memory>
                 generate_behind(alloc, behind)
             } else if first.as_bytes() == b"calls".as_slice() {
                 calls_behind(alloc, behind)
+            } else if first.as_bytes() == b"compare".as_slice() {
+                compare_behind(alloc, behind)
             } else if first.as_bytes() == b"invert".as_slice() {
                 invert_behind(alloc, behind)
             } else {
@@ -189,9 +220,10 @@ fn task_of(alloc: Global, words: &[Text]) -> Result<Option<Task>, Memory>
 
 /// Reads words: `run`, and behind it the options `--rules R`, `--from A`, `--to B`, `--ledger L` and, if
 /// they are wanted, `--workers N` and `--verify`, in any order; or `generate`, and behind it `--count N` and, if
-/// they are wanted, `--workers N` and `--sql`; or `calls`, and behind it `--from A` and `--package P`; or `invert`, and behind
-/// it `--rules R`. An option with a value is two words, `--name value`, whose second doesn't
-/// begin with `-`, or one word, `--name=value`; `--verify` and `--sql` have no value. Each is given at most once.
+/// they are wanted, `--workers N` and `--sql`; or `calls`, and behind it `--from A` and `--package P`; or `compare`, and
+/// behind it `--rules R`, `--from A` and `--other B`; or `invert`, and behind it `--rules R`. An option with a value is two
+/// words, `--name value`, whose second doesn't begin with `-`, or one word, `--name=value`; `--verify` and `--sql` have no
+/// value. Each is given at most once.
 ///
 /// A root isn't empty, has at most 1,024 bytes and no part `..`. The number of workers is 1 to 64, and 1
 /// where it isn't given; the count is 1 to 20,000. Numbers are decimal digits without a sign or a leading
