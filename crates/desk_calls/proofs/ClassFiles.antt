@@ -8,7 +8,9 @@ use Rattle.desk_base.specs.Limits.{file_size}
 use Rattle.desk_base.specs.Names.{Text, Package}
 use Rattle.desk_base.proofs.Results.{at_some}
 use Rattle.desk_folders.specs.Contents.{Contents, File, file_at, files_below, paths_below}
-use Rattle.desk_intake.specs.Limits.{paths_answer}
+use Rattle.desk_intake.specs.Halts.{HaltsAt}
+use Rattle.desk_intake.specs.Limits.{itself, paths_answer}
+use Rattle.desk_intake.specs.Standing.{first_of}
 use Rattle.desk_intake.specs.declared.halts.Halt.{Halt}
 use Rattle.desk_intake.specs.declared.halts.Halt.TheVariants as halt
 use Rattle.desk_readings.proofs.Fronts.{if_some, split_at}
@@ -16,10 +18,10 @@ use Rattle.desk_report.specs.declared.status.LimitKind.TheVariants.{FileSize}
 use Rattle.desk_report.specs.declared.status.Status.{Status}
 use Rattle.desk_report.specs.declared.status.Status.TheVariants.{Limit}
 use Rattle.desk_sites.specs.declared.class.ClassSites.{ClassSites}
-use Rattle.desk_calls.specs.Answers.{calls_answer, first_of, found_among, found_in, limit_answer, unless_limit}
+use Rattle.desk_calls.specs.Answers.{calls_answer, found_among, found_in, limit_answer, unless_limit}
 use Rattle.desk_calls.specs.Files.{classes_of, sites_in}
-use Rattle.desk_calls.specs.Listings.{class_size_answer, is_class_file, itself}
-use Rattle.desk_calls.specs.Reading.{HaltsAnswering, HaltsAt, ReadsOne}
+use Rattle.desk_calls.specs.Listings.{class_size_answer, is_class_file}
+use Rattle.desk_calls.specs.Reading.{HaltsAnswering, ReadsOne}
 use Rattle.desk_calls.specs.Told.{calls_of}
 use Rattle.desk_calls.specs.declared.batches.ClassFile.{ClassFile}
 use Rattle.desk_calls.specs.declared.telling.Calls.{Calls}

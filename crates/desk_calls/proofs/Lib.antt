@@ -1,3 +1,2 @@
-pub mod Short
 pub mod Totals
 pub mod ClassFiles

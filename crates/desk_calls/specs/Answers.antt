@@ -2,12 +2,13 @@
 use Rattle.std.specs.Prelude.{List, Option, Some, None, Result, Ok, Err, filter, map}
 use Rattle.desk_base.specs.Names.{Text, Package}
 use Rattle.desk_folders.specs.Contents.{Contents, File, files_below, paths_below}
-use Rattle.desk_intake.specs.Limits.{paths_answer}
+use Rattle.desk_intake.specs.Limits.{itself, paths_answer}
+use Rattle.desk_intake.specs.Standing.{first_of}
 use Rattle.desk_report.specs.declared.status.Status.{Status}
 use Rattle.desk_sites.specs.Answers.{class_sites}
 use Rattle.desk_sites.specs.declared.class.ClassSites.{ClassSites}
 use Rattle.desk_calls.specs.declared.telling.Calls.{Calls}
-use Rattle.desk_calls.specs.Listings.{class_size_answer, is_class_file, itself}
+use Rattle.desk_calls.specs.Listings.{class_size_answer, is_class_file}
 use Rattle.desk_calls.specs.Told.{calls_of}
 
 -- what is found of a class file
@@ -17,11 +18,6 @@ found_in scope file = class_sites scope file.path file.bytes
 -- what is found of the class files among files
 abbrev pub found_among : Package → List File → List ClassSites
 found_among scope files = map (found_in scope) (filter is_class_file files)
-
--- the first of two that stands
-abbrev pub first_of : Option Status → Option Status → Option Status
-first_of None later = later
-first_of (Some status) later = Some status
 
 -- what stands against the files below a root: that they are too many, that a path is too long, or that a class file has too many bytes
 abbrev pub limit_answer : Text → Contents → Option Status

@@ -10,10 +10,6 @@ use Rattle.desk_report.specs.declared.status.LimitKind.TheVariants.{FileSize}
 use Rattle.desk_report.specs.declared.status.Status.{Status}
 use Rattle.desk_report.specs.declared.status.Status.TheVariants.{Limit}
 
--- a path has no other target than itself, since nothing is written
-abbrev pub itself : Text → Text
-itself path = path
-
 abbrev pub is_class_kind : Kind → Bool
 is_class_kind Service = false
 is_class_kind Manifest = false

@@ -5,6 +5,7 @@ use Rattle.desk_base.specs.Names.{Text, Package}
 use Rattle.desk_folders.specs.Contents.{Contents, file_at}
 use Rattle.desk_report.specs.declared.status.Status.{Status}
 use Rattle.desk_report.specs.declared.status.Status.TheVariants.{Limit}
+use Rattle.desk_intake.specs.Halts.{is_limit}
 use Rattle.desk_intake.specs.declared.halts.Halt.{Halt}
 use Rattle.desk_intake.specs.declared.halts.Halt.TheVariants.{Memory, Folders, Answer}
 use Rattle.desk_sites.specs.declared.class.ClassSites.{ClassSites}
@@ -23,18 +24,6 @@ pub record HasFound (scope : Package) (from : Text) (m : Contents) (paths : List
 pub record ReadsOne (from : Text) (m : Contents) (path : Text) (read : Option ClassFile) : Type 0 where
   pub are : (scope : Package) → map (sites_in scope) (classes_of read) ≡ found_among scope (file_at from m path ∷ [])
   pub fits : class_size_answer (file_at from m path ∷ []) ≡ None
-
--- a limit that is passed
-abbrev pub is_limit : Status → Bool
-is_limit (Limit kind path) = true
-is_limit _ = false
-
--- a step halts: want of memory, a fault of the folders, or a limit that is passed, as an answer tells
-abbrev pub HaltsAt : (Contents → Option Status) → Option Contents → ℕ → ℕ → Halt → Type 0
-HaltsAt answer told f f' Memory = Unit {0}
-HaltsAt answer told f f' Folders = Rose f f'
-HaltsAt answer told f f' (Answer status) = (is_limit status ≡ true) × IfSome told (λ m. answer m ≡ Some status)
-HaltsAt answer told f f' _ = ⊥
 
 -- the question isn't answered: want of memory, a fault of the folders, or what stands against the application
 abbrev pub HaltsAnswering : (Contents → Result Calls Status) → Option Contents → ℕ → ℕ → Halt → Type 0

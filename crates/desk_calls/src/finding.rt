@@ -9,14 +9,14 @@ ghost use Rattle.desk_folders.specs.Contents.{bytes_at, file_at, paths_below};
 ghost use Rattle.desk_readings.specs.Sizes.{within};
 ghost use Rattle.desk_calls.specs.Answers.{calls_answer};
 ghost use Rattle.desk_calls.specs.Listings.{class_size_answer, is_class};
-ghost use Rattle.desk_calls.specs.Reading.{HaltsAnswering, HaltsAt, ReadsOne};
+ghost use Rattle.desk_calls.specs.Reading.{HaltsAnswering, ReadsOne};
+ghost use Rattle.desk_intake.specs.Halts.{HaltsAt};
 
 use crate::batches::{ClassFile, Finding};
-use crate::listing::{limit, list_paths};
 use crate::telling::{Calls, calls_of};
 use desk_base::{MAX_FILE_SIZE, Text, TextList};
 use desk_folders::{FolderFault, Folders};
-use desk_intake::Halt;
+use desk_intake::{Halt, limit, list_paths};
 use desk_paths::{Kind, place};
 use desk_readings::{Content, full_path, read_whole};
 use desk_report::LimitKind;

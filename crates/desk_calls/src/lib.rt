@@ -11,7 +11,6 @@
 
 mod batches;
 mod finding;
-mod listing;
 mod telling;
 
 pub use finding::find_calls;

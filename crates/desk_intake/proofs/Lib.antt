@@ -4,3 +4,5 @@ pub mod Parts
 pub mod Sizes
 pub mod Taking
 pub mod Routed
+pub mod Short
+pub mod Listed

@@ -20,7 +20,7 @@ use Rattle.desk_base.proofs.Results.{at_some}
 use Rattle.desk_ledger.specs.Digests.{HasTaken}
 use Rattle.desk_report.specs.declared.status.Status.{Status}
 use Rattle.desk_report.specs.declared.status.LimitKind.TheVariants.{RuleFiles}
-use Rattle.desk_report.specs.declared.status.Status.TheVariants.{Done, Refusals, Memory, FolderFault, LedgerFault, OutputFault, Usage, NestedRoots, BadRules, Limit, PathClash, NameClash, Stranded, OtherRun, Moved, NotInvertible}
+use Rattle.desk_report.specs.declared.status.Status.TheVariants.{Done, Refusals, Memory, FolderFault, LedgerFault, OutputFault, Usage, NestedRoots, BadRules, Limit, PathClash, NameClash, Stranded, OtherRun, Moved, NotInvertible, Differs}
 use Rattle.desk_rules.specs.Files.{Files}
 use Rattle.desk_rules.specs.RuleFiles.{rules_of_files}
 use Rattle.desk_rules.specs.declared.RuleFault.{RuleFault}
@@ -170,6 +170,7 @@ built_err root told now paths taken f f' (Err h) same listed few all g = by h g 
   by (halt.Answer (Stranded path held)) g = absurd g
   by (halt.Answer (Moved path one other)) g = absurd g
   by (halt.Answer (NotInvertible fault)) g = absurd g
+  by (halt.Answer (Differs path)) g = absurd g
   by (halt.Answer (OtherRun kept wanted)) g = absurd g
 
 -- before the first is taken in

@@ -1,4 +1,5 @@
 pub mod Limits
+pub mod Standing
 pub mod Apart
 pub mod Routes
 pub mod Rulings

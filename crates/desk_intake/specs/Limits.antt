@@ -23,6 +23,10 @@ most_rule_files = 1000
 abbrev pub is_short : Text → Bool
 is_short text = nat_le (length text) path_length
 
+-- a path has no other target than itself where nothing is written
+abbrev pub itself : Text → Text
+itself path = path
+
 -- the first of these paths that is too long, or whose target is
 abbrev pub first_long : (Text → Text) → List Text → Option Text
 first_long target [] = None

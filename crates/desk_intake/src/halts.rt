@@ -114,7 +114,7 @@ impl From<GraphFault> for Halt {
 }
 
 /// The answer that a path passes a limit.
-pub(crate) fn limit(kind: LimitKind, path: Text) -> Halt
+pub fn limit(kind: LimitKind, path: Text) -> Halt
     ensures { result ≡ Halt.Answer (Status.Limit kind path) }
 {
     Halt::Answer(Status::Limit { kind, path })

@@ -1,5 +1,5 @@
-//! What a run takes in before it reads its files: the rules of the rule folder, and the list of the files of the source with their
-//! routes; and why it halts before its first file is written.
+//! What a run takes in before its first file is written: the rules of the rule folder, the list of the files of the source with their
+//! routes, and the graph of its classes; and why it halts there.
 //!
 //! ```text
 //! let ruled = read_rules(alloc, &mut folders, &rules_root)?;
@@ -9,14 +9,19 @@
 //! ```
 #![tactic(auto)]
 
+mod clash;
+mod classes;
 mod halts;
 mod listing;
 mod rules;
 mod sources;
 
-pub use halts::Halt;
-pub use listing::list_routes;
+pub use clash::{HasRoute, refuse_clash};
+pub use classes::build_graph;
+pub use halts::{Halt, limit};
+pub use listing::{list_paths, list_routes};
 pub use rules::{Ruled, read_rules};
+pub use sources::read_below;
 
 /// How many files of the source a run takes at most.
 pub const MAX_FILES: u32 = 200_000;

@@ -12,8 +12,9 @@ use desk_folders::{FolderFault, Folders};
 use desk_readings::{full_path, read_whole};
 use std::alloc::Global;
 
-/// Reads a file below a root whole, or finds that it has more bytes than a limit.
-pub(crate) fn read_below<F: Folders>(
+/// Reads a file below a root whole; none where it has more than `most` bytes. The errors are a fault of the folders and want of
+/// memory.
+pub fn read_below<F: Folders>(
     alloc: Global,
     folders: &mut F,
     root: &Text,

@@ -3,9 +3,8 @@ use Rattle.std.proofs.Common.{◌≡◌, ◌<◌, ◌≤◌, ℕ, ◌+◌, true,
 use Rattle.std.specs.Prelude.{◌&&◌, if◌then◌else◌}
 use Rattle.std.proofs.lemmas.List.{drop_all}
 use Rattle.desk_base.specs.Names.{Text}
-use Rattle.desk_intake.specs.Limits.{first_long, is_short}
+use Rattle.desk_intake.specs.Limits.{first_long, is_short, itself}
 use Rattle.desk_intake.proofs.Taking.{left_at}
-use Rattle.desk_calls.specs.Listings.{itself}
 
 -- a path that is short is passed over
 pub short_on : (paths : List Text) (i : ℕ) (path : Text) (all : Option Text) → i < length paths → path ≡ get_or paths i path → is_short path ≡ true → first_long itself (drop i paths) ≡ all → first_long itself (drop (i + 1) paths) ≡ all
