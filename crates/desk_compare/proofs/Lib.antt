@@ -7,4 +7,6 @@ mod Levels
 mod SameValues
 mod SameCodes
 mod SameClasses
+pub mod Deciding
+pub mod Verdicts
 mod Merge

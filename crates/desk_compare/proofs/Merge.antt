@@ -1,12 +1,9 @@
 -- Two lists of files, walked in lock step.
-use Rattle.std.proofs.Common.{◌≡◌, ◌≤◌, All, true, false, List, [], ◌∷◌, length, Option, Some, None, bytes_eq, refl, sym, ap, subst, ◌∙◌, ◌↔◌, ◌⊎◌, inl, inr, Bool, Result, Ok, Err, IfOk, arith}
-use Rattle.std.specs.Ordering.{nat_cmp, ordering_reverse}
+use Rattle.std.proofs.Common.{◌≡◌, ◌≤◌, All, true, false, List, [], ◌∷◌, length, Option, Some, None, bytes_eq, refl, sym, ap, subst, ◌∙◌, ◌↔◌, ◌⊎◌, inl, inr, Result, Ok, Err, IfOk, arith}
+use Rattle.std.specs.Ordering.{nat_cmp}
 use Rattle.std.specs.Cmp.Lexicographic.{slice_cmp}
-use Rattle.std.specs.declared.cmp.Ordering.{Ordering}
 use Rattle.std.specs.declared.cmp.Ordering.TheVariants.{Less, Equal, Greater}
-use Rattle.std.proofs.lemmas.Cmp.{nat_list_cmp_total}
 use Rattle.std.proofs.lemmas.Bool.{cases_Bool}
-use Rattle.std.proofs.lemmas.Map.Text.{is_eq-slice_cmp}
 use Rattle.std.proofs.lemmas.Slice.Eq.{bytes_eq-Decides}
 use Rattle.desk_base.specs.Names.{Text}
 use Rattle.desk_folders.specs.declared.folders.GenFile.{GenFile}
@@ -19,6 +16,8 @@ use Rattle.std.specs.List.{AllByRecursion}
 use Rattle.std.specs.List.Sorted.{IsStrictlySortedBy}
 use Rattle.std.proofs.lemmas.List.Elements.{All-head, All-tail}
 use Rattle.desk_compare.specs.Verdicts.{paths_of, IsShort, IsLess, content_at, holds_class, SameContents, SameAt, DifferentContents, FindsDifference, DifferentAt, AreSame, IsLeastDifference, IfDiffers}
+use Rattle.desk_compare.specs.Deciding.{verdict_of}
+use Rattle.desk_compare.proofs.Verdicts.{not_less, less_on, turned, equal, nothing_differs, IsVerdict, verdict_same, verdict_differs, verdict_only}
 
 -- ---- files in order
 
@@ -40,22 +39,6 @@ are_files [] h k = tt
 are_files (f ∷ fs) h k = (All-head IsShort f fs k, before_all f.path fs h.0, are_files fs h.1 (All-tail IsShort f fs k))
 
 -- ---- order
-
-not_less : (p : Text) → IsLess p p → ⊥
-not_less p h = let e : slice_cmp nat_cmp p p ≡ ordering_reverse (slice_cmp nat_cmp p p) = nat_list_cmp_total.antisymm p p in apart (slice_cmp nat_cmp p p) h e where
-  apart : (o : Ordering) → o ≡ Less → o ≡ ordering_reverse o → ⊥
-  apart Less h e = absurd cc
-  apart Equal h e = absurd cc
-  apart Greater h e = absurd cc
-
-less_on : (p q r : Text) → IsLess p q → IsLess q r → IsLess p r
-less_on p q r h k = nat_list_cmp_total.trans p q r h k
-
-pub turned : (p q : Text) → slice_cmp nat_cmp p q ≡ Greater → IsLess q p
-turned p q h = nat_list_cmp_total.antisymm q p ∙ ap ordering_reverse h
-
-pub equal : (p q : Text) → slice_cmp nat_cmp p q ≡ Equal → p ≡ q
-equal p q h = (bytes_eq-Decides p q).0 (sym (is_eq-slice_cmp p q) ∙ rw h refl)
 
 other_path : (p q : Text) → IsLess q p → bytes_eq p q ≡ false
 other_path p q h =
@@ -83,54 +66,6 @@ at_head f fs p e = let same : bytes_eq f.path p ≡ true = (bytes_eq-Decides f.p
 at_tail : (f : GenFile) (fs : List GenFile) (p : Text) → bytes_eq f.path p ≡ false → content_at (f ∷ fs) p ≡ content_at fs p
 at_tail f fs p e = rw e refl
 
-nothing_differs : (p : Text) (what : What) → DifferentAt p None None what → ⊥
-nothing_differs p whats.Missing h = h
-nothing_differs p whats.Extra h = h
-nothing_differs p whats.Bytes h = h
-nothing_differs p whats.Malformed h = h
-nothing_differs p whats.Tree h = h
-
--- ---- verdicts
-
-of_contents : (form : Bool) (a b : Text) (what : What) → DifferentContents form a b what → SameContents form a b → ⊥
-of_contents true a b whats.Malformed d g = d g.0
-of_contents true a b whats.Tree d g = d.1 g.1
-of_contents true a b whats.Missing d g = d
-of_contents true a b whats.Extra d g = d
-of_contents true a b whats.Bytes d g = d
-of_contents false a b whats.Bytes d g = d g
-of_contents false a b whats.Malformed d g = d
-of_contents false a b whats.Tree d g = d
-of_contents false a b whats.Missing d g = d
-of_contents false a b whats.Extra d g = d
-
--- nothing both differs and is the same
-apart_at : (p : Text) (l r : Option Text) (what : What) → DifferentAt p l r what → SameAt p l r → ⊥
-apart_at p None None what d g = nothing_differs p what d
-apart_at p (Some a) None what d g = g
-apart_at p None (Some b) what d g = g
-apart_at p (Some a) (Some b) what d g = of_contents (holds_class p a) a b what (both what d) g where
-  both : (what : What) → DifferentAt p (Some a) (Some b) what → DifferentContents (holds_class p a) a b what
-  both whats.Missing h = h
-  both whats.Extra h = h
-  both whats.Bytes h = h
-  both whats.Malformed h = h
-  both whats.Tree h = h
-
--- a verdict that says exactly what two lists are to each other
-pub record IsVerdict (left right : List GenFile) (verdict : Verdict) : Type 0 where
-  pub same : (verdict ≡ verdicts.Same) ↔ AreSame left right
-  pub differs : IfDiffers verdict (IsLeastDifference left right)
-
-verdict_same : (left right : List GenFile) → AreSame left right → IsVerdict left right verdicts.Same
-verdict_same left right h = record { same = ((λ e. h), (λ g. refl)); differs = tt }
-
-verdict_differs : (left right : List GenFile) (p : Text) (what : What) → IsLeastDifference left right p what → IsVerdict left right (verdicts.Differs p what)
-verdict_differs left right p what d = record {
-  same = ((λ e. absurd cc), (λ g. absurd (apart_at p (content_at left p) (content_at right p) what d.different (g p))));
-  differs = d;
-}
-
 -- ---- what is left of both
 
 -- each path was passed and they agree there, or what is left has what the lists have there
@@ -148,7 +83,7 @@ module _ (left right : List GenFile) where
   pub start : IsStrictlySortedBy (slice_cmp nat_cmp) (paths_of left) → All IsShort left → IsStrictlySortedBy (slice_cmp nat_cmp) (paths_of right) → All IsShort right → IsAhead left right left right
   start a b c d = record { passed = λ q. inr (refl, refl); left_files = are_files left a b; right_files = are_files right c d }
 
-  pub finish : IsAhead left right [] [] → IsVerdict left right verdicts.Same
+  finish : IsAhead left right [] [] → IsVerdict left right verdicts.Same
   finish h = verdict_same left right (λ p.
       elim (h.passed p) [
         | inl x ↦ x.0
@@ -248,17 +183,21 @@ empty : {A : Type 0} (xs : List A) → length xs ≡ 0 → xs ≡ []
 empty [] h = refl
 empty (x ∷ xs) h = absurd (omega arith)
 
--- both clauses on a result
+-- all clauses on a result
 pub record IsExact (left right : List GenFile) {E : Type 0} (result : Result Verdict E) : Type 0 where
   pub same : IfOk result (λ (v : Verdict). (v ≡ verdicts.Same) ↔ AreSame left right)
   pub differs : IfOk result (λ (v : Verdict). IfDiffers v (IsLeastDifference left right))
+  pub exact : IfOk result (λ (v : Verdict). v ≡ verdict_of left right)
 
 pub told : {E : Type 0} (result : Result Verdict E) (v : Verdict) (left right : List GenFile) → IfOk result (λ x. x ≡ v) → IsVerdict left right v → IsExact left right result
-told (Ok x) v left right e h = let k = subst (IsVerdict left right) (sym e) h in record { same = k.same; differs = k.differs }
-told (Err e) v left right k h = record { same = tt; differs = tt }
+told (Ok x) v left right e h = let k = subst (IsVerdict left right) (sym e) h in record { same = k.same; differs = k.differs; exact = verdict_only left right x k }
+told (Err e) v left right k h = record { same = tt; differs = tt; exact = tt }
 
 ahead_at : (left right one other one' other' : List GenFile) → IsAhead left right one other → one ≡ one' → other ≡ other' → IsAhead left right one' other'
 ahead_at left right one other one' other' h p q = subst (λ (x : List GenFile). IsAhead left right x other') p (subst (IsAhead left right one) q h)
+
+pub as_same : (left right one other : List GenFile) → IsAhead left right one other → length one ≡ 0 → length other ≡ 0 → IsVerdict left right verdicts.Same
+as_same left right one other h p q = finish left right (ahead_at left right one other [] [] h (empty one p) (empty other q))
 
 module _ (left right one other : List GenFile) (h : IsAhead left right one other) {E : Type 0} (result : Result Verdict E) where
   pub as_missing_last : (a : GenFile) (as' : List GenFile) → one ≡ a ∷ as' → length other ≡ 0 → IfOk result (λ x. x ≡ verdicts.Differs a.path whats.Missing) → IsExact left right result

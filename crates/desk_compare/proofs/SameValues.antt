@@ -124,7 +124,7 @@ tag_back None = refl
 tag_back (Some tags.Utf8) = refl
 tag_back (Some _) = refl
 
-same_tag : (o p : Option Tag) → tag_number o ≡ tag_number p → o ≡ p
+pub same_tag : (o p : Option Tag) → tag_number o ≡ tag_number p → o ≡ p
 same_tag o p h = sym (tag_back o) ∙ ap tag_by h ∙ tag_back p
 
 -- ---- two entries

@@ -8,6 +8,7 @@ ghost use Rattle.desk_base.specs.Limits.{file_size};
 ghost use Rattle.desk_format.specs.Classes.{class_fault};
 ghost use Rattle.desk_compare.specs.declared.files.Verdict.TheVariants as verdicts;
 ghost use Rattle.desk_compare.specs.Verdicts.{paths_of, IsShort, AreSame, IfDiffers, IsLeastDifference, FindsDifference, holds_class, is_class, is_sound};
+ghost use Rattle.desk_compare.specs.Deciding.{verdict_of};
 ghost use Rattle.desk_paths.specs.Kinds.{kind_of};
 
 use crate::classes::same_class;
@@ -97,7 +98,7 @@ fn compare_class_files(alloc: Global, left: &[u8], right: &[u8]) -> Result<Optio
     }
 }
 
-/// How two contents at a path differ. The only error is want of memory.
+/// How two contents at a path differ. The same bytes are the same, and aren't read as classes. The only error is want of memory.
 fn compare_contents(
     alloc: Global,
     path: &[u8],
@@ -108,6 +109,9 @@ fn compare_contents(
     requires right_short { length right.now ≤ file_size }
     ensures { IfOk result (λ found. FindsDifference (holds_class path.now left.now) left.now right.now found) }
 {
+    if left == right {
+        return Ok(None);
+    }
     if is_class(path) {
         compare_class_files(alloc, left, right)
     } else {
@@ -126,7 +130,6 @@ fn differs(file: &GenFile, what: What) -> Result<Verdict, Memory>
 /// Compares two lists of files, each in byte order of its paths, each path once. Two well-formed classes are the same where
 /// nothing but their constant pools differs and each index leads to the same value, also those in code that reads to its end; any
 /// other content is compared by its bytes. Two classes at a time are in memory beside the lists. The only error is want of memory.
-#[tactic(auto, using(crate::proofs::Merge::finish))]
 pub fn compare(alloc: Global, left: &[GenFile], right: &[GenFile]) -> Result<Verdict, Memory>
     requires left_paths { IsStrictlySortedBy (slice_cmp nat_cmp) (paths_of left.now) }
     requires left_sizes { All IsShort left.now }
@@ -134,6 +137,7 @@ pub fn compare(alloc: Global, left: &[GenFile], right: &[GenFile]) -> Result<Ver
     requires right_sizes { All IsShort right.now }
     ensures same { IfOk result (λ verdict. (verdict ≡ verdicts.Same) ↔ AreSame left.now right.now) }
     ensures differs { IfOk result (λ verdict. IfDiffers verdict (IsLeastDifference left.now right.now)) }
+    ensures exact { IfOk result (λ verdict. verdict ≡ verdict_of left.now right.now) }
 {
     let mut one = left;
     let mut other = right;
