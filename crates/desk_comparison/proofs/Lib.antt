@@ -1,0 +1,5 @@
+pub mod Firsts
+pub mod Rooms
+pub mod Applications
+pub mod Makes
+pub mod Ends

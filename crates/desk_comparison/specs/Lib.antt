@@ -1,0 +1,7 @@
+pub mod Sizes
+pub mod Images
+pub mod Files
+pub mod Told
+pub mod Answers
+pub mod Makings
+pub mod Halts
