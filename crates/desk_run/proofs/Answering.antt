@@ -1,12 +1,13 @@
 -- The answers of queries.
-use Rattle.std.proofs.Common.{◌≡◌, ◌≤◌, ◌⊎◌, inl, inr, ℕ, true, false, List, [], Option, Some, None, refl, sym, ap, ◌∙◌, subst, Result, Ok, Err}
+use Rattle.std.proofs.Common.{◌≡◌, ◌≤◌, ◌⊎◌, ℕ, true, false, [], Option, Some, None, refl, sym, ap, ◌∙◌, subst, Ok, Err}
 use Rattle.std.specs.Prelude.{IfSome}
 use Rattle.desk_base.specs.Counts.{Rose, Rose-later}
 use Rattle.desk_base.specs.Names.{Text, Package}
 use Rattle.desk_calls.specs.Answers.{calls_answer}
-use Rattle.desk_calls.specs.Reading.{HaltsAnswering, is_limit}
+use Rattle.desk_calls.specs.Reading.{HaltsAnswering}
+use Rattle.desk_comparison.specs.Halts.{HaltsComparing, IsEnd, is_comparison_status}
 use Rattle.desk_folders.specs.Contents.{Contents, files_below}
-use Rattle.desk_intake.specs.Halts.{HaltsAtRules, is_rules_status}
+use Rattle.desk_intake.specs.Halts.{HaltsAtRules, is_limit, is_rules_status}
 use Rattle.desk_intake.specs.Rulings.{ruled}
 use Rattle.desk_intake.specs.declared.rules.Ruled.{Ruled}
 use Rattle.desk_intake.specs.declared.halts.Halt.{Halt}
@@ -15,13 +16,13 @@ use Rattle.desk_invert.specs.Answers.{IsFaultOf, inversion}
 use Rattle.desk_invert.specs.declared.InvertError.{InvertError}
 use Rattle.desk_invert.specs.declared.InvertError.TheVariants as error
 use Rattle.desk_report.specs.declared.status.Status.{Status}
-use Rattle.desk_report.specs.declared.status.Status.TheVariants.{Done, Refusals, Memory, FolderFault, LedgerFault, OutputFault, Usage, NestedRoots, BadRules, Limit, PathClash, NameClash, Stranded, OtherRun, Moved, NotInvertible}
+use Rattle.desk_report.specs.declared.status.Status.TheVariants.{Done, Refusals, Memory, FolderFault, LedgerFault, OutputFault, Usage, NestedRoots, BadRules, Limit, PathClash, NameClash, Stranded, OtherRun, Moved, NotInvertible, Differs}
 use Rattle.desk_report.specs.Texts.{fault_text}
 use Rattle.desk_report.specs.Written.{WritesFront, writing}
 use Rattle.desk_words.specs.declared.roots.Query.{Query}
 use Rattle.desk_words.specs.declared.roots.Query.TheVariants as query
-use Rattle.desk_run.specs.Queries.{Answer, AnswersQuery, HaltsQuery, IsAnswered, IsBegun, IsBroken, IsEnd, LeavesAnswer, WritesText, answer_of, halt_of_inverse, inverse_by, stands_against, told_calls, told_inverse}
-use Rattle.desk_run.specs.Named.{WhereCalls, WhereInvert}
+use Rattle.desk_run.specs.Queries.{Answer, AnswersQuery, HaltsQuery, IsAnswered, IsBegun, IsBroken, LeavesAnswer, WritesText, answer_of, halt_of_inverse, inverse_by, stands_against, told_calls, told_inverse}
+use Rattle.desk_run.specs.Named.{WhereCalls, WhereCompare, WhereInvert}
 use Rattle.desk_run.specs.Stops.{status_of_halt}
 use Rattle.desk_run.proofs.Promised.{front_of_line, no_line, plain}
 
@@ -59,6 +60,7 @@ answers_of asked told (NameClash defined other image) old mid new f f' o o1 o2 l
 answers_of asked told (Stranded path held) old mid new f f' o o1 o2 le later a w = (a.0, a.1, plain (fault_text (Stranded path held)) old mid new o o1 o2 le a.2 w)
 answers_of asked told (Moved path one other) old mid new f f' o o1 o2 le later a w = (a.0, a.1, plain (fault_text (Moved path one other)) old mid new o o1 o2 le a.2 w)
 answers_of asked told (NotInvertible fault) old mid new f f' o o1 o2 le later a w = (a.0, a.1, plain (fault_text (NotInvertible fault)) old mid new o o1 o2 le a.2 w)
+answers_of asked told (Differs path) old mid new f f' o o1 o2 le later a w = if_some_map told _ _ (λ m h. answered_behind (answer_of asked m) old mid new o1 o2 (Differs path) h w) a
 
 -- ---- up to it
 
@@ -81,6 +83,7 @@ reply_tells asked told text end (NameClash defined other image) old new f f' o o
 reply_tells asked told text end (Stranded path held) old new f f' o o' is have w = absurd (subst IsEnd (sym w.0) is)
 reply_tells asked told text end (Moved path one other) old new f f' o o' is have w = absurd (subst IsEnd (sym w.0) is)
 reply_tells asked told text end (NotInvertible fault) old new f f' o o' is have w = absurd (subst IsEnd (sym w.0) is)
+reply_tells asked told text end (Differs path) old new f f' o o' is have w = if_some_map told _ _ (λ m e. let P : Answer → Type 0 = λ a. IsAnswered a old new (Differs path) in subst P (sym e) (w.1, sym w.0)) have
 
 -- a status that stands against a query is told by its line alone
 against_tells : (asked : Query) (told : Option Contents) (status : Status) (old : Option Text) (f f' o : ℕ) → stands_against asked status ≡ true → IfSome told (λ m. answer_of asked m ≡ Err status)
@@ -101,6 +104,7 @@ against_tells (query.Calls from scope) told (NameClash defined other image) old 
 against_tells (query.Calls from scope) told (Stranded path held) old f f' o g h = (g, h, refl)
 against_tells (query.Calls from scope) told (Moved path one other) old f f' o g h = (g, h, refl)
 against_tells (query.Calls from scope) told (NotInvertible fault) old f f' o g h = (g, h, refl)
+against_tells (query.Calls from scope) told (Differs path) old f f' o g h = let e : false ≡ true = g in cc
 against_tells (query.Invert rules) told Done old f f' o g h = let e : false ≡ true = g in cc
 against_tells (query.Invert rules) told Refusals old f f' o g h = let e : false ≡ true = g in cc
 against_tells (query.Invert rules) told Memory old f f' o g h = let e : false ≡ true = g in cc
@@ -117,6 +121,24 @@ against_tells (query.Invert rules) told (NameClash defined other image) old f f'
 against_tells (query.Invert rules) told (Stranded path held) old f f' o g h = (g, h, refl)
 against_tells (query.Invert rules) told (Moved path one other) old f f' o g h = (g, h, refl)
 against_tells (query.Invert rules) told (NotInvertible fault) old f f' o g h = (g, h, refl)
+against_tells (query.Invert rules) told (Differs path) old f f' o g h = let e : false ≡ true = g in cc
+against_tells (query.Compare rules from other) told Done old f f' o g h = let e : false ≡ true = g in cc
+against_tells (query.Compare rules from other) told Refusals old f f' o g h = let e : false ≡ true = g in cc
+against_tells (query.Compare rules from other) told Memory old f f' o g h = let e : false ≡ true = g in cc
+against_tells (query.Compare rules from other) told (FolderFault done) old f f' o g h = let e : false ≡ true = g in cc
+against_tells (query.Compare rules from other) told (LedgerFault done) old f f' o g h = (g, h, refl)
+against_tells (query.Compare rules from other) told OutputFault old f f' o g h = let e : false ≡ true = g in cc
+against_tells (query.Compare rules from other) told Usage old f f' o g h = (g, h, refl)
+against_tells (query.Compare rules from other) told (NestedRoots first second) old f f' o g h = (g, h, refl)
+against_tells (query.Compare rules from other) told (BadRules fault) old f f' o g h = (g, h, refl)
+against_tells (query.Compare rules from other) told (OtherRun kept wanted) old f f' o g h = (g, h, refl)
+against_tells (query.Compare rules from other) told (Limit kind path) old f f' o g h = (g, h, refl)
+against_tells (query.Compare rules from other) told (PathClash first second) old f f' o g h = (g, h, refl)
+against_tells (query.Compare rules from other) told (NameClash defined held image) old f f' o g h = (g, h, refl)
+against_tells (query.Compare rules from other) told (Stranded path held) old f f' o g h = (g, h, refl)
+against_tells (query.Compare rules from other) told (Moved path one two) old f f' o g h = (g, h, refl)
+against_tells (query.Compare rules from other) told (NotInvertible fault) old f f' o g h = (g, h, refl)
+against_tells (query.Compare rules from other) told (Differs path) old f f' o g h = let e : false ≡ true = g in cc
 
 -- where there is no answer
 pub halt_tells : (asked : Query) (told : Option Contents) (h : Halt) (old : Option Text) (f f' o : ℕ) → HaltsQuery asked told f f' h → LeavesAnswer asked told old old f f' o o (status_of_halt h)
@@ -144,6 +166,7 @@ limit_against from scope (NameClash defined other image) e = e
 limit_against from scope (Stranded path held) e = e
 limit_against from scope (Moved path one other) e = e
 limit_against from scope (NotInvertible fault) e = e
+limit_against from scope (Differs path) e = e
 
 pub calls_halt : (from : Text) (scope : Package) (told : Option Contents) (f f' : ℕ) (h : Halt) → HaltsAnswering (calls_answer scope from) told f f' h → HaltsQuery (query.Calls from scope) told f f' h
 calls_halt from scope told f f' halt.Memory g = tt
@@ -170,6 +193,7 @@ rules_against rules (NameClash defined other image) e = e
 rules_against rules (Stranded path held) e = e
 rules_against rules (Moved path one other) e = e
 rules_against rules (NotInvertible fault) e = refl
+rules_against rules (Differs path) e = e
 
 pub rules_halt : (rules : Text) (told : Option Contents) (f f' : ℕ) (h : Halt) → HaltsAtRules rules told f f' h → HaltsQuery (query.Invert rules) told f f' h
 rules_halt rules told f f' halt.Memory g = tt
@@ -183,14 +207,49 @@ pub inverse_halt : (rules : Text) (told : Option Contents) (r : Ruled) (f f' : �
 inverse_halt rules told r f f' (error.Fault fault) have is = (refl, if_some_map told _ _ (λ m e. ap inverse_by e ∙ ap told_inverse is) have)
 inverse_halt rules told r f f' error.Memory have is = tt
 
--- ---- what a query leaves, as what is answered to calls and to invert
+-- ---- compare
+
+comparison_against : (rules from other : Text) (status : Status) → is_comparison_status status ≡ true → stands_against (query.Compare rules from other) status ≡ true
+comparison_against rules from other Done e = e
+comparison_against rules from other Refusals e = e
+comparison_against rules from other Memory e = e
+comparison_against rules from other (FolderFault done) e = e
+comparison_against rules from other (LedgerFault done) e = e
+comparison_against rules from other OutputFault e = e
+comparison_against rules from other Usage e = e
+comparison_against rules from other (NestedRoots first second) e = e
+comparison_against rules from other (BadRules fault) e = refl
+comparison_against rules from other (OtherRun kept wanted) e = e
+comparison_against rules from other (Limit kind path) e = refl
+comparison_against rules from other (PathClash first second) e = refl
+comparison_against rules from other (NameClash defined held image) e = refl
+comparison_against rules from other (Stranded path held) e = refl
+comparison_against rules from other (Moved path one two) e = e
+comparison_against rules from other (NotInvertible fault) e = e
+comparison_against rules from other (Differs path) e = e
+
+pub comparison_halt : (rules from other : Text) (told : Option Contents) (f f' : ℕ) (h : Halt) → HaltsComparing rules from other told f f' h → HaltsQuery (query.Compare rules from other) told f f' h
+comparison_halt rules from other told f f' halt.Memory g = tt
+comparison_halt rules from other told f f' halt.Folders g = g
+comparison_halt rules from other told f f' halt.Ledger g = absurd g
+comparison_halt rules from other told f f' (halt.Answer status) g = (comparison_against rules from other status g.0, g.1)
+
+-- ---- what a query leaves, as what is answered to calls, to compare and to invert
 
 pub calls_clause : (asked : Query) (told : Option Contents) (old new : Option Text) (f f' o o' : ℕ) (status : Status) → AnswersQuery asked told old new f f' o o' status
     → WhereCalls (λ from scope. AnswersQuery (query.Calls from scope) told old new f f' o o' status) asked
 calls_clause (query.Calls from scope) told old new f f' o o' status a = a
 calls_clause (query.Invert rules) told old new f f' o o' status a = tt
+calls_clause (query.Compare rules from other) told old new f f' o o' status a = tt
 
 pub invert_clause : (asked : Query) (told : Option Contents) (old new : Option Text) (f f' o o' : ℕ) (status : Status) → AnswersQuery asked told old new f f' o o' status
     → WhereInvert (λ rules. AnswersQuery (query.Invert rules) told old new f f' o o' status) asked
 invert_clause (query.Calls from scope) told old new f f' o o' status a = tt
+invert_clause (query.Compare rules from other) told old new f f' o o' status a = tt
 invert_clause (query.Invert rules) told old new f f' o o' status a = a
+
+pub compare_clause : (asked : Query) (told : Option Contents) (old new : Option Text) (f f' o o' : ℕ) (status : Status) → AnswersQuery asked told old new f f' o o' status
+    → WhereCompare (λ rules from other. AnswersQuery (query.Compare rules from other) told old new f f' o o' status) asked
+compare_clause (query.Calls from scope) told old new f f' o o' status a = tt
+compare_clause (query.Compare rules from other) told old new f f' o o' status a = a
+compare_clause (query.Invert rules) told old new f f' o o' status a = tt

@@ -22,12 +22,13 @@ use Rattle.desk_report.specs.declared.lines.Detail.{Detail}
 use Rattle.desk_report.specs.declared.lines.Reason.{Reason}
 use Rattle.desk_report.specs.declared.lines.Summary.{Summary}
 use Rattle.desk_report.specs.declared.status.Status.{Status}
-use Rattle.desk_report.specs.declared.status.Status.TheVariants.{Done, Refusals, Memory, FolderFault, LedgerFault, OutputFault, Usage, NestedRoots, BadRules, Limit, PathClash, NameClash, Stranded, OtherRun, Moved, NotInvertible}
+use Rattle.desk_report.specs.declared.status.Status.TheVariants.{Done, Refusals, Memory, FolderFault, LedgerFault, OutputFault, Usage, NestedRoots, BadRules, Limit, PathClash, NameClash, Stranded, OtherRun, Moved, NotInvertible, Differs}
 use Rattle.desk_report.specs.Texts.{summary_text}
 use Rattle.desk_report.specs.Written.{WritesFront, writing}
 use Rattle.desk_rules.specs.Rules.{Rules}
 use Rattle.desk_run.proofs.Splits.{Mapped, mapped}
-use Rattle.desk_run.specs.Answers.{names_answer, other_run, or_else, answer_of_run, first_answer, is_answer}
+use Rattle.desk_intake.specs.Standing.{names_answer}
+use Rattle.desk_run.specs.Answers.{other_run, or_else, answer_of_run, first_answer, is_answer}
 use Rattle.desk_run.specs.Endings.{WhereTold, Tells, Planned, LedgerEarly, HaltsEarly, AllWritten, Finishes, Reported, ReportedOf, StandsAt, IsDone, IsTold, IsWritten, StandsAfter, is_final}
 use Rattle.desk_run.specs.Meaning.{run_of_asked}
 use Rattle.desk_run.specs.Asked.{Asked}
@@ -166,6 +167,7 @@ finish_stands asked m0 l0 to header works f' k' (Moved path one other) p a =
     let s = stops_stands asked m0 l0 to header works a.done f' k' p a.stopped in
     record { m = s.m; l = s.l; folders = s.folders; ledger = s.ledger; holds = record { done = a.done; stands = s.holds } }
 finish_stands asked m0 l0 to header works f' k' (NotInvertible fault) p a = absurd a
+finish_stands asked m0 l0 to header works f' k' (Differs path) p a = absurd a
 finish_stands asked m0 l0 to header works f' k' (FolderFault done) p a = stopped_stands asked m0 l0 to header works done f' k' p a
 finish_stands asked m0 l0 to header works f' k' (LedgerFault done) p a = stops_stands asked m0 l0 to header works done f' k' p a
 finish_stands asked m0 l0 to header works f' k' Usage p a = absurd a
@@ -216,6 +218,7 @@ answer_stands asked m0 l0 m l (NameClash defined other image) e u = u
 answer_stands asked m0 l0 m l (Stranded path held) e u = u
 answer_stands asked m0 l0 m l (Moved path one other) e u = cc
 answer_stands asked m0 l0 m l (NotInvertible fault) e u = cc
+answer_stands asked m0 l0 m l (Differs path) e u = cc
 answer_stands asked m0 l0 m l Done e u = cc
 answer_stands asked m0 l0 m l Refusals e u = cc
 answer_stands asked m0 l0 m l Memory e u = cc
@@ -356,6 +359,7 @@ told_reported asked f0 f' k0 k' noted outcomes o o' (NameClash defined other ima
 told_reported asked f0 f' k0 k' noted outcomes o o' (Stranded path held) w t r = absurd t
 told_reported asked f0 f' k0 k' noted outcomes o o' (Moved path one other) w t r = absurd t
 told_reported asked f0 f' k0 k' noted outcomes o o' (NotInvertible fault) w t r = absurd t
+told_reported asked f0 f' k0 k' noted outcomes o o' (Differs path) w t r = absurd t
 
 pub told_stands : (asked : Asked) (f0 f' : Option Contents) (k0 k' : Option Ledger) (noted : List Noted) (outcomes : List Outcome) (status : Status)
     → WhereTold f0 k0 (λ m0 l0. Tells f' k' (λ m l. IsWritten asked m0 l0 m l noted outcomes)) → IsTold status → WhereTold f0 k0 (λ m0 l0. Tells f' k' (λ m l. StandsAfter asked m0 l0 m l status))
@@ -378,6 +382,7 @@ told_stands asked f0 f' k0 k' noted outcomes status w t = λ m0 l0 ef ek.
       by m0 l0 m l (Stranded path held) t d = absurd t
       by m0 l0 m l (Moved path one other) t d = absurd t
       by m0 l0 m l (NotInvertible fault) t d = absurd t
+      by m0 l0 m l (Differs path) t d = absurd t
 
 pub told_first : (asked : Asked) (f0 f' : Option Contents) (k0 k' : Option Ledger) (noted : List Noted) (outcomes : List Outcome) (status : Status)
     → WhereTold f0 k0 (λ m0 l0. Tells f' k' (λ m l. IsWritten asked m0 l0 m l noted outcomes)) → (is_final status ≡ true → status ≡ ending_by outcomes) → WhereTold f0 k0 (λ m l. is_final status ≡ true → status ≡ first_answer asked m l)

@@ -1,5 +1,5 @@
 -- From what was gathered, planned and written to what a run promises.
-use Rattle.std.proofs.Common.{All, ◌≡◌, ℕ, true, List, map, Option, Some, None, refl, ap, ◌∙◌, subst, IfSome, option_map}
+use Rattle.std.proofs.Common.{All, ◌≡◌, ℕ, List, map, Option, Some, None, refl, ap, ◌∙◌, subst, IfSome, option_map}
 use Rattle.desk_base.specs.Names.{Text}
 use Rattle.desk_base.proofs.Results.{at_some}
 use Rattle.desk_readings.proofs.Fronts.{if_some}
@@ -10,7 +10,7 @@ use Rattle.desk_batches.specs.declared.noted.Noted.{Noted}
 use Rattle.desk_batches.specs.declared.noted.Outcome.{Outcome}
 use Rattle.desk_batches.specs.declared.stops.Stop.{Stop}
 use Rattle.desk_file.specs.Linked.{image_in}
-use Rattle.desk_folders.specs.Contents.{Contents, files_below}
+use Rattle.desk_folders.specs.Contents.{Contents}
 use Rattle.desk_graph.specs.Graphs.{Graph, graph_of}
 use Rattle.desk_ledger.specs.Ledger.{Ledger, with_header}
 use Rattle.desk_words.specs.Roots.{AreRoots}

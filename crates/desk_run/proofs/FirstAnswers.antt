@@ -1,14 +1,13 @@
 -- Queries and generated applications end with their first answer.
-use Rattle.std.proofs.Common.{◌≡◌, ℕ, List, Option, Some, refl, sym, ap, ◌∙◌, subst, Bool, true, false, Result, Ok, Err}
+use Rattle.std.proofs.Common.{◌≡◌, ℕ, List, Option, Some, sym, ap, subst, true, false, Result, Ok, Err}
 use Rattle.std.specs.Prelude.{IfSome}
 use Rattle.desk_base.specs.Names.{Text}
 use Rattle.desk_folders.specs.Contents.{Contents}
 use Rattle.desk_ledger.specs.Ledger.{Ledger}
-use Rattle.desk_report.specs.declared.lines.Summary.{Summary}
 use Rattle.desk_report.specs.declared.status.Status.{Status}
-use Rattle.desk_report.specs.declared.status.Status.TheVariants.{Done, Refusals, Memory, FolderFault, LedgerFault, OutputFault, Usage, NestedRoots, BadRules, OtherRun, Limit, PathClash, NameClash, Stranded, Moved, NotInvertible}
+use Rattle.desk_report.specs.declared.status.Status.TheVariants.{Done, Refusals, Memory, FolderFault, LedgerFault, OutputFault, Usage, NestedRoots, BadRules, OtherRun, Limit, PathClash, NameClash, Stranded, Moved, NotInvertible, Differs}
 use Rattle.desk_report.specs.Texts.{summary_text}
-use Rattle.desk_report.specs.Written.{WritesFront, writing}
+use Rattle.desk_report.specs.Written.{writing}
 use Rattle.desk_words.specs.declared.roots.Order.{Order}
 use Rattle.desk_words.specs.declared.roots.Order.TheVariants as order
 use Rattle.desk_words.specs.declared.roots.Query.{Query}
@@ -20,9 +19,8 @@ use Rattle.desk_run.specs.Named.{asked_by, asked_of}
 use Rattle.desk_run.specs.Answers.{first_answer}
 use Rattle.desk_run.specs.Endings.{HasCauses, is_final}
 use Rattle.desk_run.specs.Generated.{generated_contents, generated_roots}
-use Rattle.desk_run.specs.GeneratedSql.{CompletesGenerated, LeavesSql, StopsGenerated, generated_answer, totals_status}
+use Rattle.desk_run.specs.GeneratedSql.{CompletesGenerated, LeavesSql, generated_answer, totals_status}
 use Rattle.desk_run.specs.Queries.{Answer, IsAnswered, LeavesAnswer, answer_of, query_answer, stands_against, status_of_answer}
-use Rattle.desk_run.proofs.Answering.{if_some_map}
 
 -- what is said where something is told, of what is told
 at_told : {X : Type 0} (o : Option X) (x : X) (P : X → Type 0) → o ≡ Some x → IfSome o P → P x
@@ -56,6 +54,7 @@ final_answer asked m told (NameClash defined other image) old new f f' o o' e a 
 final_answer asked m told (Stranded path held) old new f f' o o' e a i = sym (ap status_of_answer (at_told told m (λ m. answer_of asked m ≡ Err (Stranded path held)) e a.1))
 final_answer asked m told (Moved path one other) old new f f' o o' e a i = cc
 final_answer asked m told (NotInvertible fault) old new f f' o o' e a i = sym (ap status_of_answer (at_told told m (λ m. answer_of asked m ≡ Err (NotInvertible fault)) e a.1))
+final_answer asked m told (Differs path) old new f f' o o' e a i = answered_status (answer_of asked m) old new (Differs path) (at_told told m (λ m. IsAnswered (answer_of asked m) old new (Differs path)) e a)
 
 pub query_first : (words : List Text) (asked : Query) (m : Contents) (l : Ledger) (told : Option Contents) (status : Status) (old new : Option Text) (f f' o o' : ℕ) → order_of_words words ≡ Ok (order.Query asked)
     → told ≡ Some m → LeavesAnswer asked told old new f f' o o' status → is_final status ≡ true → status ≡ first_answer (asked_of words) m l
@@ -79,6 +78,7 @@ against_causes (query.Calls from scope) a told (NameClash defined other image) f
 against_causes (query.Calls from scope) a told (Stranded path held) f f' k k' o o' g = tt
 against_causes (query.Calls from scope) a told (Moved path one other) f f' k k' o o' g = let e : false ≡ true = g in cc
 against_causes (query.Calls from scope) a told (NotInvertible fault) f f' k k' o o' g = tt
+against_causes (query.Calls from scope) a told (Differs path) f f' k k' o o' g = tt
 against_causes (query.Invert rules) a told Done f f' k k' o o' g = tt
 against_causes (query.Invert rules) a told Refusals f f' k k' o o' g = tt
 against_causes (query.Invert rules) a told Memory f f' k k' o o' g = tt
@@ -95,6 +95,24 @@ against_causes (query.Invert rules) a told (NameClash defined other image) f f' 
 against_causes (query.Invert rules) a told (Stranded path held) f f' k k' o o' g = tt
 against_causes (query.Invert rules) a told (Moved path one other) f f' k k' o o' g = let e : false ≡ true = g in cc
 against_causes (query.Invert rules) a told (NotInvertible fault) f f' k k' o o' g = tt
+against_causes (query.Invert rules) a told (Differs path) f f' k k' o o' g = tt
+against_causes (query.Compare rules from other) a told Done f f' k k' o o' g = tt
+against_causes (query.Compare rules from other) a told Refusals f f' k k' o o' g = tt
+against_causes (query.Compare rules from other) a told Memory f f' k k' o o' g = tt
+against_causes (query.Compare rules from other) a told (FolderFault done) f f' k k' o o' g = let e : false ≡ true = g in cc
+against_causes (query.Compare rules from other) a told (LedgerFault done) f f' k k' o o' g = let e : false ≡ true = g in cc
+against_causes (query.Compare rules from other) a told OutputFault f f' k k' o o' g = let e : false ≡ true = g in cc
+against_causes (query.Compare rules from other) a told Usage f f' k k' o o' g = let e : false ≡ true = g in cc
+against_causes (query.Compare rules from other) a told (NestedRoots first second) f f' k k' o o' g = let e : false ≡ true = g in cc
+against_causes (query.Compare rules from other) a told (BadRules fault) f f' k k' o o' g = tt
+against_causes (query.Compare rules from other) a told (OtherRun kept wanted) f f' k k' o o' g = tt
+against_causes (query.Compare rules from other) a told (Limit kind path) f f' k k' o o' g = tt
+against_causes (query.Compare rules from other) a told (PathClash first second) f f' k k' o o' g = tt
+against_causes (query.Compare rules from other) a told (NameClash defined held image) f f' k k' o o' g = tt
+against_causes (query.Compare rules from other) a told (Stranded path held) f f' k k' o o' g = tt
+against_causes (query.Compare rules from other) a told (Moved path one two) f f' k k' o o' g = let e : false ≡ true = g in cc
+against_causes (query.Compare rules from other) a told (NotInvertible fault) f f' k k' o o' g = tt
+against_causes (query.Compare rules from other) a told (Differs path) f f' k k' o o' g = tt
 
 pub query_causes : (asked : Query) (a : Asked) (told : Option Contents) (status : Status) (old new : Option Text) (f f' k k' o o' : ℕ) → LeavesAnswer asked told old new f f' o o' status
     → HasCauses a told status f f' k k' o o'
@@ -114,6 +132,7 @@ query_causes asked a told (NameClash defined other image) old new f f' k k' o o'
 query_causes asked a told (Stranded path held) old new f f' k k' o o' h = against_causes asked a told (Stranded path held) f f' k k' o o' h.0
 query_causes asked a told (Moved path one other) old new f f' k k' o o' h = against_causes asked a told (Moved path one other) f f' k k' o o' h.0
 query_causes asked a told (NotInvertible fault) old new f f' k k' o o' h = against_causes asked a told (NotInvertible fault) f f' k k' o o' h.0
+query_causes asked a told (Differs path) old new f f' k k' o o' h = tt
 
 -- ---- generated applications whose rows go into the ledger that is handed in
 
@@ -139,6 +158,7 @@ final_totals n l k0 k a a' (NameClash defined other image) old new o o' e s i = 
 final_totals n l k0 k a a' (Stranded path held) old new o o' e s i = absurd s.0
 final_totals n l k0 k a a' (Moved path one other) old new o o' e s i = cc
 final_totals n l k0 k a a' (NotInvertible fault) old new o o' e s i = absurd s.0
+final_totals n l k0 k a a' (Differs path) old new o o' e s i = absurd s.0
 
 pub sql_first : (words : List Text) (count workers : ℕ) (m : Contents) (l : Ledger) (k0 k : Option Ledger) (a a' : ℕ) (status : Status) (old new : Option Text) (o o' : ℕ)
     → order_of_words words ≡ Ok (order.GenerateSql count workers) → k0 ≡ Some l → LeavesSql count k0 k a a' old new o o' status → is_final status ≡ true → status ≡ first_answer (asked_of words) m l
@@ -163,3 +183,4 @@ sql_causes n asked told k0 k f f' a a' (NameClash defined other image) old new o
 sql_causes n asked told k0 k f f' a a' (Stranded path held) old new o o' s = absurd s.0
 sql_causes n asked told k0 k f f' a a' (Moved path one other) old new o o' s = absurd s.0
 sql_causes n asked told k0 k f f' a a' (NotInvertible fault) old new o o' s = absurd s.0
+sql_causes n asked told k0 k f f' a a' (Differs path) old new o o' s = absurd s.0

@@ -1,42 +1,32 @@
 -- What the first reading of the routes of a source says of its files.
-use Rattle.std.proofs.Common.{All, ◌≡◌, ◌≤◌, ◌<◌, ◌^◌, ℕ, Bool, true, false, not, List, [], ◌∷◌, ◌++◌, length, map, refl, sym, ap, ◌∙◌, subst, arith, cond, nat_lt, Option, Some, None, Result, Ok, Err, IfSome, IsSome}
+use Rattle.std.proofs.Common.{All, ◌≡◌, ℕ, Bool, true, false, not, List, [], ◌∷◌, ◌++◌, length, map, refl, sym, ap, ◌∙◌, subst, cond, nat_lt, Option, Some, None, IfSome}
 use Rattle.std.specs.Prelude.{if◌then◌else◌}
-use Rattle.std.specs.FinMap as fin
 use Rattle.std.proofs.lemmas.List.Elements.{All-cons, All-head, All-nil, All-tail}
-use Rattle.desk_base.specs.Counts.{Rose-earlier}
 use Rattle.desk_base.specs.Limits.{file_size}
 use Rattle.desk_base.specs.Names.{Text}
 use Rattle.desk_base.specs.Paths.{full}
-use Rattle.desk_base.specs.declared.faults.Malformed.{Malformed}
 use Rattle.desk_base.proofs.Results.{at_some}
 use Rattle.desk_readings.proofs.Fronts.{if_some}
 use Rattle.desk_readings.specs.Sizes.{large_size}
 use Rattle.desk_readings.specs.Noting.{IsWithin, NoteFails, NotedTo}
-use Rattle.desk_readings.specs.Readings.{bytes_here, first_large, is_large, measured_at, most_by, scanned_route, scans_at}
+use Rattle.desk_readings.specs.Readings.{bytes_here, first_large, is_large, measured_at, most_by, scans_at}
 use Rattle.desk_readings.specs.declared.measured.Measured.{Measured}
 use Rattle.desk_readings.specs.declared.faults.NoteFault.{NoteFault}
 use Rattle.desk_readings.specs.declared.faults.NoteFault.TheVariants as note
 use Rattle.desk_file.proofs.Treating.{whole_treated}
-use Rattle.desk_file.specs.ClassScans.{is_class_kind, scanned_as, scanned_at}
-use Rattle.desk_file.specs.Images.{target}
+use Rattle.desk_file.specs.ClassScans.{scanned_at}
 use Rattle.desk_file.specs.Routes.{IsRouteBy, route_of}
-use Rattle.desk_file.specs.Treatments.{is_class, is_copy, is_selected_class, is_whole, texts_treatment, treatment_by, treatment_of}
+use Rattle.desk_file.specs.Treatments.{is_copy, is_whole, treatment_of}
 use Rattle.desk_file.specs.declared.routes.Route.{Route}
 use Rattle.desk_folders.specs.Contents.{Contents, File, bytes_at, file_at, files_below, paths_below}
-use Rattle.desk_format.specs.Classes.{Class, read_class}
 use Rattle.desk_format.specs.Laws.{IsBytes}
 use Rattle.desk_graph.specs.declared.scanned.Scanned.{Scanned}
-use Rattle.desk_paths.specs.declared.Kind.{Kind}
-use Rattle.desk_paths.specs.declared.Kind.TheVariants as kinds
-use Rattle.desk_paths.specs.Kinds.{kind_of}
-use Rattle.desk_patterns.specs.PatternTexts.{FileTexts, texts_for}
-use Rattle.desk_patterns.specs.Selections.{selects}
 use Rattle.desk_report.specs.declared.status.LimitKind.TheVariants.{FileSize}
 use Rattle.desk_report.specs.declared.status.Status.{Status}
 use Rattle.desk_report.specs.declared.status.Status.TheVariants.{Limit}
 use Rattle.desk_rules.specs.Rules.{Rules}
 use Rattle.desk_second.specs.Applications.{classes_of}
-use Rattle.desk_intake.proofs.There.{AllThere, files_there}
+use Rattle.desk_intake.proofs.Listed.{scanned_routed}
 use Rattle.desk_intake.specs.Halts.{HaltsWith}
 use Rattle.desk_intake.specs.Limits.{most_size, size_answer}
 use Rattle.desk_run.specs.Notes.{IsRead, measured_of}
@@ -50,21 +40,6 @@ measured_routed rules from m [] = refl
 measured_routed rules from m (path ∷ paths) = ap (λ (fs : List Measured). measured_of rules (file_at from m path) ∷ fs) (measured_routed rules from m paths)
 
 -- ---- classes
-
-class_treated : (selected : Bool) (kind : Kind) (texts : Option FileTexts) (path : Text) (read : Result Class Malformed)
-    → (if is_class (treatment_by selected kind texts) then scanned_as path (is_selected_class (treatment_by selected kind texts)) read else []) ≡ (if is_class_kind kind then scanned_as path selected read else [])
-class_treated true kinds.Class texts path read = refl
-class_treated false kinds.Class texts path read = refl
-class_treated true kinds.Service texts path read = refl
-class_treated false kinds.Service texts path read = refl
-class_treated true kinds.Manifest texts path read = refl
-class_treated false kinds.Manifest texts path read = refl
-class_treated true kinds.Other None path read = refl
-class_treated true kinds.Other (Some texts) path read = refl
-class_treated false kinds.Other texts path read = refl
-
-scanned_routed : (rules : Rules) (path bytes : Text) → scanned_route (route_of rules path) bytes ≡ scanned_at rules path bytes
-scanned_routed rules path bytes = class_treated (selects rules.selection path) (kind_of path) (texts_for rules.texts path (target rules path)) path (read_class bytes)
 
 scans_routed : (rules : Rules) (from : Text) (m : Contents) (paths : List Text) → scans_at from m (map (route_of rules) paths) ≡ classes_of rules (map (file_at from m) paths)
 scans_routed rules from m [] = refl
@@ -133,18 +108,6 @@ halts_large rules from told routes f f' (note.TooLarge path) e g = (
       sym (large_routed rules from m (paths_below from m))
       ∙ ap large_status (ap (first_large from m) (sym (at_some (λ m. routes ≡ map (route_of rules) (paths_below from m)) told m t e)) ∙ at_some (λ m. first_large from m routes ≡ Some path) told m t g)),
 )
-
--- the files of these routes are there
-routes_there : (rules : Rules) (from : Text) (m : Contents) (paths : List Text) → AllThere from m (map (file_at from m) paths) → All (λ (route : Route). IsSome (fin.get m (full from route.path))) (map (route_of rules) paths)
-routes_there rules from m [] h = All-nil (λ (route : Route). IsSome (fin.get m (full from route.path)))
-routes_there rules from m (path ∷ paths) h =
-    All-cons (λ (route : Route). IsSome (fin.get m (full from route.path))) (route_of rules path) (map (route_of rules) paths) (subst IsSome (sym h.0.held) refl) (routes_there rules from m paths h.1)
-
-pub all_there : (rules : Rules) (from : Text) (told now : Option Contents) (routes : List Route) → now ≡ told → IfSome told (λ m. routes ≡ map (route_of rules) (paths_below from m))
-    → IfSome now (λ m. All (λ (route : Route). IsSome (fin.get m (full from route.path))) routes)
-all_there rules from told now routes same e = if_some _ now (λ m t.
-    subst (All (λ (route : Route). IsSome (fin.get m (full from route.path)))) (sym (at_some (λ m. routes ≡ map (route_of rules) (paths_below from m)) told m (sym same ∙ t) e))
-    (routes_there rules from m (paths_below from m) (files_there from m)))
 
 -- ---- whatever is told
 

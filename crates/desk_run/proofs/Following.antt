@@ -103,6 +103,7 @@ totals_first n old new (status.NameClash defined other image) t e = absurd t
 totals_first n old new (status.Stranded path held) t e = absurd t
 totals_first n old new (status.Moved path one other) t e = absurd t
 totals_first n old new (status.NotInvertible fault) t e = absurd t
+totals_first n old new (status.Differs path) t e = absurd t
 
 -- ---- words that ask a query
 
@@ -263,6 +264,7 @@ generate_causes words count workers told f k o o' old new s e t c = asked_genera
   by (status.Stranded path held) t c = absurd t
   by (status.Moved path one other) t c = absurd t
   by (status.NotInvertible fault) t c = absurd t
+  by (status.Differs path) t c = absurd t
 
 -- ---- the clauses of words that ask for nothing
 

@@ -15,15 +15,16 @@ use Rattle.desk_folders.specs.Contents.{Contents, file_at, files_below, paths_be
 use Rattle.desk_graph.specs.declared.scanned.Scanned.{Scanned}
 use Rattle.desk_ledger.specs.Ledger.{Ledger}
 use Rattle.desk_report.specs.declared.status.Status.{Status}
-use Rattle.desk_report.specs.declared.status.Status.TheVariants.{Done, Refusals, Memory, FolderFault, LedgerFault, OutputFault, Usage, NestedRoots, BadRules, Limit, PathClash, NameClash, Stranded, OtherRun, Moved, NotInvertible}
+use Rattle.desk_report.specs.declared.status.Status.TheVariants.{Done, Refusals, Memory, FolderFault, LedgerFault, OutputFault, Usage, NestedRoots, BadRules, Limit, PathClash, NameClash, Stranded, OtherRun, Moved, NotInvertible, Differs}
 use Rattle.desk_rules.specs.Rules.{Rules}
 use Rattle.desk_second.specs.Second.{AreRules}
 use Rattle.desk_words.specs.declared.roots.Roots.{Roots}
 use Rattle.desk_run.proofs.FirstReadings.{SaysOf, says_of}
-use Rattle.desk_run.specs.Answers.{or_else, other_run, first_of, clash_status, clash_answer, files_answer, names_answer, answer_of_run, AskedCause}
+use Rattle.desk_intake.specs.Standing.{first_of, clash_status, clash_answer, names_answer}
+use Rattle.desk_run.specs.Answers.{or_else, other_run, files_answer, answer_of_run, AskedCause}
 use Rattle.desk_run.specs.Endings.{AreRead, HasGathered}
-use Rattle.desk_run.specs.Halts.{HaltsAtFiles, HaltsClashing, HaltsGathering, HaltsReadingAll, clash_of, reading_answer, is_read_status, is_early_answer}
-use Rattle.desk_intake.specs.Halts.{HaltsWith}
+use Rattle.desk_run.specs.Halts.{HaltsAtFiles, HaltsGathering, HaltsReadingAll, clash_of, paths_in, reading_answer, is_read_status, is_early_answer, targets_in}
+use Rattle.desk_intake.specs.Halts.{HaltsClashing, HaltsWith}
 use Rattle.desk_intake.specs.Limits.{paths_answer, size_answer}
 use Rattle.desk_run.specs.Meaning.{header_of, run_of, run_by_roots, run_by_rules, run_of_asked}
 use Rattle.desk_intake.specs.Rulings.{ruled}
@@ -52,6 +53,7 @@ reading_status asked (NameClash defined other image) e = cc
 reading_status asked (Stranded path held) e = cc
 reading_status asked (Moved path one other) e = cc
 reading_status asked (NotInvertible fault) e = cc
+reading_status asked (Differs path) e = cc
 reading_status asked (OtherRun kept wanted) e = cc
 
 reading_first : (names : Roots) (m : Contents) (l : Ledger) (status : Status) (r : Result Ruled Status) → reading_answer names m r ≡ Some status → answer_of_run m l (run_by_rules m names r) ≡ status
@@ -126,7 +128,7 @@ are_read rules from told files classes clear says e = if_some _ told (λ m t.
 
 -- two of them clash
 pub halts_clash : (rules : Rules) (from : Text) (told : Option Contents) (files : List Measured) (classes : List Scanned) (f f' : ℕ) (h : Halt) → IfSome told (λ m. paths_answer from (target rules) (paths_below from m) ≡ None)
-    → IfSome told (λ m. SaysOf rules from m files classes) → HaltsClashing files h → HaltsAtFiles from (target rules) (is_whole rules) told f f' h
+    → IfSome told (λ m. SaysOf rules from m files classes) → HaltsClashing (paths_in files) (targets_in files) h → HaltsAtFiles from (target rules) (is_whole rules) told f f' h
 halts_clash rules from told files classes f f' halt.Memory clear says g = tt
 halts_clash rules from told files classes f f' halt.Folders clear says g = absurd g
 halts_clash rules from told files classes f f' halt.Ledger clear says g = absurd g

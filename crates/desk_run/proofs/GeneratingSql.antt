@@ -1,5 +1,5 @@
 -- The run over a generated application whose rows go into the ledger that is handed in.
-use Rattle.std.proofs.Common.{arith, ◌≡◌, ◌≤◌, ◌⊎◌, inl, inr, ℕ, zero, suc, ◌+◌, Bool, true, false, ◌||◌, cond, List, [], ◌∷◌, ◌++◌, Option, Some, None, refl, sym, ap, ◌∙◌, subst, Result, Ok, Err}
+use Rattle.std.proofs.Common.{arith, ◌≡◌, ◌≤◌, ◌⊎◌, ℕ, zero, suc, ◌+◌, Bool, true, false, ◌||◌, cond, List, [], ◌∷◌, ◌++◌, Option, Some, None, refl, sym, ap, ◌∙◌, subst, Result, Ok, Err}
 use Rattle.std.specs.Prelude.{◌==◌, ◌&&◌, not, is_err, IfOk, IfErr, IfSome, IsOkAnd, if◌then◌else◌}
 use Rattle.std.specs.List.{count_by, list_any}
 use Rattle.std.specs.FinMap as fin
@@ -18,7 +18,7 @@ use Rattle.desk_ledger.specs.Ledger.{Ledger, Rows}
 use Rattle.desk_report.specs.declared.lines.Reason.{Reason}
 use Rattle.desk_report.specs.declared.lines.Summary.{Summary}
 use Rattle.desk_report.specs.declared.status.Status.{Status}
-use Rattle.desk_report.specs.declared.status.Status.TheVariants.{Done, Refusals, Memory, FolderFault, LedgerFault, OutputFault, Usage, NestedRoots, BadRules, Limit, PathClash, NameClash, Stranded, OtherRun, Moved, NotInvertible}
+use Rattle.desk_report.specs.declared.status.Status.TheVariants.{Done, Refusals, Memory, FolderFault, LedgerFault, OutputFault, Usage, NestedRoots, BadRules, Limit, PathClash, NameClash, Stranded, OtherRun, Moved, NotInvertible, Differs}
 use Rattle.desk_report.specs.Texts.{fault_text, summary_text}
 use Rattle.desk_report.specs.Written.{WritesFront, writing}
 use Rattle.desk_words.specs.declared.roots.Roots.{Roots}
@@ -26,7 +26,7 @@ use Rattle.desk_run.specs.Answers.{first_answer}
 use Rattle.desk_run.specs.Clauses.{HoldsRows}
 use Rattle.desk_run.specs.Endings.{HasCauses, IsWritten, StandsAfter, Tells, WhereTold, is_final}
 use Rattle.desk_run.specs.Generated.{generated_contents, generated_roots}
-use Rattle.desk_run.specs.GeneratedSql.{Completes, CompletesGenerated, CompletesWhole, GeneratesSql, HasRowOfEach, LeavesRows, LeavesSql, LeavesWhole, StopsGenerated, TellsLedger, TellsResult, kept_status, kept_totals}
+use Rattle.desk_run.specs.GeneratedSql.{Completes, CompletesGenerated, CompletesWhole, GeneratesSql, HasRowOfEach, LeavesSql, StopsGenerated, TellsLedger, TellsResult, kept_status, kept_totals}
 use Rattle.desk_run.specs.Meaning.{Meant, run_of_asked}
 use Rattle.desk_run.specs.Asked.{Asked, asked_roots}
 use Rattle.desk_run.specs.Reports.{ending, ending_by, summary_by, summary_of, was_refused}
@@ -109,6 +109,7 @@ sql_clause n k0 k a a' old mid new o o1 o2 (NameClash defined other image) le la
 sql_clause n k0 k a a' old mid new o o1 o2 (Stranded path held) le later t w = absurd t.0
 sql_clause n k0 k a a' old mid new o o1 o2 (Moved path one other) le later t w = absurd t.0
 sql_clause n k0 k a a' old mid new o o1 o2 (NotInvertible fault) le later t w = absurd t.0
+sql_clause n k0 k a a' old mid new o o1 o2 (Differs path) le later t w = absurd t.0
 
 -- ---- how it ends before its totals
 
@@ -143,6 +144,7 @@ stops_told n k0 k f0 f1 a a' b b' (NameClash defined other image) ef stands answ
 stops_told n k0 k f0 f1 a a' b b' (Stranded path held) ef stands answers causes = tt
 stops_told n k0 k f0 f1 a a' b b' (Moved path one other) ef stands answers causes = tt
 stops_told n k0 k f0 f1 a a' b b' (NotInvertible fault) ef stands answers causes = tt
+stops_told n k0 k f0 f1 a a' b b' (Differs path) ef stands answers causes = tt
 
 stops_kept : (n : ℕ) (roots : Roots) (k0 k : Option Ledger) (f0 f1 : Option Contents) (a a' b b' : ℕ) (s : Status) → roots ≡ generated_roots → f0 ≡ Some (generated_contents n)
     → WhereTold f0 k0 (λ m0 l0. Tells f1 k (λ m l. StandsAfter (asked_roots roots) m0 l0 m l s))
@@ -247,6 +249,7 @@ result_stopped n k0 k a a' stop status old new o o' h e = let P : Status → Typ
   by (Stranded path held) h = absurd h
   by (Moved path one other) h = absurd h
   by (NotInvertible fault) h = absurd h
+  by (Differs path) h = absurd h
 
 pub result_tells : (n : ℕ) (k0 k : Option Ledger) (a a' : ℕ) (totals : Result Summary Status) (status : Status) (old new : Option Text) (o o' : ℕ)
     → IfOk totals (λ totals. IfSome k0 (λ l0. CompletesGenerated n l0 k (λ t. totals ≡ t))) → IfErr totals (StopsGenerated n k0 k a a') → TellsResult totals old new o o' status → LeavesSql n k0 k a a' old new o o' status
@@ -267,3 +270,4 @@ result_tells n k0 k a a' (Ok totals) (NameClash defined other image) old new o o
 result_tells n k0 k a a' (Ok totals) (Stranded path held) old new o o' h g t = absurd t
 result_tells n k0 k a a' (Ok totals) (Moved path one other) old new o o' h g t = absurd t
 result_tells n k0 k a a' (Ok totals) (NotInvertible fault) old new o o' h g t = absurd t
+result_tells n k0 k a a' (Ok totals) (Differs path) old new o o' h g t = absurd t

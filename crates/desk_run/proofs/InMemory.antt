@@ -12,10 +12,8 @@ use Rattle.desk_folders.specs.InMemory.{filled}
 use Rattle.desk_gen.specs.Application.{generated, rule_file}
 use Rattle.desk_ledger.specs.Ledger.{Ledger}
 use Rattle.desk_report.specs.declared.lines.Summary.{Summary}
-use Rattle.desk_report.specs.declared.status.Status.{Status}
 use Rattle.desk_words.specs.declared.roots.Roots.{Roots}
 use Rattle.desk_run.specs.Asked.{asked_roots}
-use Rattle.desk_run.specs.Runs.{Run}
 use Rattle.desk_run.specs.Meaning.{Meant, run_of_asked}
 use Rattle.desk_run.specs.Reports.{summary_of}
 use Rattle.desk_run.specs.Endings.{WhereTold}

@@ -1,5 +1,5 @@
 -- From what was gathered and planned to a run that is ready.
-use Rattle.std.proofs.Common.{All, ◌≡◌, inl, inr, ℕ, true, List, [], ◌∷◌, Option, Some, None, refl, sym, ap, ◌∙◌, subst, map, Result, IfSome}
+use Rattle.std.proofs.Common.{All, ◌≡◌, inl, inr, ℕ, true, List, [], ◌∷◌, Option, Some, None, refl, sym, ap, ◌∙◌, subst, map, Result}
 use Rattle.std.proofs.lemmas.List.Elements.{All-head, All-tail}
 use Rattle.desk_base.specs.Names.{Text}
 use Rattle.desk_base.proofs.Results.{at_some}
@@ -16,16 +16,18 @@ use Rattle.desk_ledger.specs.Ledger.{Ledger}
 use Rattle.desk_rename.specs.Images.{cls}
 use Rattle.desk_report.specs.declared.lines.Reason.{Reason}
 use Rattle.desk_report.specs.declared.status.Status.{Status}
-use Rattle.desk_report.specs.declared.status.Status.TheVariants.{Done, Refusals, Memory, FolderFault, LedgerFault, OutputFault, Usage, NestedRoots, BadRules, Limit, PathClash, NameClash, Stranded, OtherRun, Moved, NotInvertible}
+use Rattle.desk_report.specs.declared.status.Status.TheVariants.{Done, Refusals, Memory, FolderFault, LedgerFault, OutputFault, Usage, NestedRoots, BadRules, Limit, PathClash, NameClash, Stranded, OtherRun, Moved, NotInvertible, Differs}
 use Rattle.desk_rules.specs.Rules.{Rules}
 use Rattle.desk_second.specs.Applications.{classes_of}
 use Rattle.desk_words.specs.Roots.{AreRoots}
 use Rattle.desk_words.specs.declared.roots.Roots.{Roots}
 use Rattle.desk_run.proofs.Measures.{works_noted}
-use Rattle.desk_run.specs.Answers.{clash_status, clash_answer, first_of, files_answer, names_answer, or_else, other_run, first_answer, answer_of_run, is_answer, AskedCause}
+use Rattle.desk_intake.specs.Standing.{clash_status, clash_answer, first_of, names_answer}
+use Rattle.desk_run.specs.Answers.{files_answer, or_else, other_run, first_answer, answer_of_run, is_answer, AskedCause}
 use Rattle.desk_run.specs.Endings.{GatheredFrom, HasGathered, IsAnswer, IsReady, Planned, LedgerEarly, HaltsEarly}
-use Rattle.desk_run.specs.Halts.{HaltsGathering, HaltsPlan, AnswersPlan, LedgerOwn, is_ledger_status, is_names_status, is_early_answer}
-use Rattle.desk_run.specs.Meaning.{defined_in, finds_in, header_of, run_of, run_of_asked}
+use Rattle.desk_run.specs.Halts.{HaltsGathering, HaltsPlan, AnswersPlan, LedgerOwn, is_ledger_status, is_early_answer}
+use Rattle.desk_intake.specs.Halts.{is_names_status}
+use Rattle.desk_run.specs.Meaning.{defined_in, finds_in, header_of, run_of}
 use Rattle.desk_run.specs.Asked.{Asked, asked_roots}
 use Rattle.desk_run.specs.Notes.{IsRead, measured_of, noted_by}
 use Rattle.desk_run.specs.Reports.{ending}
@@ -136,6 +138,7 @@ ledger_status asked (NameClash defined other image) e = cc
 ledger_status asked (Stranded path held) e = cc
 ledger_status asked (Moved path one other) e = cc
 ledger_status asked (NotInvertible fault) e = cc
+ledger_status asked (Differs path) e = cc
 ledger_status asked Done e = cc
 ledger_status asked Refusals e = cc
 ledger_status asked Memory e = cc
@@ -150,6 +153,7 @@ names_status asked (NameClash defined other image) e = (refl, tt)
 names_status asked (Stranded path held) e = (refl, tt)
 names_status asked (Moved path one other) e = cc
 names_status asked (NotInvertible fault) e = cc
+names_status asked (Differs path) e = cc
 names_status asked (OtherRun kept wanted) e = cc
 names_status asked (BadRules fault) e = cc
 names_status asked (Limit kind path) e = cc
@@ -212,6 +216,7 @@ early_status (NameClash defined other image) e = cc
 early_status (Stranded path held) e = cc
 early_status (Moved path one other) e = cc
 early_status (NotInvertible fault) e = cc
+early_status (Differs path) e = cc
 early_status Done e = cc
 early_status Refusals e = cc
 early_status Memory e = cc

@@ -1,19 +1,17 @@
 -- The clauses of a run, from where it stands at its end.
-use Rattle.std.proofs.Common.{All, ◌≡◌, ◌⊎◌, inl, inr, ℕ, ◌<◌, ◌≤◌, List, [], ◌∷◌, ◌++◌, Option, Some, None, refl, sym, ap, ◌∙◌, subst, true, arith, append-nil, length, length-append, Result, Ok, Err, OnOk, OnErr}
-use Rattle.std.specs.Prelude.{option_map, IsOkAnd, MatchResult}
+use Rattle.std.proofs.Common.{All, ◌≡◌, ◌⊎◌, inl, inr, ℕ, ◌≤◌, List, [], ◌∷◌, ◌++◌, Option, Some, None, refl, sym, ap, ◌∙◌, subst, true, append-nil, length, Result, Ok, Err, OnOk, OnErr}
+use Rattle.std.specs.Prelude.{IsOkAnd, MatchResult}
 use Rattle.desk_base.specs.Names.{Text}
 use Rattle.desk_base.specs.Counts.{Rose, Rose-earlier, Rose-later}
 use Rattle.desk_folders.specs.Contents.{Contents, File, files_below}
-use Rattle.desk_ledger.specs.declared.keeper.Header.{Header}
 use Rattle.desk_ledger.specs.Ledger.{Ledger, with_header}
 use Rattle.desk_report.specs.declared.sink.SinkFault.{SinkFault}
 use Rattle.desk_report.specs.declared.status.Status.{Status}
-use Rattle.desk_report.specs.declared.status.Status.TheVariants.{Done, Refusals, Memory, FolderFault, LedgerFault, OutputFault, Usage, NestedRoots, BadRules, Limit, PathClash, NameClash, Stranded, OtherRun, Moved, NotInvertible}
+use Rattle.desk_report.specs.declared.status.Status.TheVariants.{Done, Refusals, Memory, FolderFault, LedgerFault, OutputFault, Usage, NestedRoots, BadRules, Limit, PathClash, NameClash, Stranded, OtherRun, Moved, NotInvertible, Differs}
 use Rattle.desk_report.specs.Texts.{fault_text}
 use Rattle.desk_report.specs.Written.{WritesFront, writing}
 use Rattle.desk_kept_code.proofs.Whole.{kept_codes}
 use Rattle.desk_run.specs.Asked.{Asked}
-use Rattle.desk_batches.specs.Works.{Work}
 use Rattle.desk_intake.specs.declared.halts.Halt.{Halt}
 use Rattle.std.proofs.lemmas.Bool.{and_parts}
 use Rattle.std.proofs.lemmas.List.Elements.{All-head, All-tail}
@@ -21,7 +19,6 @@ use Rattle.desk_format.specs.Laws.{IsBytes}
 use Rattle.desk_laws.proofs.Whole.{renamed_classes, unchanged_classes}
 use Rattle.desk_follow.specs.RuleImages.{images_of}
 use Rattle.desk_rewrite.proofs.Forms.{forms_kept, images_settled}
-use Rattle.desk_paths.specs.declared.Kind.TheVariants as kinds
 use Rattle.desk_paths.specs.Kinds.{kind_of}
 use Rattle.desk_rules.specs.Rules.{Rules}
 use Rattle.desk_rules.specs.RuleSets.{IsRuleSet}
@@ -38,14 +35,14 @@ use Rattle.desk_run.specs.Stops.{status_of_halt}
 use Rattle.desk_run.specs.Stands.{Unchanged, Between, Stands, Remains}
 use Rattle.desk_run.specs.Classes.{is_selected_class, HoldsNewClass, RenamesClasses, Classes}
 use Rattle.desk_run.specs.Meaning.{Meant, defined_in, run_of, run_of_asked}
-use Rattle.desk_run.specs.Endings.{WhereTold, Tells, Planned, HaltsEarly, Finishes, ReportedOf, HasCauses, StandsAt, IsDone, StandsAfter, is_final, Named}
+use Rattle.desk_run.specs.Endings.{WhereTold, Tells, HaltsEarly, ReportedOf, HasCauses, StandsAt, IsDone, StandsAfter, is_final, Named}
 use Rattle.desk_run.specs.Clauses.{HoldsFiles, HoldsRows, Files, CompleteRows, TrueBehind, KeepsLedger, LedgerHolds, Output, Exact, RemainsAt, Left}
 use Rattle.desk_run.specs.Generated.{TellsTotals, Generates, generated_totals}
 use Rattle.desk_run.proofs.After.{header_after}
 use Rattle.desk_run.proofs.Remaining.{remains_of, truth_of}
 use Rattle.desk_run.proofs.Sounding.{sound_of, true_behind}
 use Rattle.desk_run.proofs.Splits.{shorter_than}
-use Rattle.desk_run.proofs.Ending.{finish_stands, early_stands}
+use Rattle.desk_run.proofs.Ending.{early_stands}
 
 holds_files : (run : Run) (m0 : Contents) (l0 : Ledger) (m : Contents) (l : Ledger) → Between run m0 l0 m l (length (files_below run.from m0)) → HoldsFiles run m0 l0 m
 holds_files run m0 l0 m l b =
@@ -91,6 +88,7 @@ files_clause asked m0 l0 f k status t = record { m = t.m; l = t.l; folders = t.f
   by (Stranded path held) s = tt
   by (Moved path one other) s = tt
   by (NotInvertible fault) s = tt
+  by (Differs path) s = tt
 
 -- ---- classes
 
@@ -149,6 +147,7 @@ classes_clause asked m0 l0 f k status t = record { m = t.m; l = t.l; folders = t
   by (Stranded path held) s = tt
   by (Moved path one other) s = tt
   by (NotInvertible fault) s = tt
+  by (Differs path) s = tt
 
 keeps_ledger : (asked : Asked) (m0 : Contents) (l0 : Ledger) (m : Contents) (l : Ledger) (status : Status) → StandsAfter asked m0 l0 m l status → KeepsLedger asked m0 l0 m l status
 keeps_ledger asked m0 l0 m l status s = record {
@@ -187,6 +186,7 @@ keeps_ledger asked m0 l0 m l status s = record {
     by (Stranded path held) s = untouched s
     by (Moved path one other) s = begun s.done s.stands
     by (NotInvertible fault) s = untouched s
+    by (Differs path) s = untouched s
 
   true_then : IsDone asked m0 l0 m l → IsOkAnd (run_of_asked asked m0) (λ run. IsVerified run m0 l0 → TrueLedger run m l)
   true_then d = ok_and (run_of_asked asked m0) d.run (λ run. IsVerified run m0 l0 → TrueLedger run m l) d.ready.is (true_behind d.run m0 l0 m l d.stands)
@@ -208,6 +208,7 @@ keeps_ledger asked m0 l0 m l status s = record {
   behind (Stranded path held) s = tt
   behind (Moved path one other) s = tt
   behind (NotInvertible fault) s = tt
+  behind (Differs path) s = tt
 
   rows : (status : Status) → StandsAfter asked m0 l0 m l status → CompleteRows asked m0 l0 l status
   rows Done s = ok_and (run_of_asked asked m0) s.run (λ run. HoldsRows run m0 l0 l) s.ready.is (holds_rows s.run m0 l0 m l s.stands)
@@ -226,6 +227,7 @@ keeps_ledger asked m0 l0 m l status s = record {
   rows (Stranded path held) s = tt
   rows (Moved path one other) s = tt
   rows (NotInvertible fault) s = tt
+  rows (Differs path) s = tt
 
 pub ledger_clause : (asked : Asked) (f0 f : Option Contents) (k0 k : Option Ledger) (name0 name : Option Text) (status : Status)
     → WhereTold f0 k0 (λ m0 l0. Tells f k (λ m l. StandsAfter asked m0 l0 m l status)) → Named asked name0 name status → LedgerHolds asked f0 f k0 k name0 name status
@@ -263,6 +265,7 @@ remains_clause asked m0 l0 f k status t = record { m = t.m; l = t.l; folders = t
   by (Stranded path held) s = (s.folder, s.ledger)
   by (Moved path one other) s = record { done = s.done; remains = remains_at asked m0 l0 t.m t.l s.done s.stands }
   by (NotInvertible fault) s = (s.folder, s.ledger)
+  by (Differs path) s = (s.folder, s.ledger)
 
 -- what is final is the first answer, and what else is quiet is want of memory
 pub status_clause : (asked : Asked) (told : Option Contents) (m : Contents) (first status : Status) (f f' k k' o o' : ℕ) → told ≡ Some m → (is_final status ≡ true → status ≡ first) → HasCauses asked told status f f' k k' o o' → Exact first status f f' k k' o o'
@@ -284,6 +287,7 @@ status_clause asked told m first status f f' k k' o o' is h c = record { final =
   by (Stranded path held) h c a b d = inl (h refl)
   by (Moved path one other) h c a b d = let e : None ≡ Some m = sym c.1 ∙ is in cc
   by (NotInvertible fault) h c a b d = inl (h refl)
+  by (Differs path) h c a b d = inl (h refl)
 
 pub last_write : (line : Text) (old new : Option Text) (o o' : ℕ) (r : Result (Unit {0}) SinkFault) → OnOk r (new ≡ writing line old) → OnErr r (WritesFront line old new) → OnErr r (Rose o o')
     → (new ≡ writing line old) ⊎ (WritesFront line old new × Rose o o')
@@ -334,6 +338,7 @@ output_clause asked f0 k0 (NameClash defined other image) old mid new o o1 o2 le
 output_clause asked f0 k0 (Stranded path held) old mid new o o1 o2 le r w = plain (fault_text (Stranded path held)) old mid new o o1 o2 le r w
 output_clause asked f0 k0 (Moved path one other) old mid new o o1 o2 le r w = plain (fault_text (Moved path one other)) old mid new o o1 o2 le r w
 output_clause asked f0 k0 (NotInvertible fault) old mid new o o1 o2 le r w = plain (fault_text (NotInvertible fault)) old mid new o o1 o2 le r w
+output_clause asked f0 k0 (Differs path) old mid new o o1 o2 le r w = plain (fault_text (Differs path)) old mid new o o1 o2 le r w
 
 pub causes_after : (asked : Asked) (told : Option Contents) (status : Status) (f f' k k' o o1 o2 : ℕ) → o1 ≤ o2 → HasCauses asked told status f f' k k' o o1 → HasCauses asked told status f f' k k' o o2
 causes_after asked told OutputFault f f' k k' o o1 o2 le c = Rose-later o o1 o2 c le
@@ -352,6 +357,7 @@ causes_after asked told (NameClash defined other image) f f' k k' o o1 o2 le c =
 causes_after asked told (Stranded path held) f f' k k' o o1 o2 le c = c
 causes_after asked told (Moved path one other) f f' k k' o o1 o2 le c = c
 causes_after asked told (NotInvertible fault) f f' k k' o o1 o2 le c = c
+causes_after asked told (Differs path) f f' k k' o o1 o2 le c = c
 
 -- where a run stands that halts early
 pub early_told : (asked : Asked) (f0 f' : Option Contents) (k0 k' : Option Ledger) (m : Contents) (l : Ledger) (a b c d : ℕ) (h : Halt) → f0 ≡ Some m → k0 ≡ Some l → f' ≡ f0
@@ -381,3 +387,4 @@ generates n (NameClash defined other image) old mid new o o1 o2 le t w = absurd 
 generates n (Stranded path held) old mid new o o1 o2 le t w = absurd t
 generates n (Moved path one other) old mid new o o1 o2 le t w = absurd t
 generates n (NotInvertible fault) old mid new o o1 o2 le t w = absurd t
+generates n (Differs path) old mid new o o1 o2 le t w = absurd t

@@ -13,14 +13,15 @@ use Rattle.desk_format.specs.Laws.{IsBytes}
 use Rattle.desk_graph.specs.Application.{Pair, name_clash, stranded}
 use Rattle.desk_rename.specs.Images.{cls}
 use Rattle.desk_report.specs.declared.status.Status.{Status}
-use Rattle.desk_report.specs.declared.status.Status.TheVariants.{Done, Refusals, Memory, FolderFault, LedgerFault, OutputFault, Usage, NestedRoots, BadRules, Limit, PathClash, NameClash, Stranded, OtherRun, Moved, NotInvertible}
+use Rattle.desk_report.specs.declared.status.Status.TheVariants.{Done, Refusals, Memory, FolderFault, LedgerFault, OutputFault, Usage, NestedRoots, BadRules, Limit, PathClash, NameClash, Stranded, OtherRun, Moved, NotInvertible, Differs}
 use Rattle.desk_rules.specs.Rules.{Rules}
 use Rattle.desk_second.specs.Applications.{classes_of, targets_of, AreBytes}
 use Rattle.desk_second.specs.Second.{AreRules, Follows}
 use Rattle.desk_second.proofs.Second.{references, definitions, second}
 use Rattle.desk_words.specs.declared.roots.Roots.{Roots}
 use Rattle.desk_intake.specs.declared.rules.Ruled.{Ruled}
-use Rattle.desk_run.specs.Answers.{first_of, files_answer, name_clash_status, names_answer, stranded_status}
+use Rattle.desk_intake.specs.Standing.{first_of, name_clash_status, names_answer, stranded_status}
+use Rattle.desk_run.specs.Answers.{files_answer}
 use Rattle.desk_run.specs.Endings.{IsDone, StandsAfter, Tells}
 use Rattle.desk_run.specs.Follows.{FollowOver, ReferencesFollow, Follow}
 use Rattle.desk_run.specs.Meaning.{defined_in, run_of}
@@ -103,3 +104,4 @@ follow_clause asked m0 l0 f k status t = by status t.holds where
   by (Stranded path held) s = tt
   by (Moved path one other) s = tt
   by (NotInvertible fault) s = tt
+  by (Differs path) s = tt

@@ -1,5 +1,5 @@
 -- A run goes on where another was stopped: the folders are those of one run.
-use Rattle.std.proofs.Common.{◌≡◌, ◌≢◌, ◌⊎◌, inl, inr, ℕ, List, [], ◌∷◌, ◌++◌, Option, Some, None, Bool, true, false, refl, sym, ap, ◌∙◌, subst, cond, Result, Ok, Err}
+use Rattle.std.proofs.Common.{◌≡◌, ◌≢◌, ◌⊎◌, inl, inr, ℕ, List, [], ◌∷◌, ◌++◌, Option, Bool, true, false, refl, sym, ap, ◌∙◌, subst, cond, Result, Ok, Err}
 use Rattle.std.specs.Prelude.{not, ◌&&◌, is_ok, IsOkAnd, MatchResult}
 use Rattle.std.specs.FinMap as fin
 use Rattle.std.proofs.lemmas.Bool.{and_parts, not-true}
@@ -13,7 +13,7 @@ use Rattle.desk_ledger.specs.declared.keeper.Held.{Held}
 use Rattle.desk_ledger.specs.Ledger.{Ledger, Rows}
 use Rattle.desk_report.specs.declared.lines.Reason.{Reason}
 use Rattle.desk_report.specs.declared.status.Status.{Status}
-use Rattle.desk_report.specs.declared.status.Status.TheVariants.{Done, Refusals, Memory, FolderFault, LedgerFault, OutputFault, Usage, NestedRoots, BadRules, Limit, PathClash, NameClash, Stranded, OtherRun, Moved, NotInvertible}
+use Rattle.desk_report.specs.declared.status.Status.TheVariants.{Done, Refusals, Memory, FolderFault, LedgerFault, OutputFault, Usage, NestedRoots, BadRules, Limit, PathClash, NameClash, Stranded, OtherRun, Moved, NotInvertible, Differs}
 use Rattle.desk_second.specs.Applications.{classes_of}
 use Rattle.desk_words.specs.declared.roots.Roots.{Roots}
 use Rattle.desk_intake.specs.declared.rules.Ruled.{Ruled}
@@ -131,6 +131,7 @@ spares_stopped asked m0 l0 m l run e w = by w.status w.stopped w.remains where
   by (Stranded path held) s r = cc
   by (Moved path one other) s r = cc
   by (NotInvertible fault) s r = cc
+  by (Differs path) s r = cc
 
 -- ---- the run behind it
 
@@ -239,3 +240,4 @@ resume_clause asked m1 l1 f k status t =
       by m (Stranded path held) h = tt
       by m (Moved path one other) h = tt
       by m (NotInvertible fault) h = tt
+      by m (Differs path) h = tt

@@ -1,14 +1,13 @@
 -- A sound ledger stays sound, and is true behind a run that completes and verifies.
-use Rattle.std.proofs.Common.{◌≡◌, ◌≢◌, ◌⊎◌, inl, inr, ℕ, ◌<◌, List, [], ◌∷◌, ◌++◌, Option, Some, None, Bool, true, false, refl, sym, ap, ◌∙◌, subst, cond, map, length, take, drop, suc, Result, Ok, Err}
+use Rattle.std.proofs.Common.{◌≡◌, ◌≢◌, ◌⊎◌, inl, inr, ℕ, List, [], ◌∷◌, ◌++◌, Option, Some, None, Bool, true, false, refl, sym, ap, ◌∙◌, subst, cond, map, length, take, drop, suc, Result, Ok, Err}
 use Rattle.std.specs.Prelude.{IfSome, IsSome, Contains, unwrap_or}
 use Rattle.std.proofs.lemmas.List.{map-append}
 use Rattle.std.specs.FinMap as fin
-use Rattle.sha2.specs.Sha256.{sha256}
 use Rattle.desk_base.specs.Names.{Text}
 use Rattle.desk_base.specs.Paths.{full, is_relative_path}
 use Rattle.desk_base.specs.TextMaps.{get-insert-same, get-insert-other, get-remove-same, get-remove-other}
 use Rattle.desk_readings.proofs.Fronts.{split_at}
-use Rattle.desk_batches.specs.Works.{Plan, Keep, Leave, Write, Work, fresh, forgot, cleared_plan, logged, logged_plan, ledger_after}
+use Rattle.desk_batches.specs.Works.{Plan, Keep, Leave, Write, fresh, forgot, cleared_plan, logged, logged_plan, ledger_after}
 use Rattle.desk_file.specs.declared.images.Image.{Image}
 use Rattle.desk_folders.proofs.Members.{path_below-of}
 use Rattle.desk_folders.specs.Contents.{Contents, File, bytes_at, file_at, files_below, paths_below}
@@ -16,15 +15,14 @@ use Rattle.desk_ledger.specs.Digests.{digest}
 use Rattle.desk_ledger.specs.declared.keeper.Held.{Held}
 use Rattle.desk_ledger.specs.Ledger.{Ledger, Rows, with_header}
 use Rattle.desk_report.specs.declared.lines.Reason.{Reason}
-use Rattle.desk_words.specs.Roots.{RootsApart}
-use Rattle.desk_run.specs.Runs.{Run, TargetsApart, written_of, is_kept_file}
+use Rattle.desk_run.specs.Runs.{Run, written_of}
 use Rattle.desk_run.specs.Works.{work_of, works_of}
 use Rattle.desk_run.specs.Truth.{IsOurs, SoundRows, SoundLedger, TrueLedger, IsVerified, IsSoundRow}
-use Rattle.desk_run.specs.Stands.{Unchanged, Between, Within, Stands}
+use Rattle.desk_run.specs.Stands.{Between, Stands}
 use Rattle.desk_run.proofs.Remaining.{remains_of}
 use Rattle.desk_run.proofs.Sparing.{TellSame, spared}
 use Rattle.desk_run.proofs.Splits.{shorter_than}
-use Rattle.desk_intake.proofs.There.{AllThere, IsThere, files_there, there_at}
+use Rattle.desk_intake.proofs.There.{AllThere, files_there, there_at}
 use Rattle.desk_run.proofs.Truths.{text_case}
 
 -- ---- where a row comes from

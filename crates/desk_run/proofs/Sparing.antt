@@ -1,6 +1,6 @@
 -- A run writes nothing below source and rule folder.
-use Rattle.std.proofs.Common.{◌≡◌, ◌⊎◌, inl, inr, List, [], ◌∷◌, ◌++◌, Option, Some, None, Bool, true, false, refl, sym, ap, ◌∙◌, subst, map, Result, Ok, Err, unwrap_or}
-use Rattle.std.specs.Prelude.{ℕ, ◌&&◌, ◌||◌, is_some, IfOk}
+use Rattle.std.proofs.Common.{◌≡◌, ◌⊎◌, inl, inr, List, [], ◌∷◌, ◌++◌, Option, Bool, true, false, refl, sym, ap, ◌∙◌, subst, map, Result, Ok, Err, unwrap_or}
+use Rattle.std.specs.Prelude.{ℕ, ◌&&◌, ◌||◌, is_some}
 use Rattle.std.specs.List.{list_any, list_all, AllByRecursion}
 use Rattle.std.specs.List.Sorted.{IsStrictlySortedBy}
 use Rattle.std.specs.Ordering.{nat_cmp, ordering_reverse, is_eq}
@@ -19,7 +19,7 @@ use Rattle.desk_folders.proofs.Below.{paths_below-rise, paths_below-relative}
 use Rattle.desk_folders.proofs.Members.{same_text, same_text-is, same_text-itself, any_path}
 use Rattle.desk_ledger.specs.Ledger.{Ledger}
 use Rattle.desk_report.specs.declared.status.Status.{Status}
-use Rattle.desk_report.specs.declared.status.Status.TheVariants.{Done, Refusals, Memory, FolderFault, LedgerFault, OutputFault, Usage, NestedRoots, BadRules, Limit, PathClash, NameClash, Stranded, OtherRun, Moved, NotInvertible}
+use Rattle.desk_report.specs.declared.status.Status.TheVariants.{Done, Refusals, Memory, FolderFault, LedgerFault, OutputFault, Usage, NestedRoots, BadRules, Limit, PathClash, NameClash, Stranded, OtherRun, Moved, NotInvertible, Differs}
 use Rattle.desk_words.specs.declared.roots.Roots.{Roots}
 use Rattle.desk_words.specs.declared.roots.Order.{Order}
 use Rattle.desk_words.specs.declared.roots.Order.TheVariants as order
@@ -33,8 +33,8 @@ use Rattle.desk_run.specs.Runs.{Run, TargetsApart, AllRelative, targets_of}
 use Rattle.desk_intake.specs.Rulings.{ruled}
 use Rattle.desk_run.specs.Meaning.{run_by_rules, run_of_asked}
 use Rattle.desk_run.specs.Stands.{Between, Within, Stands}
-use Rattle.desk_run.specs.Endings.{Tells, IsDone, StandsAt, StandsSomewhere, StandsAfter}
-use Rattle.desk_run.specs.Resuming.{SourcesStay, LeavesSources}
+use Rattle.desk_run.specs.Endings.{Tells, IsDone, StandsAt, StandsAfter}
+use Rattle.desk_run.specs.Resuming.{LeavesSources}
 use Rattle.desk_run.proofs.Remaining.{remains_of}
 use Rattle.desk_run.proofs.Splits.{relative_at}
 
@@ -168,6 +168,7 @@ spares roots m0 l0 m l OutputFault are s = spares_done roots m0 l0 m l are s
 spares roots m0 l0 m l Memory are s = spares_at roots m0 l0 m l s.done are s.stands
 spares roots m0 l0 m l (Moved path one other) are s = spares_at roots m0 l0 m l s.done are s.stands
 spares roots m0 l0 m l (NotInvertible fault) are s = spares_unchanged roots m0 m s.folder
+spares roots m0 l0 m l (Differs path) are s = spares_unchanged roots m0 m s.folder
 spares roots m0 l0 m l (FolderFault done) are s = spares_at roots m0 l0 m l done are s
 spares roots m0 l0 m l (LedgerFault done) are s = spares_at roots m0 l0 m l done are s
 spares roots m0 l0 m l Usage are s = spares_unchanged roots m0 m s.folder

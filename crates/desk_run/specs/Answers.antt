@@ -1,34 +1,17 @@
 -- The first answer that stands.
-use Rattle.std.specs.Prelude.{◌≡◌, ◌==◌, ◌&&◌, List, [], Option, Some, None, Bool, true, false, Result, Ok, Err, cond, map, slice_index_or}
+use Rattle.std.specs.Prelude.{◌≡◌, ◌==◌, ◌&&◌, Option, Some, None, Bool, true, false, Ok, Err, cond}
 use Rattle.std.specs.Cmp.Lexicographic.{pointwise}
 use Rattle.desk_base.specs.Names.{Text}
-use Rattle.desk_clashes.specs.Clashes.{first_clash}
-use Rattle.desk_clashes.specs.declared.Clash.{Clash}
 use Rattle.desk_folders.specs.Contents.{Contents, files_below, paths_below}
-use Rattle.desk_graph.specs.Application.{Pair, name_clash, stranded}
-use Rattle.desk_graph.specs.declared.scanned.Scanned.{Scanned}
 use Rattle.desk_ledger.specs.declared.keeper.Header.{Header}
 use Rattle.desk_ledger.specs.Ledger.{Ledger}
 use Rattle.desk_report.specs.declared.status.Status.{Status}
 use Rattle.desk_report.specs.declared.status.Status.TheVariants.{Usage, NestedRoots, BadRules, Limit, PathClash, NameClash, Stranded, OtherRun}
 use Rattle.desk_intake.specs.Limits.{paths_answer, size_answer}
+use Rattle.desk_intake.specs.Standing.{clash_answer, first_of, names_answer}
 use Rattle.desk_run.specs.Reports.{ending}
-use Rattle.desk_run.specs.Runs.{Run}
 use Rattle.desk_run.specs.Asked.{Asked}
 use Rattle.desk_run.specs.Meaning.{Meant, run_of_asked}
-
--- the first of two that stands
-abbrev pub first_of : Option Status → Option Status → Option Status
-first_of None later = later
-first_of (Some status) later = Some status
-
-abbrev pub clash_status : List Text → Option Clash → Option Status
-clash_status paths None = None
-clash_status paths (Some clash) = Some (PathClash (slice_index_or paths clash.first []) (slice_index_or paths clash.second []))
-
--- two of these paths, of which one's target equals the other's or is a folder of it
-abbrev pub clash_answer : (Text → Text) → List Text → Option Status
-clash_answer target paths = clash_status paths (first_clash (map target paths))
 
 -- what stands against the files below a root, by the target of each and whether it is read whole: that they are too many, that a
 -- path is too long, that one has too many bytes, or that two targets clash
@@ -36,19 +19,6 @@ abbrev pub files_answer : Text → (Text → Text) → (Text → Bool) → Conte
 files_answer from target whole m =
     first_of (paths_answer from target (paths_below from m))
     (first_of (size_answer whole (files_below from m)) (clash_answer target (paths_below from m)))
-
-abbrev pub name_clash_status : (Text → Text) → Option Pair → Option Status
-name_clash_status name None = None
-name_clash_status name (Some clash) = Some (NameClash clash.0 clash.1 (name clash.0))
-
-abbrev pub stranded_status : Option Pair → Option Status
-stranded_status None = None
-stranded_status (Some one) = Some (Stranded one.0 one.1)
-
--- what stands against the classes of a run, by the image of each name: that a defined name and another would become one, or
--- that a class that isn't selected holds a defined name that changes
-abbrev pub names_answer : (Text → Text) → List Scanned → Option Status
-names_answer name classes = first_of (name_clash_status name (name_clash name classes)) (stranded_status (stranded name classes))
 
 abbrev pub same_header : Header → Header → Bool
 same_header a b = pointwise ◌==◌ a.from b.from && (pointwise ◌==◌ a.to b.to && pointwise ◌==◌ a.rules.0 b.rules.0)

@@ -1,5 +1,5 @@
 -- How a run ends.
-use Rattle.std.specs.Prelude.{All, ◌≡◌, ◌≢◌, ◌⊎◌, ◌<◌, ◌^◌, ℕ, List, length, Option, Some, None, Bool, true, false, Result, Ok, Err, IfSome, option_map, map, IsOkAnd}
+use Rattle.std.specs.Prelude.{All, ◌≡◌, ◌≢◌, ◌⊎◌, ◌<◌, ◌^◌, ℕ, List, length, Option, Some, None, Bool, true, false, Ok, Err, IfSome, option_map, map, IsOkAnd}
 use Rattle.desk_base.specs.Names.{Text}
 use Rattle.desk_base.specs.Counts.{Rose}
 use Rattle.desk_folders.specs.Contents.{Contents, File, files_below}
@@ -35,7 +35,8 @@ use Rattle.desk_run.specs.Stops.{StopsAt, status_of_halt}
 use Rattle.desk_run.specs.Stands.{Unchanged, Between, Within}
 use Rattle.desk_run.specs.Asked.{Asked, asked_roots}
 use Rattle.desk_run.specs.Meaning.{header_of, run_of, run_of_asked}
-use Rattle.desk_run.specs.Answers.{files_answer, names_answer, other_run, first_answer, is_answer, AskedCause}
+use Rattle.desk_intake.specs.Standing.{names_answer}
+use Rattle.desk_run.specs.Answers.{files_answer, other_run, first_answer, is_answer, AskedCause}
 
 -- where folders and keeper tell their contents
 abbrev pub WhereTold : Option Contents → Option Ledger → (Contents → Ledger → Type 0) → Type 0

@@ -16,7 +16,6 @@ use Rattle.desk_report.specs.Texts.{fault_text, summary_text}
 use Rattle.desk_report.specs.Written.{WritesFront, writing}
 use Rattle.desk_words.specs.declared.roots.Roots.{Roots}
 use Rattle.desk_run.specs.Asked.{asked_roots}
-use Rattle.desk_run.specs.Runs.{Run}
 use Rattle.desk_run.specs.Meaning.{Meant, run_of_asked}
 use Rattle.desk_run.specs.Reports.{summary_of}
 use Rattle.desk_run.specs.Clauses.{TwoFronts}

@@ -9,31 +9,33 @@ use Rattle.desk_folders.specs.Contents.{Contents, files_below}
 use Rattle.desk_ledger.specs.declared.keeper.Header.{Header}
 use Rattle.desk_ledger.specs.Ledger.{Ledger, with_header}
 use Rattle.desk_report.specs.declared.status.Status.{Status}
-use Rattle.desk_report.specs.declared.status.Status.TheVariants.{Usage, NestedRoots, BadRules, Limit, PathClash, NameClash, Stranded, OtherRun}
+use Rattle.desk_report.specs.declared.status.Status.TheVariants.{Usage, NestedRoots, BadRules, Limit, PathClash, OtherRun}
 use Rattle.desk_words.specs.declared.roots.Roots.{Roots}
 use Rattle.desk_run.specs.Asked.{Asked}
 use Rattle.desk_readings.specs.declared.measured.Measured.{Measured}
-use Rattle.desk_intake.specs.Halts.{HaltsWith, is_files_status}
+use Rattle.desk_intake.specs.Halts.{HaltsWith, is_names_status}
 use Rattle.desk_intake.specs.declared.halts.Halt.{Halt}
 use Rattle.desk_intake.specs.declared.halts.Halt.TheVariants.{Memory, Folders, Ledger as LedgerHalt, Answer}
 use Rattle.desk_intake.specs.declared.rules.Ruled.{Ruled}
 use Rattle.desk_intake.specs.Rulings.{ruled}
-use Rattle.desk_run.specs.Answers.{clash_status, files_answer, first_answer, other_run, AskedCause}
+use Rattle.desk_intake.specs.Standing.{clash_status}
+use Rattle.desk_run.specs.Answers.{files_answer, first_answer, other_run, AskedCause}
 use Rattle.desk_run.specs.Truth.{IsOurs}
 
 -- at the files below a root
 abbrev pub HaltsAtFiles : Text → (Text → Text) → (Text → Bool) → Option Contents → ℕ → ℕ → Halt → Type 0
 HaltsAtFiles from target whole = HaltsWith (files_answer from target whole)
 
+-- the paths of files that were read, and their targets
+abbrev pub paths_in : List Measured → List Text
+paths_in = map (λ file. file.route.path)
+
+abbrev pub targets_in : List Measured → List Text
+targets_in = map (λ file. file.route.target)
+
 -- what stands against files that were read, by their targets
 abbrev pub clash_of : List Measured → Option Status
-clash_of files = clash_status (map (λ file. file.route.path) files) (first_clash (map (λ file. file.route.target) files))
-
--- at two of them that clash
-abbrev pub HaltsClashing : List Measured → Halt → Type 0
-HaltsClashing files Memory = Unit {0}
-HaltsClashing files (Answer status) = (is_files_status status ≡ true) × (clash_of files ≡ Some status)
-HaltsClashing files _ = ⊥
+clash_of files = clash_status (paths_in files) (first_clash (targets_in files))
 
 -- where works are planned
 abbrev pub HaltsPlanning : ℕ → ℕ → ℕ → ℕ → Halt → Type 0
@@ -108,18 +110,6 @@ HaltsGathering asked told f f' _ = ⊥
 -- the ledger is as before, or has this header, where it had none or the same and nothing stands against the names of classes
 abbrev pub LedgerOwn : Option Status → Header → Option Ledger → Option Ledger → Type 0
 LedgerOwn names header k k' = (k' ≡ k) ⊎ ((k' ≡ option_map (with_header header) k) × (names ≡ None) × IfSome k (λ l. IsOurs header l.header))
-
--- a status of the names of classes
-abbrev pub is_names_status : Status → Bool
-is_names_status (NameClash defined other image) = true
-is_names_status (Stranded path name) = true
-is_names_status _ = false
-
--- at the names of classes, as an answer tells
-abbrev pub HaltsAtNames : Option Status → Halt → Type 0
-HaltsAtNames answer Memory = Unit {0}
-HaltsAtNames answer (Answer status) = (is_names_status status ≡ true) × (answer ≡ Some status)
-HaltsAtNames answer _ = ⊥
 
 -- a status of the names of classes; or one of the ledger, where nothing stands against the names
 abbrev pub AnswersPlan : Option Status → Header → Option Ledger → Status → Type 0

@@ -75,6 +75,14 @@ WhereCalls P _ = Unit {0}
 abbrev pub OfCalls : List Text → (Text → Package → Type 0) → Type 0
 OfCalls words P = OfQuery words (WhereCalls P)
 
+abbrev pub WhereCompare : (Text → Text → Text → Type 0) → Query → Type 0
+WhereCompare P (query.Compare rules from other) = P rules from other
+WhereCompare P _ = Unit {0}
+
+-- of words that ask whether an application is what rules make of another
+abbrev pub OfCompare : List Text → (Text → Text → Text → Type 0) → Type 0
+OfCompare words P = OfQuery words (WhereCompare P)
+
 abbrev pub WhereInvert : (Text → Type 0) → Query → Type 0
 WhereInvert P (query.Invert rules) = P rules
 WhereInvert P _ = Unit {0}

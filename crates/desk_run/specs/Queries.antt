@@ -1,10 +1,12 @@
--- What queries are answered with: where classes use members of a package, and the inverse of rules.
-use Rattle.std.specs.Prelude.{◌≡◌, ◌⊎◌, ℕ, ◌++◌, Bool, true, false, Option, Result, Ok, Err, IfSome, if◌then◌else◌}
+-- What queries are answered with: where classes use members of a package, the inverse of rules, and whether an application is what
+-- rules make of another.
+use Rattle.std.specs.Prelude.{◌≡◌, ◌⊎◌, ℕ, Bool, true, false, Option, Result, Ok, Err, IfSome, if◌then◌else◌}
 use Rattle.desk_base.specs.Counts.{Rose}
 use Rattle.desk_base.specs.Names.{Text, Package}
 use Rattle.desk_folders.specs.Contents.{Contents, files_below}
 use Rattle.desk_calls.specs.Answers.{calls_answer}
 use Rattle.desk_calls.specs.declared.telling.Calls.{Calls}
+use Rattle.desk_comparison.specs.Answers.{comparison}
 use Rattle.desk_intake.specs.Rulings.{ruled}
 use Rattle.desk_intake.specs.declared.rules.Ruled.{Ruled}
 use Rattle.desk_intake.specs.declared.halts.Halt.{Halt}
@@ -13,12 +15,12 @@ use Rattle.desk_invert.specs.Answers.{inversion}
 use Rattle.desk_invert.specs.declared.InvertError.{InvertError}
 use Rattle.desk_invert.specs.declared.InvertError.TheVariants as error
 use Rattle.desk_report.specs.declared.status.Status.{Status}
-use Rattle.desk_report.specs.declared.status.Status.TheVariants.{Done, Refusals, Memory, FolderFault, OutputFault, BadRules, Limit, NotInvertible}
+use Rattle.desk_report.specs.declared.status.Status.TheVariants.{Done, Refusals, Memory, FolderFault, OutputFault, BadRules, Limit, PathClash, NameClash, Stranded, NotInvertible, Differs}
 use Rattle.desk_report.specs.Texts.{fault_text}
 use Rattle.desk_report.specs.Written.{WritesFront, writing}
 use Rattle.desk_rules.specs.declared.InvertFault.{InvertFault}
 use Rattle.desk_words.specs.declared.roots.Query.{Query}
-use Rattle.desk_words.specs.declared.roots.Query.TheVariants.{Calls as CallsOf, Invert}
+use Rattle.desk_words.specs.declared.roots.Query.TheVariants.{Calls as CallsOf, Compare, Invert}
 use Rattle.desk_run.specs.Clauses.{TwoFronts}
 
 -- the text that a query is answered with and the status behind it; or the status that stands against it
@@ -57,6 +59,7 @@ inverse_told rules m = inverse_by (ruled rules (files_below rules m))
 abbrev pub answer_of : Query → Contents → Answer
 answer_of (CallsOf from scope) = calls_told from scope
 answer_of (Invert rules) = inverse_told rules
+answer_of (Compare rules from other) = comparison rules from other
 
 abbrev pub status_of_answer : Answer → Status
 status_of_answer (Ok told) = told.1
@@ -72,6 +75,11 @@ stands_against (CallsOf from scope) (Limit kind path) = true
 stands_against (Invert rules) (Limit kind path) = true
 stands_against (Invert rules) (BadRules fault) = true
 stands_against (Invert rules) (NotInvertible fault) = true
+stands_against (Compare rules from other) (BadRules fault) = true
+stands_against (Compare rules from other) (Limit kind path) = true
+stands_against (Compare rules from other) (PathClash first second) = true
+stands_against (Compare rules from other) (NameClash defined held image) = true
+stands_against (Compare rules from other) (Stranded path name) = true
 stands_against _ _ = false
 
 -- a text was written whole, and the status is that behind it
@@ -88,6 +96,7 @@ IsBegun (Err against) old new = ⊥
 abbrev pub LeavesAnswer : Query → Option Contents → Option Text → Option Text → ℕ → ℕ → ℕ → ℕ → Status → Type 0
 LeavesAnswer asked told old new f f' o o' Done = IfSome told (λ m. IsAnswered (answer_of asked m) old new Done)
 LeavesAnswer asked told old new f f' o o' Refusals = IfSome told (λ m. IsAnswered (answer_of asked m) old new Refusals)
+LeavesAnswer asked told old new f f' o o' (Differs path) = IfSome told (λ m. IsAnswered (answer_of asked m) old new (Differs path))
 LeavesAnswer asked told old new f f' o o' OutputFault = Rose o o' × IfSome told (λ m. IsBegun (answer_of asked m) old new)
 LeavesAnswer asked told old new f f' o o' Memory = new ≡ old
 LeavesAnswer asked told old new f f' o o' (FolderFault done) = (done ≡ 0) × Rose f f' × (new ≡ old)
@@ -102,12 +111,13 @@ IsBroken (Err against) line old new = ⊥
 abbrev pub WritesLine : Text → Option Text → Option Text → ℕ → ℕ → Type 0
 WritesLine line old new o o' = (new ≡ writing line old) ⊎ (WritesFront line old new × Rose o o')
 
--- What a query ends with, where the folders tell their contents: exactly its text at 0 and 2; the line of the status that stands
+-- What a query ends with, where the folders tell their contents: exactly its text at 0, 2 and 3; the line of the status that stands
 -- against it; a front of the text and one of the line of a failed output, where that count of faults rose; the line of a failed call
 -- of the folders, where that count rose; or the line of want of memory.
 abbrev pub AnswersQuery : Query → Option Contents → Option Text → Option Text → ℕ → ℕ → ℕ → ℕ → Status → Type 0
 AnswersQuery asked told old new f f' o o' Done = IfSome told (λ m. IsAnswered (answer_of asked m) old new Done)
 AnswersQuery asked told old new f f' o o' Refusals = IfSome told (λ m. IsAnswered (answer_of asked m) old new Refusals)
+AnswersQuery asked told old new f f' o o' (Differs path) = IfSome told (λ m. IsAnswered (answer_of asked m) old new (Differs path))
 AnswersQuery asked told old new f f' o o' OutputFault = Rose o o' × IfSome told (λ m. IsBroken (answer_of asked m) (fault_text OutputFault) old new)
 AnswersQuery asked told old new f f' o o' Memory = WritesLine (fault_text Memory) old new o o'
 AnswersQuery asked told old new f f' o o' (FolderFault done) = (done ≡ 0) × Rose f f' × WritesLine (fault_text (FolderFault done)) old new o o'
@@ -119,12 +129,6 @@ AnswersQuery asked told old new f f' o o' status = (stands_against asked status 
 abbrev pub halt_of_inverse : InvertError → Halt
 halt_of_inverse (error.Fault fault) = halt.Answer (NotInvertible fault)
 halt_of_inverse error.Memory = halt.Memory
-
--- a text is written whole before these statuses
-abbrev pub IsEnd : Status → Type 0
-IsEnd Done = Unit {0}
-IsEnd Refusals = Unit {0}
-IsEnd _ = ⊥
 
 -- there is no answer: want of memory, a fault of the folders, or a status that stands against the query
 abbrev pub HaltsQuery : Query → Option Contents → ℕ → ℕ → Halt → Type 0

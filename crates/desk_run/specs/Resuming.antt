@@ -1,6 +1,5 @@
 -- What a run leaves as it was, and how a run goes on where another was stopped.
 use Rattle.std.specs.Prelude.{◌≡◌, Bool, true, false, Ok, IfOk}
-use Rattle.desk_base.specs.Names.{Text}
 use Rattle.desk_folders.specs.Contents.{Contents, files_below}
 use Rattle.desk_ledger.specs.Ledger.{Ledger}
 use Rattle.desk_report.specs.declared.status.Status.{Status}

@@ -13,10 +13,9 @@ ghost use Rattle.desk_run.specs.Notes.{IsRead};
 ghost use Rattle.desk_second.specs.Second.{AreRules};
 ghost use Rattle.desk_words.specs.Roots.{AreRoots, AreWorkers};
 
-use crate::clash::refuse_clash;
 use desk_base::Memory;
 use desk_folders::Folders;
-use desk_intake::{Halt, Ruled, list_routes, read_rules};
+use desk_intake::{Halt, Ruled, list_routes, read_rules, refuse_clash};
 use desk_ledger::Header;
 use desk_readings::{MeasuredFiles, note_all};
 use desk_words::Roots;

@@ -17,13 +17,11 @@ ghost use Rattle.desk_run.specs.Endings.{Committed, HasCauses, Named, ReportedOf
 ghost use Rattle.desk_run.specs.Follows.{Follow};
 ghost use Rattle.desk_run.specs.Generated.{Generates, TellsTotals};
 ghost use Rattle.desk_run.specs.GeneratedSql.{GeneratesSql, LeavesSql};
-ghost use Rattle.desk_run.specs.Named.{OfCalls, OfGenerate, OfInvert, OfQuery, OfRun, OfSql, asked_of};
+ghost use Rattle.desk_run.specs.Named.{OfCalls, OfCompare, OfGenerate, OfInvert, OfQuery, OfRun, OfSql, asked_of};
 ghost use Rattle.desk_run.specs.Queries.{AnswersQuery, LeavesAnswer};
 ghost use Rattle.desk_words.specs.declared.roots.Query.TheVariants as query;
 ghost use Rattle.desk_run.specs.Resuming.{LeavesSources, Resumes};
 
-mod clash;
-mod classes;
 mod finish;
 mod gather;
 mod generate;
@@ -98,8 +96,8 @@ fn follow<R: Threads + Sync, F: Folders, K: Keeper, O: Sink, G: Gate + Sync>(
 ///
 /// Of the words `generate` it makes an application of its own in memory, runs over it, and writes the line of
 /// the totals alone: the folders and the keeper stay as they are, and the status is `Done`, `OutputFault` or
-/// `Memory`. With `--sql` the rows of that run go into the keeper that is handed in. Of the words `calls` and `invert` it reads the
-/// source or the rules, and writes their answer; nothing is written to folders or keeper.
+/// `Memory`. With `--sql` the rows of that run go into the keeper that is handed in. Of the words `calls`, `compare` and `invert` it reads
+/// applications or rules, and writes their answer; nothing is written to folders or keeper.
 ///
 /// The statuses, of which the first that stands is the answer:
 /// `Usage` (words without a task), `NestedRoots` (a root lies in another that is written to or holds the
@@ -108,8 +106,9 @@ fn follow<R: Threads + Sync, F: Folders, K: Keeper, O: Sink, G: Gate + Sync>(
 /// of which one's target equals the other's or is a folder of it, `NameClash` with the first two names of classes that
 /// would become one, of which the source defines the first, `Stranded` with the first class that isn't selected and holds
 /// the name of a class of the source that changes, `OtherRun` (the ledger's header isn't
-/// this run's), `Refusals` (a file is neither kept nor has an image), `Done`. Of `calls` and `invert` it is the status behind their
-/// answer, or the `Limit`, `BadRules` or `NotInvertible` that stands against it; of `generate --sql` `OtherRun` or `Done`.
+/// this run's), `Refusals` (a file is neither kept nor has an image), `Done`. Of `calls`, `compare` and `invert` it is the status
+/// behind their answer, `Differs` with the least path for two applications that differ, or the `Limit`, `BadRules`, `PathClash`,
+/// `NameClash`, `Stranded` or `NotInvertible` that stands against it; of `generate --sql` `OtherRun` or `Done`.
 /// `FolderFault`, `LedgerFault` and `OutputFault` come only where the count of faults of that object rose
 /// in this call; `Moved` only where the two readings of a file gave different bytes, and never where the folders tell their
 /// contents; `Memory` may come at any step. Rows that wait are written outside before the report: where
@@ -147,6 +146,8 @@ pub fn desk<R: Threads + Sync, F: Folders, K: Keeper, O: Sink, G: Gate + Sync>(
     ensures calls { OfCalls words.now (λ from scope. AnswersQuery (query.Calls from scope) (F.told folders.old) (O.told out.old) (O.told out.new)
         (F.faults folders.old) (F.faults folders.new) (O.faults out.old) (O.faults out.new) result) }
     ensures invert { OfInvert words.now (λ rules. AnswersQuery (query.Invert rules) (F.told folders.old) (O.told out.old) (O.told out.new)
+        (F.faults folders.old) (F.faults folders.new) (O.faults out.old) (O.faults out.new) result) }
+    ensures compare { OfCompare words.now (λ rules from other. AnswersQuery (query.Compare rules from other) (F.told folders.old) (O.told out.old) (O.told out.new)
         (F.faults folders.old) (F.faults folders.new) (O.faults out.old) (O.faults out.new) result) }
     ensures unchanged { OfQuery words.now (λ _. (F.told folders.new ≡ F.told folders.old) × (keeper.new ≡ keeper.old)) }
 {

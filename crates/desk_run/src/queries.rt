@@ -1,14 +1,17 @@
 //! Answers queries: what words ask that changes neither folders nor ledger.
 
 ghost use Rattle.std.specs.Prelude.{◌≡◌, ◌≤◌, Ok, IfOk, IfErr, IfSome, if◌then◌else◌};
+ghost use Rattle.desk_comparison.specs.Answers.{comparison};
+ghost use Rattle.desk_comparison.specs.Halts.{IsEnd};
 ghost use Rattle.desk_report.specs.Written.{WritesFront};
-ghost use Rattle.desk_run.specs.Queries.{HaltsQuery, IsEnd, LeavesAnswer, WritesText, answer_of, calls_told, halt_of_inverse, inverse_told};
+ghost use Rattle.desk_run.specs.Queries.{HaltsQuery, LeavesAnswer, WritesText, answer_of, calls_told, halt_of_inverse, inverse_told};
 ghost use Rattle.desk_words.specs.Roots.{IsSoundQuery};
 ghost use Rattle.desk_words.specs.declared.roots.Query.TheVariants as query;
 
 use crate::stops::status_of_halt;
 use desk_base::{Text, TextList};
 use desk_calls::find_calls;
+use desk_comparison::{Comparison, compare_applications};
 use desk_folders::Folders;
 use desk_intake::{Halt, read_rules};
 use desk_invert::{InvertError, invert};
@@ -23,7 +26,7 @@ use std::thread::Threads;
 pub struct Reply {
     /// What is written.
     pub text: Text,
-    /// The status behind it, `Done` or `Refusals`.
+    /// The status behind it: `Done`, `Refusals` or `Differs`.
     pub status: Status,
 }
 
@@ -91,6 +94,25 @@ fn reply_inverse<F: Folders>(alloc: Global, folders: &mut F, rules: &Text) -> Re
     }
 }
 
+/// Whether the application below one root is what the rules in a folder make of the application below another.
+fn reply_compare<F: Folders>(
+    alloc: Global,
+    folders: &mut F,
+    rules: &Text,
+    from: &Text,
+    other: &Text,
+) -> Result<Reply, Halt>
+    requires { IsSoundQuery (query.Compare rules.now from.now other.now) }
+    ensures told { F.told folders.new ≡ F.told folders.old }
+    ensures ok { IfOk result (λ reply. IfSome (F.told folders.old) (λ m. comparison rules.now from.now other.now m ≡ Ok (reply.text, reply.status))) }
+    ensures ends { IfOk result (λ reply. IsEnd reply.status) }
+    ensures err { IfErr result (HaltsQuery (query.Compare rules.now from.now other.now) (F.told folders.old) (F.faults folders.old) (F.faults folders.new)) }
+    ensures counts { F.faults folders.old ≤ F.faults folders.new }
+{
+    let Comparison { text, status } = compare_applications(alloc, folders, rules, from, other)?;
+    Ok(Reply { text, status })
+}
+
 /// The answer of a query, or why there is none.
 fn reply_of<R: Threads + Sync, F: Folders, G: Gate + Sync>(
     rt: &R,
@@ -109,6 +131,9 @@ fn reply_of<R: Threads + Sync, F: Folders, G: Gate + Sync>(
     match asked {
         Query::Calls { from, package } => reply_calls(rt, alloc, folders, gate, from, package),
         Query::Invert { rules } => reply_inverse(alloc, folders, rules),
+        Query::Compare { rules, from, other } => {
+            reply_compare(alloc, folders, rules, from, other)
+        }
     }
 }
 

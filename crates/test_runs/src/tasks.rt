@@ -46,6 +46,16 @@ fn write_invert(alloc: Global, rules: &Root, out: &mut String) -> Result<(), Mem
     Ok(writeln!(out, "  invert {}", Shown(rules.as_bytes()))?)
 }
 
+/// Answers the roots of two applications that are to be compared, and of their rules, as they are written.
+fn write_compare(alloc: Global, roots: [&Root; 3], out: &mut String) -> Result<(), Memory> {
+    out.push_str("  compare")?;
+    for root in roots {
+        let text = root.written(alloc)?;
+        write!(out, " {}", Shown(text.as_bytes()))?;
+    }
+    Ok(out.push('\n')?)
+}
+
 /// Answers the task of words: that of a run by its roots, its workers and whether it verifies, that of a generated application
 /// by its two numbers and whether its ledger is SQL, and those of queries by what they ask.
 pub fn write_task(alloc: Global, words: &[Text], out: &mut String) -> Result<(), Memory> {
@@ -75,6 +85,9 @@ pub fn write_task(alloc: Global, words: &[Text], out: &mut String) -> Result<(),
             Ok(writeln!(out, "  generate {count} {workers}{ledger}")?)
         }
         Ok(Task::Calls { from, package }) => write_calls(alloc, &from, &package, out),
+        Ok(Task::Compare { rules, from, other }) => {
+            write_compare(alloc, [&rules, &from, &other], out)
+        }
         Ok(Task::Invert { rules }) => write_invert(alloc, &rules, out),
         Err(WordsFault::Usage) => say(out, "usage"),
         Err(WordsFault::Memory) => Err(Memory),

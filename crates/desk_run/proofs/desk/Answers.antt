@@ -1,7 +1,7 @@
 use Rattle.desk_run.specs.Named.{asked_of}
 use Rattle.desk_run.proofs.Promised.{files_clause, classes_clause, ledger_clause, remains_clause, status_clause, output_clause, last_write, causes_after, generates}
 use Rattle.desk_run.proofs.GeneratingSql.{sql_clause}
-use Rattle.desk_run.proofs.Answering.{answers_of, calls_clause, invert_clause}
+use Rattle.desk_run.proofs.Answering.{answers_of, calls_clause, compare_clause, invert_clause}
 use Rattle.desk_run.proofs.Following.{of_run_map, of_run_both, of_generate_map, of_query_map, of_sql_map}
 use Rattle.desk_run.proofs.Referring.{follow_clause}
 use Rattle.desk_run.proofs.Resuming.{resume_clause}
@@ -62,6 +62,11 @@ returns-clause-calls g c =
 pub returns-clause-invert : goal.returns-clause-invert
 returns-clause-invert g c =
     of_query_map c.args.words.now _ _ (λ asked a. invert_clause asked _ _ _ _ _ _ _ c.follow-status.result (answers_of asked _ c.follow-status.result _ _ _ _ _ _ _ _ c.follow-status.ensures.counts_o c.write_fault.ensures.counts a
+    (last_write _ _ _ _ _ c.write_fault.result c.write_fault.ensures.ok c.write_fault.ensures.err c.write_fault.ensures.failed))) c.follow-status.ensures.query
+
+pub returns-clause-compare : goal.returns-clause-compare
+returns-clause-compare g c =
+    of_query_map c.args.words.now _ _ (λ asked a. compare_clause asked _ _ _ _ _ _ _ c.follow-status.result (answers_of asked _ c.follow-status.result _ _ _ _ _ _ _ _ c.follow-status.ensures.counts_o c.write_fault.ensures.counts a
     (last_write _ _ _ _ _ c.write_fault.result c.write_fault.ensures.ok c.write_fault.ensures.err c.write_fault.ensures.failed))) c.follow-status.ensures.query
 
 pub returns-clause-sql : goal.returns-clause-sql

@@ -1,4 +1,4 @@
-use Rattle.std.proofs.Common.{◌≡◌, ◌∙◌, ap, option_map}
+use Rattle.std.proofs.Common.{◌∙◌, ap, option_map}
 use Rattle.desk_ledger.specs.Ledger.{with_header}
 use Rattle.desk_run.proofs.finish.plan.Goals as goal
 

@@ -1,4 +1,4 @@
-use Rattle.std.proofs.Common.{◌≡◌, ◌∙◌, rules}
+use Rattle.std.proofs.Common.{◌≡◌, rules}
 use Rattle.desk_run.specs.Asked.{asked_roots}
 use Rattle.desk_run.specs.Reports.{summary_by}
 use Rattle.desk_run.proofs.Ending.{told_totals}

@@ -1,4 +1,4 @@
-use Rattle.std.proofs.Common.{◌≡◌, subst, sym}
+use Rattle.std.proofs.Common.{subst, sym}
 use Rattle.desk_run.specs.Endings.{HaltsEarly, StandsAfter, Tells}
 use Rattle.desk_run.specs.Asked.{asked_roots}
 use Rattle.desk_run.proofs.Preparing.{gather_early}

@@ -1,5 +1,4 @@
-use Rattle.std.proofs.Common.{◌≡◌, ◌∙◌, ap, refl, sym, subst, rules}
-use Rattle.desk_rename.specs.Images.{cls}
+use Rattle.std.proofs.Common.{sym, subst}
 use Rattle.desk_run.proofs.Finishing.{gathered_notes, gathered_stopped, gathered_written, is_planned}
 use Rattle.desk_run.proofs.Measures.{all_routed}
 use Rattle.desk_run.proofs.Preparing.{plan_early}

@@ -1,10 +1,10 @@
-use Rattle.std.proofs.Common.{◌≡◌, ap, sym, subst, ◌∙◌}
+use Rattle.std.proofs.Common.{ap, sym, subst, ◌∙◌}
 use Rattle.std.proofs.lemmas.Result.{err_from_is_err_and}
-use Rattle.desk_file.specs.Images.{target}
-use Rattle.desk_file.specs.Treatments.{is_whole}
-use Rattle.desk_run.proofs.FirstReadings.{all_read, all_there, halts_large}
+use Rattle.desk_intake.proofs.Listed.{all_there}
+use Rattle.desk_run.proofs.FirstReadings.{all_read, halts_large}
 use Rattle.desk_run.proofs.Gathering.{are_read, halts_clash, halts_sizes, says_told}
-use Rattle.desk_run.specs.Halts.{HaltsAtFiles, HaltsClashing, clash_of}
+use Rattle.desk_intake.specs.Halts.{HaltsClashing}
+use Rattle.desk_run.specs.Halts.{clash_of, paths_in, targets_in}
 use Rattle.desk_intake.specs.Faults.{halt_of_note}
 use Rattle.desk_run.proofs.gather.read_files.Goals as goal
 
@@ -32,7 +32,7 @@ returns-in_err-refuse_clash-clause-err g c =
     rw (p.1, p.2)
     (halts_clash rules from (g.F.Folders.told c.args.folders.now) notes.files.items notes.scanned.items _ _ c.in_err-refuse_clash.field-0.0 routes.clear
     (says_told rules from (g.F.Folders.told c.args.folders.now) (g.F.Folders.told c.list_routes.new.folders) c.in_ok-routes.routes.items notes.files.items notes.scanned.items routes.told routes.routes c.in_ok-notes.ensures.noted)
-    (subst (λ files. HaltsClashing files c.in_err-refuse_clash.field-0.0) c.deref.ensures.value c.in_err-refuse_clash.ensures.err))
+    (subst (λ files. HaltsClashing (paths_in files) (targets_in files) c.in_err-refuse_clash.field-0.0) c.deref.ensures.value c.in_err-refuse_clash.ensures.err))
 
 pub returns-clause-notes : goal.returns-clause-notes
 returns-clause-notes g c =

@@ -1,4 +1,4 @@
-use Rattle.std.proofs.Common.{rules, ◌≡◌, ◌∙◌, ap, sym, map, map-id, length}
+use Rattle.std.proofs.Common.{rules, ◌∙◌, ap, sym, map, map-id, length}
 use Rattle.std.proofs.lemmas.Iterator.Adapters.{YieldsList-from_vec}
 use Rattle.std.proofs.lemmas.Iterator.Consumers.{YieldsList-end, YieldsList-turn}
 use Rattle.desk_readings.proofs.Fronts.{all_pushed}
