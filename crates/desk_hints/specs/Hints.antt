@@ -21,6 +21,7 @@ use Rattle.desk_hints.specs.declared.hints.Hint.TheVariants as hint
 -- what stands against a run, and what to do
 abbrev pub hint_text : Hint → Text
 hint_text hint.Refusals = codes "migrate: some files were refused, and nothing was written for them\n         the target isn't ready to be used until each line `refused` is dealt with: see the counts by reason\n"
+hint_text hint.Differs = codes "migrate: the other application isn't what the rules make of this one: the line `differs` names the first path that differs, and how\n         let `migrate run` write that file, and compare both by `javap -v -p`: order, duplicates and unused entries of a constant pool don't count\n"
 hint_text hint.Memory = codes "migrate: memory ran out, so the run stopped\n         give it more memory and run again: what was written and noted in the ledger is kept\n"
 hint_text hint.Folders = codes "migrate: a file or folder could not be used as it should, so the run stopped\n         put right what is said above and run again: what was done is kept\n"
 hint_text hint.Ledger = codes "migrate: the ledger could not be used, so the run stopped\n         put right what is said above and run again, or name another ledger, which starts anew\n"
@@ -48,6 +49,7 @@ hint_text hint.PathLength = codes "migrate: a path of the source, or its target,
 hint_text hint.FileSize = codes "migrate: a file of the source is too large: one that is migrated may have 67,108,864 bytes, another 1,099,511,627,776\n         leave it out of the source, and copy it by hand\n"
 hint_text hint.RuleFiles = codes "migrate: the rule folder holds more than 1,000 files\n         keep nothing but rule files there\n"
 hint_text hint.RuleSize = codes "migrate: a rule file has more than 1,048,576 bytes\n         keep nothing but rule files there, or split a long one\n"
+hint_text hint.Both = codes "migrate: the files of the two applications have more than 1,073,741,824 bytes together\n         compare them part by part, as folder by folder\n"
 hint_text hint.NameClash = codes "migrate: a class of the source and another name that it uses would get one name\n         change the rules so that the two stay apart, or leave the class out by `selection.properties`\n"
 hint_text hint.Stranded = codes "migrate: a class that is left out by `selection.properties` names a class of the source that is renamed, and would not find it\n         select that class too, or leave out the class that it names\n"
 hint_text hint.Clash = codes "migrate: two files of the source would get one target, or the target of one would be a folder of the other's\n         rename or remove one of the two, or leave one out by `selection.properties`\n"
@@ -101,6 +103,7 @@ limit_hint limit.PathLength = hint.PathLength
 limit_hint limit.FileSize = hint.FileSize
 limit_hint limit.RuleFiles = hint.RuleFiles
 limit_hint limit.RuleSize = hint.RuleSize
+limit_hint limit.Both = hint.Both
 
 -- the hint of a ledger of another run, by what of source, target and rules is the same
 abbrev pub same_hint : Bool → Bool → Bool → Hint
@@ -126,6 +129,7 @@ invert_hint (invert.Overlap first second) = hint.Overlap
 abbrev pub hint_of : Status → Option Hint
 hint_of status.Done = None
 hint_of status.Refusals = Some hint.Refusals
+hint_of (status.Differs path) = Some hint.Differs
 hint_of status.Memory = Some hint.Memory
 hint_of (status.FolderFault done) = Some hint.Folders
 hint_of (status.LedgerFault done) = Some hint.Ledger

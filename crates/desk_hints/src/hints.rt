@@ -16,6 +16,8 @@ const RENAMES: &[u8] = b"renames.properties";
 pub enum Hint {
     /// Status 2.
     Refusals,
+    /// Status 3.
+    Differs,
     /// Status 10.
     Memory,
     /// Status 11.
@@ -71,6 +73,8 @@ pub enum Hint {
     RuleFiles,
     /// Status 23: a rule file has more than 1,048,576 bytes.
     RuleSize,
+    /// Status 23: two applications that are compared have more than 1,073,741,824 bytes together.
+    Both,
     /// Status 24.
     Clash,
     /// Status 25.
@@ -109,6 +113,10 @@ pub const HINTS: &[(Hint, &[u8])] = &[
     (
         Hint::Refusals,
         b"migrate: some files were refused, and nothing was written for them\n         the target isn't ready to be used until each line `refused` is dealt with: see the counts by reason\n",
+    ),
+    (
+        Hint::Differs,
+        b"migrate: the other application isn't what the rules make of this one: the line `differs` names the first path that differs, and how\n         let `migrate run` write that file, and compare both by `javap -v -p`: order, duplicates and unused entries of a constant pool don't count\n",
     ),
     (
         Hint::Memory,
@@ -217,6 +225,10 @@ pub const HINTS: &[(Hint, &[u8])] = &[
     (
         Hint::RuleSize,
         b"migrate: a rule file has more than 1,048,576 bytes\n         keep nothing but rule files there, or split a long one\n",
+    ),
+    (
+        Hint::Both,
+        b"migrate: the files of the two applications have more than 1,073,741,824 bytes together\n         compare them part by part, as folder by folder\n",
     ),
     (
         Hint::Clash,
@@ -344,6 +356,7 @@ fn limit_hint(kind: LimitKind) -> Hint
         LimitKind::FileSize => Hint::FileSize,
         LimitKind::RuleFiles => Hint::RuleFiles,
         LimitKind::RuleSize => Hint::RuleSize,
+        LimitKind::Both => Hint::Both,
     }
 }
 
@@ -386,6 +399,7 @@ pub fn hint_of(status: &Status) -> Option<Hint>
     match status {
         Status::Done => None,
         Status::Refusals => Some(Hint::Refusals),
+        Status::Differs { .. } => Some(Hint::Differs),
         Status::Memory => Some(Hint::Memory),
         Status::FolderFault { .. } => Some(Hint::Folders),
         Status::LedgerFault { .. } => Some(Hint::Ledger),

@@ -2,8 +2,9 @@
 
 use desk_base::{Memory, Text, show_byte};
 use desk_options::{
-    CallsValues, GenerateValues, RunValues, calls_values, generate_values, invert_values, is_flag,
-    message_of_calls, message_of_generate, message_of_invert, message_of_run, run_values,
+    CallsValues, GenerateValues, RunValues, calls_values, compare_values, generate_values,
+    invert_values, is_flag, message_of_calls, message_of_compare, message_of_generate,
+    message_of_invert, message_of_run, run_values,
 };
 use std::alloc::Global;
 
@@ -52,6 +53,11 @@ const GENERATE: TaskOptions = TaskOptions {
 const CALLS: TaskOptions = TaskOptions {
     task: b"calls",
     names: &[b"from", b"package"],
+};
+
+const COMPARE: TaskOptions = TaskOptions {
+    task: b"compare",
+    names: &[b"rules", b"from", b"other"],
 };
 
 const INVERT: TaskOptions = TaskOptions {
@@ -144,6 +150,8 @@ const HELP: &[u8] =
            migrates a made-up application of N classes in memory; prints the totals; with --sql its ledger is an SQL database
          migrate calls --from A --package P
            prints where the classes below A use members of the classes of package P, and of those below it
+         migrate compare --rules R --from A --other B
+           prints where application B differs from what the rules of folder R make of application A
          migrate invert --rules R
            prints the rule file that takes the renames of folder R back
          as: migrate run --rules rules/jakarta-ee-9 --from app --to new --ledger ledger >report
@@ -155,7 +163,8 @@ const NO_VALUE: &[u8] =
 
 const NO_OPTION: &[u8] = b"stands where an option is wanted, as `--rules R`";
 
-const NO_TASK: &[u8] = b"is no task: the first word is `run`, `generate`, `calls` or `invert`";
+const NO_TASK: &[u8] =
+    b"is no task: the first word is `run`, `generate`, `calls`, `compare` or `invert`";
 
 const UPWARD: &[u8] =
     b"leads to a folder above: a root holds no part `..`, so write its path without one";
@@ -188,8 +197,8 @@ fn root_line(alloc: Global, root: &Text) -> Result<Option<Text>, Memory> {
 }
 
 /// The line of the first root that is none.
-fn roots_line(alloc: Global, values: &RunValues) -> Result<Option<Text>, Memory> {
-    for root in [&values.rules, &values.from, &values.to, &values.ledger] {
+fn roots_line(alloc: Global, roots: &[&Text]) -> Result<Option<Text>, Memory> {
+    for root in roots {
         if let Some(line) = root_line(alloc, root)? {
             return Ok(Some(line));
         }
@@ -205,16 +214,22 @@ fn workers_line(alloc: Global, workers: &Option<Text>) -> Result<Option<Text>, M
     }
 }
 
+/// The line of the values of `run`: of the number of workers where the roots are such.
+fn run_value(alloc: Global, values: &RunValues) -> Result<Option<Text>, Memory> {
+    let roots = [&values.rules, &values.from, &values.to, &values.ledger];
+    match roots_line(alloc, &roots)? {
+        Some(line) => Ok(Some(line)),
+        None => workers_line(alloc, &values.workers),
+    }
+}
+
 /// The line of words behind `run`.
 fn run_line(alloc: Global, words: &[Text]) -> Result<Option<Text>, Memory> {
     if let Some(line) = loose_word(alloc, &RUN, words)? {
         return Ok(Some(line));
     }
     match run_values(alloc, words)? {
-        Some(values) => match roots_line(alloc, &values)? {
-            Some(line) => Ok(Some(line)),
-            None => workers_line(alloc, &values.workers),
-        },
+        Some(values) => run_value(alloc, &values),
         None => message_of_run(alloc, words),
     }
 }
@@ -266,6 +281,17 @@ fn calls_line(alloc: Global, words: &[Text]) -> Result<Option<Text>, Memory> {
     }
 }
 
+/// The line of words behind `compare`.
+fn compare_line(alloc: Global, words: &[Text]) -> Result<Option<Text>, Memory> {
+    if let Some(line) = loose_word(alloc, &COMPARE, words)? {
+        return Ok(Some(line));
+    }
+    match compare_values(alloc, words)? {
+        Some(values) => roots_line(alloc, &[&values.rules, &values.from, &values.other]),
+        None => message_of_compare(alloc, words),
+    }
+}
+
 /// The line of words behind `invert`.
 fn invert_line(alloc: Global, words: &[Text]) -> Result<Option<Text>, Memory> {
     if let Some(line) = loose_word(alloc, &INVERT, words)? {
@@ -283,7 +309,7 @@ pub fn words_hint(alloc: Global, words: &[Text]) -> Result<Option<Text>, Memory>
     match words {
         [] => Ok(Some(Text::from_bytes(
             alloc,
-            b"migrate: no words are given: the first is `run`, `generate`, `calls` or `invert`\n",
+            b"migrate: no words are given: the first is `run`, `generate`, `calls`, `compare` or `invert`\n",
         )?)),
         [first, behind @ ..] => {
             let first = first.as_bytes();
@@ -293,6 +319,8 @@ pub fn words_hint(alloc: Global, words: &[Text]) -> Result<Option<Text>, Memory>
                 generate_line(alloc, behind)
             } else if first == CALLS.task {
                 calls_line(alloc, behind)
+            } else if first == COMPARE.task {
+                compare_line(alloc, behind)
             } else if first == INVERT.task {
                 invert_line(alloc, behind)
             } else if asks_for_help(first) || first == b"help".as_slice() {

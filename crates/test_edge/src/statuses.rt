@@ -12,6 +12,7 @@ use std::alloc::Global;
 pub enum Name {
     Done,
     Refusals,
+    Differs,
     Memory,
     FolderFault,
     LedgerFault,
@@ -19,6 +20,7 @@ pub enum Name {
     Usage,
     NoRenames,
     FileSize,
+    Both,
     PathClash,
     NameClash,
     Stranded,
@@ -30,6 +32,7 @@ pub enum Name {
 pub const STATUSES: &[(&[u8], Name)] = &[
     (b"done", Name::Done),
     (b"refusals", Name::Refusals),
+    (b"differs", Name::Differs),
     (b"memory", Name::Memory),
     (b"folder-fault", Name::FolderFault),
     (b"ledger-fault", Name::LedgerFault),
@@ -37,6 +40,7 @@ pub const STATUSES: &[(&[u8], Name)] = &[
     (b"usage", Name::Usage),
     (b"no-renames", Name::NoRenames),
     (b"file-size", Name::FileSize),
+    (b"both", Name::Both),
     (b"path-clash", Name::PathClash),
     (b"name-clash", Name::NameClash),
     (b"stranded", Name::Stranded),
@@ -69,11 +73,16 @@ fn other_run(alloc: Global, words: &[Text]) -> Result<Status, Memory> {
     Ok(Status::OtherRun { kept, wanted })
 }
 
-/// A file that is too large.
-fn file_size(alloc: Global, words: &[Text]) -> Result<Status, Memory> {
-    let kind = LimitKind::FileSize;
+/// A limit that is passed at a file.
+fn limit(alloc: Global, kind: LimitKind, words: &[Text]) -> Result<Status, Memory> {
     let path = own(alloc, words, 0)?;
     Ok(Status::Limit { kind, path })
+}
+
+/// A file in which two applications differ.
+fn differs(alloc: Global, words: &[Text]) -> Result<Status, Memory> {
+    let path = own(alloc, words, 0)?;
+    Ok(Status::Differs { path })
 }
 
 /// Two files with one target.
@@ -131,7 +140,9 @@ fn plain(name: Name, done: u32) -> Status {
 /// The status of this name, with what the words say of it.
 fn made(alloc: Global, name: Name, words: &[Text]) -> Result<Status, Memory> {
     match name {
-        Name::FileSize => file_size(alloc, words),
+        Name::Differs => differs(alloc, words),
+        Name::FileSize => limit(alloc, LimitKind::FileSize, words),
+        Name::Both => limit(alloc, LimitKind::Both, words),
         Name::PathClash => path_clash(alloc, words),
         Name::NameClash => name_clash(alloc, words),
         Name::Stranded => stranded(alloc, words),
