@@ -8,7 +8,7 @@ trap 'chmod -R u+rwX "$place"; rm -rf "$place"' EXIT
 chmod 755 "$place"
 cd "$place" || exit 1
 
-usage='migrate: 20 usage: migrate run --rules R --from A --to B --ledger L [--workers N] [--verify] or migrate generate --count N [--workers N] [--sql] or migrate calls --from A --package P or migrate invert --rules R'
+usage='migrate: 20 usage: migrate run --rules R --from A --to B --ledger L [--workers N] [--verify] or migrate generate --count N [--workers N] [--sql] or migrate calls --from A --package P or migrate compare --rules R --from A --other B or migrate invert --rules R'
 
 # ---- words
 

@@ -92,7 +92,7 @@ faulty() {
   ends "$name" 22 "$line" run --rules r --from app --to out --ledger l2
 }
 
-usage='migrate: 20 usage: migrate run --rules R --from A --to B --ledger L [--workers N] [--verify] or migrate generate --count N [--workers N] [--sql] or migrate calls --from A --package P or migrate invert --rules R'
+usage='migrate: 20 usage: migrate run --rules R --from A --to B --ledger L [--workers N] [--verify] or migrate generate --count N [--workers N] [--sql] or migrate calls --from A --package P or migrate compare --rules R --from A --other B or migrate invert --rules R'
 ends "no words" 20 "$usage"
 ends "an option twice" 20 "$usage" run --rules rules --from app --to out --ledger l2 --rules rules
 ends "an option without its value" 20 "$usage" run --rules rules --from app --to out --ledger

@@ -7,7 +7,7 @@ set -u
 cd "$(dirname "$0")/.."
 [ -x crates/migrate/out/migrate ] || { echo "build the program first: examples/first/run.sh" >&2; exit 1; }
 mkdir -p build/tests
-[ $# -gt 0 ] || set -- rules nested texts classes packing ledger verify edge hostile majors manifests schemas server bundled graph peer calls inverse workers kills growths
+[ $# -gt 0 ] || set -- rules nested texts classes packing ledger verify edge hostile majors manifests schemas server bundled graph peer calls inverse compare workers kills growths
 failed=0
 for name in "$@"; do
   script=tests/$name.sh
