@@ -1,3 +1,4 @@
 mod Listings
 mod Outcomes
 mod Rising
+mod Ways

@@ -1,5 +1,5 @@
 -- What the adapter over a disk does with paths and with what a listing finds.
-use Rattle.std.specs.Prelude.{◌≡◌, ℕ, ◌+◌, List, [], ◌∷◌, ◌++◌, length, take, refl, if◌then◌else◌}
+use Rattle.std.specs.Prelude.{◌≡◌, ◌⊎◌, ℕ, ◌+◌, List, [], ◌∷◌, ◌++◌, length, take, refl, if◌then◌else◌}
 use Rattle.std.specs.Coded.{Coded, code_by, coded×, coded_list, coded_ℕ}
 use Rattle.std.specs.List.Sorted.{IsPermutation, IsSorted}
 use Rattle.std.specs.Ordering.{nat_cmp}
@@ -55,3 +55,12 @@ pub record IsFirst (count : ℕ) (found first : List Text) : Type 0 where
   pub same : IsPermutation found all
   pub ordered : IsSorted (slice_cmp nat_cmp) all
   pub is : first ≡ take count all
+
+-- a folder is above a path: the path goes on behind the folder's with `/`
+pub record IsAbove (folder path : Text) : Type 0 where
+  pub rest : Text
+  pub is : path ≡ folder ++ slash ∷ rest
+
+-- a folder is on the way to one that was found: it is that folder, or above it
+abbrev pub IsOnTheWay : Text → Text → Type 0
+IsOnTheWay folder found = (found ≡ folder) ⊎ IsAbove folder found

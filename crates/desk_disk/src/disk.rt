@@ -8,7 +8,7 @@ ghost use Rattle.std.specs.Cmp.Lexicographic.{slice_cmp};
 ghost use Rattle.desk_base.specs.Paths.{is_relative_path};
 ghost use Rattle.desk_base.specs.Counts.{Rose};
 
-use crate::guard::no_link_on_the_way;
+use crate::guard::{known_end, last_folder};
 use crate::open::{Reading, Writing, size_of, text_of};
 use crate::progress::Progress;
 use crate::walk::{Stopped, files_below, first_of};
@@ -44,7 +44,7 @@ pub struct DiskFolders<'r> {
     faults: Faults,
     at: Option<Text>,
     target: Option<Text>,
-    looked: Text,
+    found: Text,
     progress: Progress,
 }
 
@@ -71,7 +71,7 @@ impl<'r> DiskFolders<'r> {
             },
             at: None,
             target: None,
-            looked: Text::empty(rt.alloc()),
+            found: Text::empty(rt.alloc()),
             progress: Progress::new(),
         }
     }
@@ -182,19 +182,21 @@ impl<'r> DiskFolders<'r> {
         Writing::open(self.rt, path)
     }
 
-    /// Looks for a link in place of a folder between the target and a path, unless that folder was looked at last.
+    /// Looks for a link in place of a folder between the target and a path. A folder on the way to the one that was found last
+    /// isn't looked at again.
     fn look(&mut self, path: &Text) -> Result<(), Refusal>
         ensures { self.new ≡ self.old }
     {
         let Some(target) = &self.target else {
             return Ok(());
         };
-        let folder = folder_of(path.as_bytes());
-        if self.looked.as_bytes() == folder {
+        let found = self.found.as_bytes();
+        if folder_of(path.as_bytes()).len() < known_end(found, path.as_bytes()) {
             return Ok(());
         }
-        no_link_on_the_way(self.rt, text_of(target)?, text_of(path)?)?;
-        self.looked = Text::from_bytes(self.rt.alloc(), folder)?;
+        let end = last_folder(self.rt, text_of(target)?, text_of(path)?, found)?;
+        let folder = path.as_bytes().get(..end).unwrap_or_default();
+        self.found = Text::from_bytes(self.rt.alloc(), folder)?;
         Ok(())
     }
 

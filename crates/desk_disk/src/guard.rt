@@ -1,5 +1,9 @@
 //! Links in place of folders.
 
+ghost use Rattle.std.specs.Prelude.{◌≡◌, ◌≤◌, ◌<◌, ℕ, Some, IfOk, length, slice_get, take};
+ghost use Rattle.desk_base.specs.Names.{slash};
+ghost use Rattle.desk_disk.specs.Disk.{IsOnTheWay};
+
 use crate::open::{fault_of, is_missing};
 use desk_faults::{Cause, Refusal};
 use std::fs;
@@ -23,16 +27,39 @@ fn is_there(rt: &HostRuntime, folder: &str) -> Result<bool, Refusal> {
     }
 }
 
-/// Looks at each folder from a root to a path. One that is a link is refused; below one that is missing none is
-/// there.
-pub(crate) fn no_link_on_the_way(rt: &HostRuntime, root: &str, path: &str) -> Result<(), Refusal> {
+/// Up to which byte of a path the folders that end before it were found already: they are on the way to the folder that was found
+/// last, or are that folder.
+pub(crate) fn known_end(found: &[u8], path: &[u8]) -> usize
+    ensures { (end : ℕ) → end < result → slice_get path.now end ≡ Some slash → IsOnTheWay (take end path.now) found.now }
+{
+    let mut shared = 0;
+    while shared < found.len() && shared < path.len() && found[shared] == path[shared] {
+        shared += 1;
+    }
+    if shared == found.len() {
+        shared + 1
+    } else {
+        shared
+    }
+}
+
+/// Looks at each folder from a root to a path, but for those on the way to the folder that was found last. One that is a link is
+/// refused; below one that is missing none is there. The answer is where the last of them ends that is there, or 0.
+pub(crate) fn last_folder(
+    rt: &HostRuntime,
+    root: &str,
+    path: &str,
+    found: &[u8],
+) -> Result<usize, Refusal> {
+    let known = known_end(found, path.as_bytes());
+    let mut last = 0;
     for (end, _) in path.match_indices('/') {
         if start_of(root) < end {
             match path.split_at_checked(end) {
-                Some((folder, _)) if !is_there(rt, folder)? => return Ok(()),
-                _ => {}
+                Some((folder, _)) if known <= end && !is_there(rt, folder)? => return Ok(last),
+                _ => last = end,
             }
         }
     }
-    Ok(())
+    Ok(last)
 }

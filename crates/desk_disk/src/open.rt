@@ -14,7 +14,7 @@ use std::io::{self, ErrorKind, Read, Seek, SeekFrom, Write};
 use std::path::Path;
 use std::str;
 
-/// A file that is open to be read: its path, how many bytes it had when it was opened, and the byte that is
+/// A file that is open to be read: its path, how many bytes it had just before it was opened, and the byte that is
 /// read next.
 #[derive(Drop)]
 pub(crate) struct Reading {
@@ -137,23 +137,16 @@ pub(crate) fn size_of(rt: &HostRuntime, path: &Text) -> Result<Option<u64>, Refu
     size_in(fs::symlink_metadata(rt, text_of(path)?))
 }
 
-/// The length of a file that is open, set to be read from a byte on.
-fn seek_in(file: &mut File, at: u64) -> io::Result<u64> {
-    let len = file.metadata()?.len();
-    if at > 0 {
-        file.seek(SeekFrom::Start(at))?;
-    }
-    Ok(len)
-}
-
-/// Opens a file, and answers how many bytes it has. What stands at the path is looked at before, since opening a
-/// pipe waits for its other end.
+/// Opens a file, to be read from a byte on, and answers how many bytes it had just before. What stands at the path is looked at
+/// first, since opening a pipe waits for its other end.
 fn open_at(rt: &HostRuntime, path: &str, at: u64) -> Result<(File, u64), Refusal> {
     let found = fs::symlink_metadata(rt, path).map_err(fault_of)?;
     file_in(found.file_type())?;
     let mut file = File::open(rt, path).map_err(fault_of)?;
-    let len = seek_in(&mut file, at).map_err(fault_of)?;
-    Ok((file, len))
+    if at > 0 {
+        file.seek(SeekFrom::Start(at)).map_err(fault_of)?;
+    }
+    Ok((file, found.len()))
 }
 
 impl Reading {
