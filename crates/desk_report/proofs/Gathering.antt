@@ -63,3 +63,7 @@ texts_split f xs i d lt = ap (flat_map f) (split_at xs i d lt) ∙ flat_map-appe
 pub WritesFront-all : (whole a v : Text) (o p q : Option Text) → whole ≡ a → Gathers a [] v o p → WritesFront v p q → WritesFront whole o q
 WritesFront-all whole a v o p q e g h =
     WritesFront-stops whole a [] [] [] v o p q (e ∙ sym (append-nil a)) g (subst (λ t. WritesFront t p q) (sym (append-nil v)) h)
+
+-- all that was gathered is written
+pub Gathers-all : (whole v : Text) (o p q : Option Text) → Gathers whole [] v o p → q ≡ writing v p → q ≡ writing whole o
+Gathers-all whole v o p q g e = e ∙ ap (writing v) g.is ∙ writing-twice g.front v o ∙ ap (λ t. writing t o) (sym g.all)

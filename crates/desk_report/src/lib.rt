@@ -20,10 +20,13 @@ mod status;
 mod texts;
 mod writer;
 
-pub use lines::{Detail, Reason, ReportLine, Summary, write_line, write_summary};
+pub use lines::{
+    Detail, Reason, ReportLine, Summary, put_line, put_summary, write_line, write_summary,
+};
 pub use memory::MemorySink;
 pub use reasons::kind_name;
 pub use sink::{Sink, SinkFault};
 pub use standard::StdSink;
 pub use status::{LimitKind, Status, write_fault};
 pub use texts::{append_line, append_shown};
+pub use writer::{WriteBuffer, flush};

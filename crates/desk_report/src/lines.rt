@@ -1,14 +1,14 @@
 //! The lines of the report.
 
-ghost use Rattle.std.specs.Prelude.{◌≡◌, ◌≤◌, ◌∷◌, [], codes, decimal, length, OnOk, OnErr};
+ghost use Rattle.std.specs.Prelude.{◌≡◌, ◌≤◌, ◌∷◌, ◌++◌, [], codes, decimal, length, OnOk, OnErr};
 ghost use Rattle.desk_base.specs.Counts.{Rose};
 ghost use Rattle.desk_report.specs.Written.{writing, WritesFront};
 ghost use Rattle.desk_report.specs.Joined.{joined};
-ghost use Rattle.desk_report.specs.Pieces.{pieces_text};
+ghost use Rattle.desk_report.specs.Pieces.{Gathers, pieces_text};
 ghost use Rattle.desk_report.specs.Texts.{detail_pieces, line_text, summary_text};
 
 use crate::pieces::{Piece, Pieces};
-use crate::writer::write_pieces;
+use crate::writer::{WriteBuffer, put_pieces, write_pieces};
 use crate::{Sink, SinkFault};
 use desk_base::{CodeFault, Malformed, Text};
 
@@ -197,6 +197,35 @@ impl Summary {
             Piece::Plain(b"\n"),
         ])
     }
+}
+
+/// Puts the line of a file behind what waits to be written; what doesn't fit is written. After an error a front of all was
+/// written. It takes no memory.
+pub fn put_line<O: Sink>(
+    line: &ReportLine,
+    out: &mut O,
+    waiting: &mut WriteBuffer,
+) -> Result<(), SinkFault>
+    ensures ok { OnOk result (Gathers (line_text line.now) waiting.old waiting.new (O.told out.old) (O.told out.new)) }
+    ensures err { OnErr result (WritesFront (waiting.old ++ line_text line.now) (O.told out.old) (O.told out.new)) }
+    ensures counts { O.faults out.old ≤ O.faults out.new }
+    ensures failed { OnErr result (Rose (O.faults out.old) (O.faults out.new)) }
+{
+    put_pieces(out, waiting, line.pieces().as_slice())
+}
+
+/// Puts the line of the totals behind what waits to be written, as `put_line` does that of a file.
+pub fn put_summary<O: Sink>(
+    summary: &Summary,
+    out: &mut O,
+    waiting: &mut WriteBuffer,
+) -> Result<(), SinkFault>
+    ensures ok { OnOk result (Gathers (summary_text summary.now) waiting.old waiting.new (O.told out.old) (O.told out.new)) }
+    ensures err { OnErr result (WritesFront (waiting.old ++ summary_text summary.now) (O.told out.old) (O.told out.new)) }
+    ensures counts { O.faults out.old ≤ O.faults out.new }
+    ensures failed { OnErr result (Rose (O.faults out.old) (O.faults out.new)) }
+{
+    put_pieces(out, waiting, summary.pieces().as_slice())
 }
 
 /// Writes the line of a file, in few writes. After an error a front of it was written. It takes no memory.

@@ -1,4 +1,4 @@
-//! The writer of lines: a line's pieces are put together, and written at once where they fit.
+//! The writer of lines: the pieces of lines are put together, and written at once where they fit.
 
 ghost use Rattle.std.specs.Prelude.{◌≡◌, ◌≢◌, ◌≤◌, ◌<◌, ◌++◌, ◌∷◌, [], ◌↔◌, IsTrue, length, OnOk, OnErr};
 ghost use Rattle.std.specs.List.{flat_map};
@@ -15,11 +15,11 @@ use itoa::Buffer;
 use std::marker::Model;
 
 /// How many bytes are written together.
-const ROOM: usize = 1024;
+const ROOM: usize = 65_536;
 
-/// Bytes that wait to be written together.
+/// Bytes that wait to be written together, at most 65,536. Contracts see them as a text.
 #[derive(Drop)]
-struct WriteBuffer {
+pub struct WriteBuffer {
     bytes: [u8; ROOM],
     len: usize,
 }
@@ -31,11 +31,12 @@ impl Model for WriteBuffer {
 
     ghost view = { λ w. take w.len w.bytes };
 
-    ghost invariant = { λ w. w.len ≤ 1024 };
+    ghost invariant = { λ w. w.len ≤ 65536 };
 }
 
 impl WriteBuffer {
-    fn new() -> WriteBuffer
+    /// No bytes wait. It takes no memory.
+    pub fn new() -> WriteBuffer
         ensures { result ≡ [] }
     {
         WriteBuffer {
@@ -45,7 +46,7 @@ impl WriteBuffer {
     }
 
     fn is_full(&self) -> bool
-        ensures { IsTrue result ↔ (length self.now ≡ 1024) }
+        ensures { IsTrue result ↔ (length self.now ≡ 65536) }
     {
         self.len == ROOM
     }
@@ -69,7 +70,7 @@ impl WriteBuffer {
     }
 
     fn push(&mut self, byte: u8)
-        requires { length self.old ≢ 1024 }
+        requires { length self.old ≢ 65536 }
         ensures { self.new ≡ self.old ++ byte ∷ [] }
     {
         self.bytes[self.len] = byte;
@@ -77,8 +78,9 @@ impl WriteBuffer {
     }
 }
 
-/// Writes the bytes that wait, where there are some, in one write.
-fn flush<O: Sink>(out: &mut O, waiting: &mut WriteBuffer) -> Result<(), SinkFault>
+/// Writes the bytes that wait, where there are some, in one write. None wait behind it, also where it failed, and after an error a
+/// front of them was written.
+pub fn flush<O: Sink>(out: &mut O, waiting: &mut WriteBuffer) -> Result<(), SinkFault>
     ensures ok { OnOk result (O.told out.new ≡ writing waiting.old (O.told out.old)) }
     ensures err { OnErr result (WritesFront waiting.old (O.told out.old) (O.told out.new)) }
     ensures empty { waiting.new ≡ [] }
@@ -193,6 +195,23 @@ fn put_piece<O: Sink>(
     }
 }
 
+/// Puts the pieces behind what waits, one behind the other.
+pub(crate) fn put_pieces<O: Sink>(
+    out: &mut O,
+    waiting: &mut WriteBuffer,
+    pieces: &[Piece<'_>],
+) -> Result<(), SinkFault>
+    ensures ok { OnOk result (Gathers (pieces_text pieces.now) waiting.old waiting.new (O.told out.old) (O.told out.new)) }
+    ensures err { OnErr result (WritesFront (waiting.old ++ pieces_text pieces.now) (O.told out.old) (O.told out.new)) }
+    ensures counts { O.faults out.old ≤ O.faults out.new }
+    ensures failed { OnErr result (Rose (O.faults out.old) (O.faults out.new)) }
+{
+    for piece in pieces {
+        put_piece(out, waiting, *piece)?;
+    }
+    Ok(())
+}
+
 /// Writes the pieces, one behind the other. Where there are none it does nothing.
 pub(crate) fn write_pieces<O: Sink>(out: &mut O, pieces: &[Piece<'_>]) -> Result<(), SinkFault>
     ensures ok { OnOk result (O.told out.new ≡ writing (pieces_text pieces.now) (O.told out.old)) }
@@ -205,8 +224,6 @@ pub(crate) fn write_pieces<O: Sink>(out: &mut O, pieces: &[Piece<'_>]) -> Result
         return Ok(());
     }
     let mut waiting = WriteBuffer::new();
-    for piece in pieces {
-        put_piece(out, &mut waiting, *piece)?;
-    }
+    put_pieces(out, &mut waiting, pieces)?;
     flush(out, &mut waiting)
 }

@@ -1,15 +1,18 @@
 //! Writes the report of a run.
 
-ghost use Rattle.std.specs.Prelude.{◌≡◌, ◌≤◌, ◌<◌, ◌^◌, OnOk, OnErr, length, count_by};
+ghost use Rattle.std.specs.Prelude.{◌≡◌, ◌≤◌, ◌<◌, ◌^◌, ◌++◌, OnOk, OnErr, length, count_by};
 ghost use Rattle.std.specs.List.{list_any, sum_by};
 ghost use Rattle.desk_base.specs.Counts.{Rose};
+ghost use Rattle.desk_report.specs.Pieces.{Gathers};
 ghost use Rattle.desk_report.specs.Texts.{line_text};
 ghost use Rattle.desk_report.specs.Written.{WritesFront, writing};
 ghost use Rattle.desk_run.specs.Reports.{added_texts, is_written, number_in, outcome_line, renamed_uses, report_by, summary_by, was_kept, was_refused};
 
 use desk_batches::{Noted, Outcome};
 use desk_file::Route;
-use desk_report::{Detail, ReportLine, Sink, SinkFault, Summary, write_line, write_summary};
+use desk_report::{
+    Detail, ReportLine, Sink, SinkFault, Summary, WriteBuffer, flush, put_line, put_summary,
+};
 
 /// How many files were written.
 fn count_written(outcomes: &[Outcome]) -> usize
@@ -128,17 +131,22 @@ fn line_of(route: Route, outcome: Outcome) -> ReportLine
     }
 }
 
-/// Writes the line of a file.
-fn write_outcome<O: Sink>(out: &mut O, noted: Noted, outcome: Outcome) -> Result<(), SinkFault>
-    ensures ok { OnOk result (O.told out.new ≡ writing (outcome_line noted.route.path noted.route.target outcome) (O.told out.old)) }
-    ensures err { OnErr result (WritesFront (outcome_line noted.route.path noted.route.target outcome) (O.told out.old) (O.told out.new)) }
+/// Puts the line of a file behind what waits to be written.
+fn put_outcome<O: Sink>(
+    out: &mut O,
+    waiting: &mut WriteBuffer,
+    noted: Noted,
+    outcome: Outcome,
+) -> Result<(), SinkFault>
+    ensures ok { OnOk result (Gathers (outcome_line noted.route.path noted.route.target outcome) waiting.old waiting.new (O.told out.old) (O.told out.new)) }
+    ensures err { OnErr result (WritesFront (waiting.old ++ outcome_line noted.route.path noted.route.target outcome) (O.told out.old) (O.told out.new)) }
     ensures counts { O.faults out.old ≤ O.faults out.new }
     ensures failed { OnErr result (Rose (O.faults out.old) (O.faults out.new)) }
 {
-    write_line(&line_of(noted.route, outcome), out)
+    put_line(&line_of(noted.route, outcome), out, waiting)
 }
 
-/// Writes the report: one line a file, and the totals.
+/// Writes the report: one line a file, and the totals, as many bytes at once as wait together.
 pub(crate) fn write_report<O: Sink>(
     out: &mut O,
     noted: Vec<Noted>,
@@ -152,11 +160,13 @@ pub(crate) fn write_report<O: Sink>(
     ensures failed { OnErr result (Rose (O.faults out.old) (O.faults out.new)) }
 {
     let summary = summary_of(outcomes);
+    let mut waiting = WriteBuffer::new();
     let mut place = 0;
     for file in noted {
         let outcome = outcomes[place];
-        write_outcome(out, file, outcome)?;
+        put_outcome(out, &mut waiting, file, outcome)?;
         place += 1;
     }
-    write_summary(&summary, out)
+    put_summary(&summary, out, &mut waiting)?;
+    flush(out, &mut waiting)
 }
