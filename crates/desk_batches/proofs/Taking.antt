@@ -1,11 +1,11 @@
 -- The files of a batch, those of them that are read whole, and their images.
-use Rattle.std.proofs.Common.{◌≡◌, ℕ, zero, ◌+◌, ◌≤◌, ◌<◌, List, [], ◌∷◌, ◌++◌, Option, Some, None, Bool, refl, sym, ap, ◌∙◌, subst, take, drop, length, true, false, suc, get_or, length-append, append_assoc, arith, ◌-◌, ◌≢◌, inl, inr}
+use Rattle.std.proofs.Common.{◌≡◌, ℕ, zero, ◌+◌, ◌≤◌, ◌<◌, List, [], ◌∷◌, ◌++◌, Option, Some, None, Bool, refl, sym, ap, ◌∙◌, subst, take, drop, length, true, false, suc, get_or, length-append, append_assoc, arith, ◌-◌, ◌≢◌, inl}
 use Rattle.std.specs.Prelude.{IfSome, map, cond, Result, unwrap_or, All, option_map, IsSome}
 use Rattle.std.proofs.Math.Seq.{get_or-append_seam, take-add}
 use Rattle.std.proofs.lemmas.List.{map-append, length-map, take_more, get_or-drop, take-append-drop, drop_more}
 use Rattle.std.proofs.Math.ListN.{get_or-map}
 use Rattle.desk_ledger.specs.Ledger.{Ledger}
-use Rattle.desk_batches.specs.Stops.{Broken, StoppedAt, HasCause}
+use Rattle.desk_batches.specs.Stops.{Broken, StoppedAt}
 use Rattle.desk_batches.specs.Works.{files_after, ledger_after, logged, logged_plan, wrote, wrote_plan, Work}
 use Rattle.desk_base.specs.Names.{Text}
 use Rattle.desk_batches.specs.Notes.{IsNoteOf, IsSound}
@@ -23,14 +23,12 @@ use Rattle.desk_batches.proofs.Steps.{files_after-join, ledger_after-join, one_f
 use Rattle.std.proofs.lemmas.Grind.{common_steps}
 use Rattle.std.proofs.lemmas.List.Sums.{sum_by_push}
 use Rattle.std.specs.List.{sum_by, slice_range}
-use Rattle.desk_base.specs.Limits.{file_size}
-use Rattle.desk_batches.specs.Turns.{fitting, weight_of, DidWork, HasItsDigest, MovedIn, OneMoved, SourceStays, bytes_of, image_here, image_of_input, input_in, is_migrated, migrated, outcome_of, plan_by, work_by, work_in, work_with, works_in}
-use Rattle.std.proofs.lemmas.List.Elements.{All-cons, All-contains, All-drop, All-map, All-nil, All-tail, All-take, All-head}
+use Rattle.desk_batches.specs.Turns.{fitting, weight_of, DidWork, HasItsDigest, SourceStays, bytes_of, image_here, image_of_input, input_in, is_migrated, migrated, outcome_of, plan_by, work_by, work_in, work_with, works_in}
+use Rattle.std.proofs.lemmas.List.Elements.{All-cons, All-drop, All-map, All-nil, All-tail, All-take, All-head}
 use Rattle.std.specs.FinMap as fin
 use Rattle.std.proofs.lemmas.Bool.{le-leb}
 use Rattle.desk_base.proofs.Results.{at_some}
 use Rattle.desk_ledger.specs.Digests.{digest}
-use Rattle.desk_batches.specs.declared.stops.Stop.{Stop}
 use Rattle.desk_batches.specs.declared.inputs.Input.{Input}
 use Rattle.desk_batches.specs.declared.noted.Noted.{Noted}
 use Rattle.desk_batches.specs.declared.noted.Way.{Way}
@@ -91,28 +89,10 @@ images_read rules defined from m xs inputs images h read made =
 pub inputs_counted : (inputs : List Input) (xs : List Noted) → map (λ (input : Input). input.route) inputs ≡ map (λ (x : Noted). x.route) xs → length inputs ≡ length xs
 inputs_counted inputs xs e = sym (length-map inputs (λ (input : Input). input.route)) ∙ ap length e ∙ length-map xs (λ (x : Noted). x.route)
 
--- and as many images were made
-pub images_counted : (rules : Rules) (defined : List Text) (xs : List Noted) (inputs whole : List Input) (images : List (Result Image Reason)) → whole ≡ inputs → images ≡ map (image_of_input rules defined) whole
-    → map (λ (input : Input). input.route) inputs ≡ map (λ (x : Noted). x.route) xs → length images ≡ length xs
-images_counted rules defined xs inputs whole images same made e =
-    ap length made ∙ length-map whole (image_of_input rules defined) ∙ ap length same ∙ inputs_counted inputs xs e
-
 -- what is read of files of which this was noted has the digest that was noted
 pub digests_read : (from : List ℕ) (m : Contents) (xs : List Noted) → All (IsNoteOf from m) xs → All HasItsDigest (map (input_in from m) (migrated xs))
 digests_read from m xs h =
     All-map HasItsDigest (input_in from m) (migrated xs) (all_migrated (λ (x : Noted). HasItsDigest (input_in from m x)) xs (λ k d lt. sym (h k d lt).digest))
-
--- where the second reading of a file gave another digest, nothing was told
-read_untold : (from : List ℕ) (told : Option Contents) (xs : List Noted) (inputs : List Input) (stop : Stop) → IfSome told (λ m. inputs ≡ map (input_in from m) (migrated xs))
-    → IfSome told (λ m. All (IsNoteOf from m) xs) → OneMoved inputs stop → told ≡ None
-read_untold from None xs inputs stop e h one = refl
-read_untold from (Some m) xs inputs stop e h one =
-    absurd (one.differs (sym (All-contains HasItsDigest inputs one.input (subst (All HasItsDigest) (sym e) (digests_read from m xs h)) one.there)))
-
-pub read_cause : (from : List ℕ) (told : Option Contents) (xs : List Noted) (inputs : List Input) (stop : Stop) (f f' k k' : ℕ) → IfSome told (λ m. inputs ≡ map (input_in from m) (migrated xs))
-    → IfSome told (λ m. All (IsNoteOf from m) xs) → MovedIn inputs stop → HasCause told stop f f' k k'
-read_cause from told xs inputs stop f f' k k' e h (inl none) = subst (λ s. HasCause told s f f' k k') (sym none) tt
-read_cause from told xs inputs stop f f' k k' e h (inr one) = subst (λ s. HasCause told s f f' k k') (sym one.is) (one.differs, read_untold from told xs inputs stop e h one)
 
 -- no more files are read whole than there are
 pub migrated_short : (xs : List Noted) → length (migrated xs) ≤ length xs
@@ -344,14 +324,14 @@ pub some_left : (n : ℕ) → n ≢ 0 → 0 < n
 some_left n h = grind arith
 
 -- what is left of a batch's room, with one file more
-pub room_more : (xs : List Noted) (a b room weight new : ℕ) (x : Noted) → a ≤ b → b < length xs → x ≡ get_or xs b x → room + sum_by weight_of (slice_range xs a b) ≡ file_size → weight ≡ weight_of x
-    → weight ≤ room → new ≡ room - weight → new + sum_by weight_of (slice_range xs a (b + 1)) ≡ file_size
-room_more xs a b room weight new x le lt is e w fits n =
+pub room_more : (xs : List Noted) (all a b room weight new : ℕ) (x : Noted) → a ≤ b → b < length xs → x ≡ get_or xs b x → room + sum_by weight_of (slice_range xs a b) ≡ all → weight ≡ weight_of x
+    → weight ≤ room → new ≡ room - weight → new + sum_by weight_of (slice_range xs a (b + 1)) ≡ all
+room_more xs all a b room weight new x le lt is e w fits n =
     let more = weighs_more xs a b (sum_by weight_of (slice_range xs a b)) weight x le lt is refl w in
     omega (arith, more, e, fits, n)
 
-pub room_first : (xs : List Noted) (a : ℕ) → file_size + sum_by weight_of (slice_range xs a a) ≡ file_size
-room_first xs a = let none = weighs_none xs a in omega (arith, none)
+pub room_first : (xs : List Noted) (a all : ℕ) → all + sum_by weight_of (slice_range xs a a) ≡ all
+room_first xs a all = let none = weighs_none xs a in omega (arith, none)
 
 fitting_on : (room : ℕ) (x : Noted) (xs : List Noted) → weight_of x ≤ room → fitting room (x ∷ xs) ≡ fitting (room - weight_of x) xs + 1
 fitting_on room x xs fits = ap (λ b. cond b (fitting (room - weight_of x) xs + 1) 0) (le-leb (weight_of x) room fits)

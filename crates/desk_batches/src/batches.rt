@@ -11,9 +11,9 @@ ghost use Rattle.desk_batches.specs.Turns.{SourceStays, fitting, image_here, mig
 ghost use Rattle.desk_batches.specs.Works.{files_after, ledger_after};
 ghost use Rattle.desk_words.specs.Roots.{IsPathRoot, RootsApart};
 
-use crate::digested::DigestedImage;
-use crate::inputs::read_batch;
-use crate::migrating::migrate_batch;
+use crate::cutting::batch_end;
+use crate::images::images_of_batch;
+use crate::migrating::Migration;
 use crate::noted::{Noted, Outcome, Way};
 use crate::stops::Stop;
 use crate::writing::write_noted;
@@ -21,8 +21,6 @@ use desk_base::Text;
 use desk_folders::Folders;
 use desk_graph::ClassGraph;
 use desk_ledger::Keeper;
-use desk_readings::WHOLE;
-use desk_report::Reason;
 use desk_rules::RuleSet;
 use desk_workers::Gate;
 use std::alloc::Global;
@@ -38,36 +36,6 @@ pub struct Stopped {
     pub done: usize,
 }
 
-/// The images of the files of a batch that are read whole, in their order.
-fn images_of_batch<R: Threads + Sync, F: Folders, G: Gate + Sync>(
-    rt: &R,
-    alloc: Global,
-    folders: &mut F,
-    gate: &G,
-    rules: &RuleSet,
-    graph: &ClassGraph<'_>,
-    from: &Text,
-    workers: u32,
-    batch: &[Noted],
-) -> Result<Vec<Result<DigestedImage, Reason>>, Stop>
-    requires graph { graph.now.renames ≡ rules.now.renames }
-    requires some { 0 < workers }
-    requires workers { workers ≤ 64 }
-    requires few { length batch.now < 2 ^ 32 }
-    requires sound { All IsSound batch.now }
-    requires routes { All (λ noted. IsRouteBy rules.now noted.route) batch.now }
-    requires notes { IfSome (F.told folders.old) (λ m. All (IsNoteOf from.now m) batch.now) }
-    ensures told { F.told folders.new ≡ F.told folders.old }
-    ensures images { IfOk result (λ images. IfSome (F.told folders.old) (λ m. images.items ≡ map (image_here (image_in rules.now graph.now.defined) from.now m) (migrated batch.now))) }
-    ensures count { IfOk result (λ images. length images.items ≡ length (migrated batch.now)) }
-    ensures counts { F.faults folders.old ≤ F.faults folders.new }
-    ensures cause { IfErr result (λ stop. HasCause (F.told folders.old) stop (F.faults folders.old) (F.faults folders.new) 0 0) }
-{
-    let inputs = read_batch(alloc, folders, from, batch)?;
-    let images = migrate_batch(rt, alloc, rules, graph, &inputs, gate, workers)?;
-    Ok(images)
-}
-
 /// The place of the image behind a file that had this place.
 fn behind(next: usize, noted: &Noted) -> usize
     requires { next + 1 < 2 ^ 64 }
@@ -79,41 +47,6 @@ fn behind(next: usize, noted: &Noted) -> usize
     } else {
         next
     }
-}
-
-/// How many bytes of a batch a file takes: none where it is not read whole.
-fn weight_of(noted: &Noted) -> u64
-    requires { IsSound noted.now }
-    ensures weight { result ≡ weight_of noted.now }
-    ensures small { result ≤ file_size }
-{
-    if noted.way.is_migrated() {
-        noted.size
-    } else {
-        0
-    }
-}
-
-/// The end of the batch that begins at this place: it takes as many files as fit.
-fn batch_end(noted: &[Noted], at: usize) -> usize
-    requires inside { at < length noted.now }
-    requires sound { All IsSound noted.now }
-    ensures end { result ≡ at + fitting file_size (drop at noted.now) }
-    ensures some { at < result }
-    ensures inside { result ≤ length noted.now }
-    ensures light { sum_by weight_of (slice_range noted.now at result) ≤ file_size }
-{
-    let mut end = at;
-    let mut room = WHOLE;
-    while end < noted.len() {
-        let weight = weight_of(&noted[end]);
-        if weight > room {
-            return end;
-        }
-        room -= weight;
-        end += 1;
-    }
-    end
 }
 
 /// How many files at the head of a batch are kept, of which the last file of the batch is none.
@@ -169,7 +102,8 @@ fn write_batch<R: Threads + Sync, F: Folders, K: Keeper, G: Gate + Sync>(
     ensures counts_k { K.faults keeper.old ≤ K.faults keeper.new }
     ensures cause { IfErr result (λ stopped. HasCause (F.told folders.old) stopped.why (F.faults folders.old) (F.faults folders.new) (K.faults keeper.old) (K.faults keeper.new)) }
 {
-    let made = match images_of_batch(rt, alloc, folders, gate, rules, graph, from, workers, batch) {
+    let job = Migration::of(alloc, rules, graph);
+    let made = match images_of_batch(rt, &job, folders, from, batch, gate, workers) {
         Ok(made) => made,
         Err(why) => {
             return Err(Stopped {

@@ -1,23 +1,27 @@
 //! Migrates files that were read whole, on the workers.
 
-ghost use Rattle.std.specs.Prelude.{All, ◌≡◌, ◌≢◌, ◌≤◌, ◌<◌, ◌^◌, IfErr, IfOk, length, map};
+ghost use Rattle.std.specs.Prelude.{All, ◌≡◌, ◌≢◌, ◌≤◌, ◌<◌, ◌^◌, IfErr, IfOk, IfSome, length, map};
 ghost use Rattle.std.specs.Coded.{Coded-set, coded_list};
 ghost use Rattle.desk_file.specs.Routes.{image_along};
 ghost use Rattle.desk_ledger.specs.Digests.{digest as digest_by};
 ghost use Rattle.desk_packages.specs.Renames.{renaming_code};
-ghost use Rattle.desk_batches.specs.Turns.{HasItsDigest, MovedIn, again_by, image_of_input};
+ghost use Rattle.desk_batches.specs.Notes.{IsNoteOf, IsSound};
+ghost use Rattle.desk_batches.specs.Stops.{HasCause};
+ghost use Rattle.desk_batches.specs.Turns.{HasItsDigest, MovedIn, again_by, image_of_input, input_in, migrated};
 
 use crate::digested::DigestedImage;
-use crate::inputs::Input;
+use crate::inputs::{Input, read_batch};
+use crate::noted::Noted;
 use crate::replacing::moved;
 use crate::stops::Stop;
-use desk_base::Memory;
+use desk_base::{Memory, Text};
 use desk_file::{FileFault, migrate_file};
+use desk_folders::Folders;
 use desk_graph::ClassGraph;
 use desk_ledger::{Digest, digest_of};
 use desk_report::Reason;
 use desk_rules::RuleSet;
-use desk_workers::{Gate, Job, map_batch};
+use desk_workers::{Gate, Job, map_batch, map_beside};
 use std::alloc::Global;
 use std::thread::Threads;
 
@@ -30,12 +34,12 @@ pub enum Again {
     Other(Digest),
 }
 
-/// Migrates files that were read whole, in an application.
+/// Migrates files that were read whole, in an application: what the workers share.
 #[derive(Drop)]
-struct Migration<'r> {
-    alloc: Global,
-    rules: &'r RuleSet,
-    graph: &'r ClassGraph<'r>,
+pub struct Migration<'r> {
+    pub(crate) alloc: Global,
+    pub(crate) rules: &'r RuleSet,
+    pub(crate) graph: &'r ClassGraph<'r>,
     ghost linked: { graph.now.renames ≡ rules.now.renames } by { Coded-set (coded_list renaming_code) graph.now.renames rules.now.renames },
 }
 
@@ -74,6 +78,21 @@ fn again_under(
         Ok(Again::Same(image_under(alloc, rules, graph, input, second)?))
     } else {
         Ok(Again::Other(second))
+    }
+}
+
+impl<'r> Migration<'r> {
+    /// Migrates by these rules, in the application of this graph.
+    pub(crate) fn of(alloc: Global, rules: &'r RuleSet, graph: &'r ClassGraph<'r>) -> Migration<'r>
+        requires { graph.now.renames ≡ rules.now.renames }
+        ensures rules { result.rules ≡ rules.entry }
+        ensures graph { result.graph ≡ graph.entry }
+    {
+        Migration {
+            alloc,
+            rules,
+            graph,
+        }
     }
 }
 
@@ -128,9 +147,7 @@ fn images_in(
 /// that was noted.
 pub(crate) fn migrate_batch<R: Threads + Sync, G: Gate + Sync>(
     rt: &R,
-    alloc: Global,
-    rules: &RuleSet,
-    graph: &ClassGraph<'_>,
+    job: &Migration<'_>,
     inputs: &[Input],
     gate: &G,
     workers: u32,
@@ -138,16 +155,62 @@ pub(crate) fn migrate_batch<R: Threads + Sync, G: Gate + Sync>(
     requires some { 0 < workers }
     requires workers { workers ≤ 64 }
     requires few { length inputs.now < 2 ^ 32 }
-    requires graph { graph.now.renames ≡ rules.now.renames }
-    ensures images { IfOk result (λ images. images.items ≡ map (image_of_input rules.now graph.now.defined) inputs.now) }
+    ensures images { IfOk result (λ images. images.items ≡ map (image_of_input job.now.rules.now job.now.graph.now.defined) inputs.now) }
     ensures same { IfOk result (λ _. All HasItsDigest inputs.now) }
     ensures err { IfErr result (MovedIn inputs.now) }
 {
-    let job = Migration {
+    let made = map_batch(rt, job.alloc, inputs, job, gate, workers)?;
+    images_in(job.alloc, job.rules, job.graph, inputs, made)
+}
+
+/// What `migrate_batch` gives for files that were read whole, and what `read_batch` gives for the next, which this thread reads
+/// meanwhile.
+pub(crate) fn migrate_and_read<R: Threads + Sync, F: Folders, G: Gate + Sync>(
+    rt: &R,
+    job: &Migration<'_>,
+    folders: &mut F,
+    from: &Text,
+    inputs: &[Input],
+    next: &[Noted],
+    gate: &G,
+    workers: u32,
+) -> (
+    Result<Vec<Result<DigestedImage, Reason>>, Stop>,
+    Result<Vec<Input>, Stop>,
+)
+    requires some { 0 < workers }
+    requires workers { workers ≤ 64 }
+    requires few { length inputs.now < 2 ^ 32 }
+    requires sound { All IsSound next.now }
+    requires notes { IfSome (F.told folders.old) (λ m. All (IsNoteOf from.now m) next.now) }
+    ensures images { IfOk result.0 (λ images. images.items ≡ map (image_of_input job.now.rules.now job.now.graph.now.defined) inputs.now) }
+    ensures err { IfErr result.0 (MovedIn inputs.now) }
+    ensures told { F.told folders.new ≡ F.told folders.old }
+    ensures inputs { IfOk result.1 (λ inputs. IfSome (F.told folders.old) (λ m. inputs.items ≡ map (input_in from.now m) (migrated next.now))) }
+    ensures routes { IfOk result.1 (λ inputs. map (λ input. input.route) inputs.items ≡ map (λ noted. noted.route) (migrated next.now)) }
+    ensures counts { F.faults folders.old ≤ F.faults folders.new }
+    ensures cause { IfErr result.1 (λ stop. HasCause (F.told folders.old) stop (F.faults folders.old) (F.faults folders.new) 0 0) }
+{
+    let alloc = job.alloc;
+    let (made, read) = map_beside(
+        rt,
         alloc,
-        rules,
-        graph,
+        inputs,
+        job,
+        gate,
+        workers,
+        &mut || -> Result<Vec<Input>, Stop>
+            requires { All IsSound next.now × IfSome (F.told folders.now) (λ m. All (IsNoteOf from.now m) next.now) }
+            ensures { (F.told folders.exit.now ≡ F.told folders.entry.now)
+                × IfOk result (λ inputs. IfSome (F.told folders.entry.now) (λ m. inputs.items ≡ map (input_in from.entry.now m) (migrated next.entry.now)))
+                × IfOk result (λ inputs. map (λ input. input.route) inputs.items ≡ map (λ noted. noted.route) (migrated next.entry.now))
+                × (F.faults folders.entry.now ≤ F.faults folders.exit.now)
+                × IfErr result (λ stop. HasCause (F.told folders.entry.now) stop (F.faults folders.entry.now) (F.faults folders.exit.now) 0 0) }
+        { read_batch(alloc, folders, from, next) },
+    );
+    let images = match made {
+        Ok(made) => images_in(alloc, job.rules, job.graph, inputs, made),
+        Err(Memory) => Err(Stop::Memory),
     };
-    let made = map_batch(rt, alloc, inputs, &job, gate, workers)?;
-    images_in(alloc, rules, graph, inputs, made)
+    (images, read)
 }

@@ -1,5 +1,5 @@
 pub mod Sizes
 pub mod Readings
-pub mod Gathered
+pub mod Slices
 pub mod Faults
 pub mod Noting

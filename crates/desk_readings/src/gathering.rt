@@ -1,156 +1,23 @@
-//! Gathers files that were read in batches, each of which is measured when it is full.
+//! What was found of the files that were read: each slice is measured while the next is read.
 
-ghost use Rattle.std.specs.Prelude.{◌≡◌, ◌+◌};
-ghost use Rattle.std.specs.List.{sum_by};
-ghost use Rattle.desk_base.specs.Limits.{file_size};
-ghost use Rattle.desk_readings.specs.Readings.{weight_in};
+ghost use Rattle.std.specs.Prelude.{All, ◌≡◌, ◌≤◌, ◌<◌, ◌^◌, ◌+◌, ◌++◌, [], OnOk, IfErr, IfOk, IfSome, IsSome, length, map};
+ghost use Rattle.std.specs.FinMap as fin;
+ghost use Rattle.desk_base.specs.Paths.{full};
+ghost use Rattle.desk_readings.specs.Slices.{IsAhead, SliceRead, left_in};
+ghost use Rattle.desk_readings.specs.Noting.{NoteFails};
+ghost use Rattle.desk_readings.specs.Readings.{first_large, measured_by, measures_of, scans_of};
 
-use crate::WHOLE;
+use crate::faults::NoteFault;
 use crate::measured::Measured;
-use crate::measuring::measure_batch;
+use crate::measuring::{Measures, Measuring, add_files, add_scanned};
+use crate::unread::{Unread, read_slice};
 use crate::waiting::WaitingFile;
-use desk_base::Memory;
+use desk_base::{Memory, Text};
+use desk_folders::Folders;
 use desk_graph::Scanned;
-use desk_workers::Gate;
+use desk_workers::{Gate, map_beside};
 use std::alloc::Global;
-use std::mem;
 use std::thread::Threads;
-
-/// The files that were read so far, in their order: those that were measured and what is kept of the classes among them, the
-/// batch of those that weren't, and how many bytes the batch has room for.
-#[derive(Drop)]
-pub struct Gathering {
-    /// The files that were measured.
-    pub files: Vec<Measured>,
-    /// What is kept of the well-formed classes among them.
-    pub scanned: Vec<Scanned>,
-    /// The files that were read and aren't measured yet.
-    pub batch: Vec<WaitingFile>,
-    /// How many bytes the batch may still take.
-    pub room: u64,
-    pub ghost light: { room + sum_by (λ waiting. weight_in waiting.read) batch.items ≡ file_size },
-}
-
-impl Gathering {
-    ghost use Rattle.std.specs.Prelude.{◌≤◌, ◌<◌, ◌^◌, ◌++◌, ◌∷◌, [], OnOk, IfOk, length};
-    ghost use Rattle.desk_readings.specs.Gathered.{all_kept, all_measured, kept_count};
-    ghost use Rattle.desk_readings.specs.Readings.{kept_in, measured_by};
-
-    /// A gathering to begin with: no file was read, and the batch has all its room. It takes no memory.
-    pub(crate) fn new(alloc: Global) -> Gathering
-        ensures files { result.files.items ≡ [] }
-        ensures scanned { result.scanned.items ≡ [] }
-        ensures batch { result.batch.items ≡ [] }
-    {
-        Gathering {
-            files: Vec::new(alloc),
-            scanned: Vec::new(alloc),
-            batch: Vec::new(alloc),
-            room: WHOLE,
-        }
-    }
-
-    /// Measures the batch, whatever room it has.
-    fn close_batch<R: Threads + Sync, G: Gate + Sync>(
-        &mut self,
-        rt: &R,
-        alloc: Global,
-        gate: &G,
-        workers: u32,
-    ) -> Result<(), Memory>
-        requires some { 0 < workers }
-        requires workers { workers ≤ 64 }
-        requires few { length self.old.batch.items < 2 ^ 32 }
-        ensures batch { self.new.batch.items ≡ [] }
-        ensures room { self.new.room ≡ file_size }
-        ensures files { OnOk result (all_measured self.new ≡ all_measured self.old) }
-        ensures classes { OnOk result (all_kept self.new ≡ all_kept self.old) }
-        ensures count { OnOk result (kept_count self.new ≤ kept_count self.old) }
-    {
-        let batch = mem::replace(&mut self.batch, Vec::new(alloc));
-        self.room = WHOLE;
-        measure_batch(
-            rt,
-            alloc,
-            gate,
-            workers,
-            batch,
-            &mut self.files,
-            &mut self.scanned,
-        )
-    }
-
-    /// Makes room for so many bytes: where there is none, the batch is measured.
-    fn make_room<R: Threads + Sync, G: Gate + Sync>(
-        &mut self,
-        rt: &R,
-        alloc: Global,
-        gate: &G,
-        workers: u32,
-        size: u64,
-    ) -> Result<(), Memory>
-        requires some { 0 < workers }
-        requires workers { workers ≤ 64 }
-        requires few { length self.old.batch.items < 2 ^ 32 }
-        requires size { size ≤ file_size }
-        ensures room { OnOk result (size ≤ self.new.room) }
-        ensures files { OnOk result (all_measured self.new ≡ all_measured self.old) }
-        ensures classes { OnOk result (all_kept self.new ≡ all_kept self.old) }
-        ensures count { OnOk result (kept_count self.new ≤ kept_count self.old) }
-        ensures batch { OnOk result (length self.new.batch.items ≤ length self.old.batch.items) }
-    {
-        if size <= self.room {
-            Ok(())
-        } else {
-            self.close_batch(rt, alloc, gate, workers)
-        }
-    }
-
-    /// Gathers one file more.
-    pub(crate) fn add<R: Threads + Sync, G: Gate + Sync>(
-        &mut self,
-        rt: &R,
-        alloc: Global,
-        gate: &G,
-        workers: u32,
-        waiting: WaitingFile,
-    ) -> Result<(), Memory>
-        requires some { 0 < workers }
-        requires workers { workers ≤ 64 }
-        requires few { length self.old.batch.items < 2 ^ 32 }
-        ensures files { OnOk result (all_measured self.new ≡ all_measured self.old ++ measured_by waiting ∷ []) }
-        ensures classes { OnOk result (all_kept self.new ≡ all_kept self.old ++ kept_in waiting.route waiting.read) }
-        ensures count { OnOk result (kept_count self.new ≤ kept_count self.old + 1) }
-        ensures batch { OnOk result (length self.new.batch.items ≤ length self.old.batch.items + 1) }
-    {
-        let size = waiting.read.weight();
-        self.make_room(rt, alloc, gate, workers, size)?;
-        self.batch.push(waiting)?;
-        self.room -= size;
-        Ok(())
-    }
-
-    /// What was found of all of them: the last batch is measured.
-    pub(crate) fn finish<R: Threads + Sync, G: Gate + Sync>(
-        self,
-        rt: &R,
-        alloc: Global,
-        gate: &G,
-        workers: u32,
-    ) -> Result<MeasuredFiles, Memory>
-        requires some { 0 < workers }
-        requires workers { workers ≤ 64 }
-        requires few { length self.batch.items < 2 ^ 32 }
-        ensures files { IfOk result (λ notes. notes.files.items ≡ all_measured self) }
-        ensures classes { IfOk result (λ notes. notes.scanned.items ≡ all_kept self) }
-        ensures count { IfOk result (λ notes. length notes.scanned.items ≤ kept_count self) }
-    {
-        let mut last = self;
-        last.close_batch(rt, alloc, gate, workers)?;
-        let Gathering { files, scanned, .. } = last;
-        Ok(MeasuredFiles { files, scanned })
-    }
-}
 
 /// What the first reading found: the files in their order, and what is kept of the classes among them.
 #[derive(Debug, Drop)]
@@ -159,4 +26,78 @@ pub struct MeasuredFiles {
     pub files: Vec<Measured>,
     /// What is kept of the well-formed classes among them, in the files' order.
     pub scanned: Vec<Scanned>,
+}
+
+impl MeasuredFiles {
+    /// No files. It takes no memory.
+    pub(crate) fn new(alloc: Global) -> MeasuredFiles
+        ensures files { result.files.items ≡ [] }
+        ensures scanned { result.scanned.items ≡ [] }
+    {
+        MeasuredFiles {
+            files: Vec::new(alloc),
+            scanned: Vec::new(alloc),
+        }
+    }
+
+    /// Adds the files of a slice, as the workers measured them.
+    fn add(&mut self, slice: Vec<WaitingFile>, found: Vec<Measures>) -> Result<(), Memory>
+        requires { found.items ≡ map measures_of slice.items }
+        ensures files { OnOk result (self.new.files.items ≡ self.old.files.items ++ map measured_by slice.items) }
+        ensures classes { OnOk result (self.new.scanned.items ≡ self.old.scanned.items ++ scans_of slice.items) }
+        ensures few { OnOk result (length self.new.scanned.items ≤ length self.old.scanned.items + length slice.items) }
+    {
+        add_files(&mut self.files, slice, &found)?;
+        add_scanned(&mut self.scanned, found)
+    }
+
+    /// Adds the files of a slice, which so many workers measure while this thread reads the next one.
+    pub(crate) fn add_and_read<R: Threads + Sync, F: Folders, G: Gate + Sync>(
+        &mut self,
+        rt: &R,
+        alloc: Global,
+        folders: &mut F,
+        gate: &G,
+        from: &Text,
+        workers: u32,
+        unread: &mut Unread,
+        slice: Vec<WaitingFile>,
+    ) -> Result<Vec<WaitingFile>, NoteFault>
+        requires some { 0 < workers }
+        requires workers { workers ≤ 64 }
+        requires few { length slice.items < 2 ^ 32 }
+        requires there { IfSome (F.told folders.old) (λ m. All (λ route. IsSome (fin.get m (full from.now route.path))) unread.old.routes.items) }
+        requires ahead { IsAhead from.now (F.told folders.old) unread.old }
+        ensures files { OnOk result (self.new.files.items ≡ self.old.files.items ++ map measured_by slice.items) }
+        ensures classes { OnOk result (self.new.scanned.items ≡ self.old.scanned.items ++ scans_of slice.items) }
+        ensures few { OnOk result (length self.new.scanned.items ≤ length self.old.scanned.items + length slice.items) }
+        ensures told { F.told folders.new ≡ F.told folders.old }
+        ensures read { IfOk result (λ next. SliceRead from.now (F.told folders.old) (left_in unread.old) (left_in unread.new) next.items) }
+        ensures ahead { OnOk result (IsAhead from.now (F.told folders.old) unread.new) }
+        ensures there { IfSome (F.told folders.old) (λ m. All (λ route. IsSome (fin.get m (full from.now route.path))) unread.new.routes.items) }
+        ensures counts { F.faults folders.old ≤ F.faults folders.new }
+        ensures err { IfErr result (NoteFails (λ m. first_large from.now m (left_in unread.old)) (F.told folders.old) (F.faults folders.old) (F.faults folders.new)) }
+    {
+        let (found, next) = map_beside(
+            rt,
+            alloc,
+            &slice,
+            &Measuring { alloc },
+            gate,
+            workers,
+            &mut || -> Result<Vec<WaitingFile>, NoteFault>
+                requires { IfSome (F.told folders.now) (λ m. All (λ route. IsSome (fin.get m (full from.now route.path))) unread.now.routes.items)
+                    × IsAhead from.now (F.told folders.now) unread.now }
+                ensures { (F.told folders.exit.now ≡ F.told folders.entry.now)
+                    × IfOk result (λ next. SliceRead from.entry.now (F.told folders.entry.now) (left_in unread.entry.now) (left_in unread.exit.now) next.items)
+                    × OnOk result (IsAhead from.entry.now (F.told folders.entry.now) unread.exit.now)
+                    × IfSome (F.told folders.entry.now) (λ m. All (λ route. IsSome (fin.get m (full from.entry.now route.path))) unread.exit.now.routes.items)
+                    × (F.faults folders.entry.now ≤ F.faults folders.exit.now)
+                    × IfErr result (NoteFails (λ m. first_large from.entry.now m (left_in unread.entry.now)) (F.told folders.entry.now) (F.faults folders.entry.now) (F.faults folders.exit.now)) }
+            { read_slice(alloc, folders, from, unread) },
+        );
+        let next = next?;
+        self.add(slice, found?)?;
+        Ok(next)
+    }
 }

@@ -14,9 +14,8 @@ use desk_base::Memory;
 use desk_file::{Route, Treatment, scan_class};
 use desk_graph::Scanned;
 use desk_ledger::digest_of;
-use desk_workers::{Gate, Job, map_batch};
+use desk_workers::Job;
 use std::alloc::Global;
-use std::thread::Threads;
 
 /// What a worker finds of a file: how many bytes it has and their digest, and what is kept of a class.
 #[derive(Debug, Drop)]
@@ -75,8 +74,8 @@ fn measure(alloc: Global, waiting: &WaitingFile) -> Result<Measures, Memory>
 
 /// Takes digests and scans classes.
 #[derive(Drop)]
-struct Measuring {
-    alloc: Global,
+pub(crate) struct Measuring {
+    pub(crate) alloc: Global,
 }
 
 impl Job for Measuring {
@@ -110,8 +109,8 @@ fn measured_with(waiting: WaitingFile, found: SizeAndDigest) -> Measured
     }
 }
 
-/// Adds the files of a batch, as its workers measured them.
-fn add_files(
+/// Adds the files of a slice, as its workers measured them.
+pub(crate) fn add_files(
     files: &mut Vec<Measured>,
     batch: Vec<WaitingFile>,
     found: &[Measures],
@@ -127,7 +126,7 @@ fn add_files(
 
 /// Adds what is kept of classes.
 #[tactic(auto, using(crate::proofs::Scans::added_none))]
-fn add_scanned(scanned: &mut Vec<Scanned>, found: Vec<Measures>) -> Result<(), Memory>
+pub(crate) fn add_scanned(scanned: &mut Vec<Scanned>, found: Vec<Measures>) -> Result<(), Memory>
     ensures classes { OnOk result (scanned.new.items ≡ scanned.old.items ++ all_scanned found.items) }
     ensures few { OnOk result (length scanned.new.items ≤ length scanned.old.items + length found.items) }
 {
@@ -137,26 +136,4 @@ fn add_scanned(scanned: &mut Vec<Scanned>, found: Vec<Measures>) -> Result<(), M
         }
     }
     Ok(())
-}
-
-/// Measures the files of a batch by so many workers, and adds them and what is kept of the classes among them.
-pub(crate) fn measure_batch<R: Threads + Sync, G: Gate + Sync>(
-    rt: &R,
-    alloc: Global,
-    gate: &G,
-    workers: u32,
-    batch: Vec<WaitingFile>,
-    files: &mut Vec<Measured>,
-    scanned: &mut Vec<Scanned>,
-) -> Result<(), Memory>
-    requires some { 0 < workers }
-    requires workers { workers ≤ 64 }
-    requires few { length batch.items < 2 ^ 32 }
-    ensures files { OnOk result (files.new.items ≡ files.old.items ++ map measured_by batch.items) }
-    ensures classes { OnOk result (scanned.new.items ≡ scanned.old.items ++ scans_of batch.items) }
-    ensures few { OnOk result (length scanned.new.items ≤ length scanned.old.items + length batch.items) }
-{
-    let found = map_batch(rt, alloc, &batch, &Measuring { alloc }, gate, workers)?;
-    add_files(files, batch, &found)?;
-    add_scanned(scanned, found)
 }

@@ -1,4 +1,4 @@
-//! The first reading of all files: each in parts, none of which is kept, but the classes, which are gathered in batches and
+//! The first reading of all files: each in parts, none of which is kept, but the classes, which are gathered in slices and
 //! measured on the workers.
 
 ghost use Rattle.std.specs.Prelude.{All, ◌≡◌, ◌≤◌, ◌<◌, ◌^◌, [], ◌∷◌, None, Err, IfErr, IfOk, IfSome, IsSome, length, map, option_map};
@@ -15,9 +15,10 @@ ghost use Rattle.desk_readings.specs.Readings.{first_large, found_in, measured_b
 
 use crate::contents::Content;
 use crate::faults::NoteFault;
-use crate::gathering::{Gathering, MeasuredFiles};
+use crate::gathering::MeasuredFiles;
 use crate::paths::full_path;
 use crate::reading::{read_first, read_whole};
+use crate::unread::{Unread, read_slice};
 use crate::waiting::{FirstRead, WaitingFile};
 use crate::{LARGE, WHOLE};
 use desk_base::{MAX_FILE_SIZE, Text};
@@ -25,6 +26,7 @@ use desk_file::{Route, Treatment};
 use desk_folders::{FolderFault, Folders};
 use desk_workers::Gate;
 use std::alloc::Global;
+use std::collections::VecDeque;
 use std::thread::Threads;
 
 /// How many bytes a file may have.
@@ -113,7 +115,7 @@ fn read_route<F: Folders>(
 }
 
 /// Reads one file for the first time.
-fn note_one<F: Folders>(
+pub(crate) fn note_one<F: Folders>(
     alloc: Global,
     folders: &mut F,
     from: &Text,
@@ -135,9 +137,9 @@ fn note_one<F: Folders>(
 
 /// Reads all files in their order: how many bytes each has and their digest, and what is kept of the classes among them. A file
 /// that is read whole has at most 67,108,864 bytes, any other at most 1,099,511,627,776: the answer is `TooLarge` with the first
-/// that has more. The classes are gathered into batches of at most 67,108,864 bytes; those of each full batch, and of the last,
-/// are measured by so many workers and then dropped. No other file is kept. The other errors are a fault of the folders and want
-/// of memory.
+/// that has more. The classes are gathered into slices, which end with the class with which they have 8,388,608 bytes or more, and
+/// have at most 67,108,864; those of each are measured by so many workers, while this thread reads the next slice, and then dropped.
+/// No other file is kept. The other errors are a fault of the folders and want of memory.
 pub fn note_all<R: Threads + Sync, F: Folders, G: Gate + Sync>(
     rt: &R,
     alloc: Global,
@@ -159,10 +161,14 @@ pub fn note_all<R: Threads + Sync, F: Folders, G: Gate + Sync>(
     ensures counts { F.faults folders.old ≤ F.faults folders.new }
     ensures err { IfErr result (NoteFails (λ m. first_large from.now m routes.items) (F.told folders.old) (F.faults folders.old) (F.faults folders.new)) }
 {
-    let mut gathering = Gathering::new(alloc);
-    for route in routes {
-        let waiting = note_one(alloc, folders, from, route)?;
-        gathering.add(rt, alloc, gate, workers, waiting)?;
+    let mut unread = Unread {
+        ahead: None,
+        routes: VecDeque::from_vec(routes),
+    };
+    let mut notes = MeasuredFiles::new(alloc);
+    let mut slice = read_slice(alloc, folders, from, &mut unread)?;
+    while !slice.is_empty() {
+        slice = notes.add_and_read(rt, alloc, folders, gate, from, workers, &mut unread, slice)?;
     }
-    Ok(gathering.finish(rt, alloc, gate, workers)?)
+    Ok(notes)
 }

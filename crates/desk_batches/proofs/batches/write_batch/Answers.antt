@@ -39,7 +39,7 @@ returns-in-Err-write_noted-clause-err g c =
     (g.F.Folders.told c.loop-i.folders) _ (g.K.Keeper.told c.args.keeper.now) (g.K.Keeper.told c.loop-i.keeper) _ e c.loop-i.invariant.stays
     (sound_of c.args.batch.now c.loop-i.i c.index-batch-i.result c.loop-i-test.true c.index-batch-i.is c.requires.sound).path c.loop-i-test.true c.index-batch-i.is
     (image_found (image_here (image_in c.args.rules.now c.args.graph.now.defined) c.args.from.now m) c.as_slice-images.result.now c.args.batch.now c.loop-i.i c.loop-i.next c.index-batch-i.result _ c.loop-i-test.true c.index-batch-i.is c.loop-i.invariant.next
-    (c.as_slice-images.ensures.value ∙ at_some (λ m. c.in-Ok.made.items ≡ map (image_here (image_in c.args.rules.now c.args.graph.now.defined) c.args.from.now m) (migrated c.args.batch.now)) (g.F.Folders.told c.args.folders.now) m e c.in-Ok.ensures.images))
+    (c.as_slice-images.ensures.value ∙ at_some (λ m. c.in-Ok.made.items ≡ map (image_here (image_in c.args.rules.now c.args.graph.now.defined) c.args.from.now m) (migrated c.args.batch.now)) (g.F.Folders.told c.args.folders.now) m e (rw (c.of-job.ensures.rules, c.of-job.ensures.graph) at c.in-Ok.ensures.images)))
     (c.loop-i.invariant.folders m e) (c.loop-i.invariant.ledger m e) c.in-Err-write_noted.ensures.err)
 
 pub returns-in-Err-write_noted-clause-stays : goal.returns-in-Err-write_noted-clause-stays
@@ -59,19 +59,19 @@ loop-i-preserved g c = record {
       (g.F.Folders.told c.args.folders.now) (g.F.Folders.told c.loop-i.folders) _ _ _ e c.loop-i.invariant.stays
       (sound_of c.args.batch.now c.loop-i.i c.index-batch-i.result c.loop-i-test.true c.index-batch-i.is c.requires.sound).path c.loop-i-test.true c.index-batch-i.is
       (image_found (image_here (image_in c.args.rules.now c.args.graph.now.defined) c.args.from.now m) c.as_slice-images.result.now c.args.batch.now c.loop-i.i c.loop-i.next c.index-batch-i.result _ c.loop-i-test.true c.index-batch-i.is c.loop-i.invariant.next
-      (c.as_slice-images.ensures.value ∙ at_some (λ m. c.in-Ok.made.items ≡ map (image_here (image_in c.args.rules.now c.args.graph.now.defined) c.args.from.now m) (migrated c.args.batch.now)) (g.F.Folders.told c.args.folders.now) m e c.in-Ok.ensures.images))
+      (c.as_slice-images.ensures.value ∙ at_some (λ m. c.in-Ok.made.items ≡ map (image_here (image_in c.args.rules.now c.args.graph.now.defined) c.args.from.now m) (migrated c.args.batch.now)) (g.F.Folders.told c.args.folders.now) m e (rw (c.of-job.ensures.rules, c.of-job.ensures.graph) at c.in-Ok.ensures.images)))
       (c.loop-i.invariant.folders m e) c.in-Ok-write_noted.ensures.did;
   ledger = λ m e. ledger_more c.args.to.now (image_in c.args.rules.now c.args.graph.now.defined) c.args.from.now m c.args.batch.now c.loop-i.i c.index-batch-i.result (fate_at c.as_slice-images.result.now c.loop-i.next)
       (g.F.Folders.told c.args.folders.now) (g.F.Folders.told c.loop-i.folders) _ (g.K.Keeper.told c.args.keeper.now) (g.K.Keeper.told c.loop-i.keeper) _ e c.loop-i.invariant.stays
       (sound_of c.args.batch.now c.loop-i.i c.index-batch-i.result c.loop-i-test.true c.index-batch-i.is c.requires.sound).path c.loop-i-test.true c.index-batch-i.is
       (image_found (image_here (image_in c.args.rules.now c.args.graph.now.defined) c.args.from.now m) c.as_slice-images.result.now c.args.batch.now c.loop-i.i c.loop-i.next c.index-batch-i.result _ c.loop-i-test.true c.index-batch-i.is c.loop-i.invariant.next
-      (c.as_slice-images.ensures.value ∙ at_some (λ m. c.in-Ok.made.items ≡ map (image_here (image_in c.args.rules.now c.args.graph.now.defined) c.args.from.now m) (migrated c.args.batch.now)) (g.F.Folders.told c.args.folders.now) m e c.in-Ok.ensures.images))
+      (c.as_slice-images.ensures.value ∙ at_some (λ m. c.in-Ok.made.items ≡ map (image_here (image_in c.args.rules.now c.args.graph.now.defined) c.args.from.now m) (migrated c.args.batch.now)) (g.F.Folders.told c.args.folders.now) m e (rw (c.of-job.ensures.rules, c.of-job.ensures.graph) at c.in-Ok.ensures.images)))
       (c.loop-i.invariant.ledger m e) c.in-Ok-write_noted.ensures.did;
   outcomes = λ m e. outcome_more (image_in c.args.rules.now c.args.graph.now.defined) c.args.from.now m c.args.batch.now c.loop-i.i c.index-batch-i.result (fate_at c.as_slice-images.result.now c.loop-i.next)
       (g.F.Folders.told c.args.folders.now) (g.F.Folders.told c.loop-i.folders) c.args.outcomes.now.items c.loop-i.outcomes.items _ c.in-Ok-write_noted.outcome e c.loop-i.invariant.stays
       (sound_of c.args.batch.now c.loop-i.i c.index-batch-i.result c.loop-i-test.true c.index-batch-i.is c.requires.sound).path c.loop-i-test.true c.index-batch-i.is
       (image_found (image_here (image_in c.args.rules.now c.args.graph.now.defined) c.args.from.now m) c.as_slice-images.result.now c.args.batch.now c.loop-i.i c.loop-i.next c.index-batch-i.result _ c.loop-i-test.true c.index-batch-i.is c.loop-i.invariant.next
-      (c.as_slice-images.ensures.value ∙ at_some (λ m. c.in-Ok.made.items ≡ map (image_here (image_in c.args.rules.now c.args.graph.now.defined) c.args.from.now m) (migrated c.args.batch.now)) (g.F.Folders.told c.args.folders.now) m e c.in-Ok.ensures.images))
+      (c.as_slice-images.ensures.value ∙ at_some (λ m. c.in-Ok.made.items ≡ map (image_here (image_in c.args.rules.now c.args.graph.now.defined) c.args.from.now m) (migrated c.args.batch.now)) (g.F.Folders.told c.args.folders.now) m e (rw (c.of-job.ensures.rules, c.of-job.ensures.graph) at c.in-Ok.ensures.images)))
       (c.loop-i.invariant.outcomes m e) c.in-Ok-write_noted.ensures.outcome (search rules);
 }
 

@@ -17,9 +17,9 @@ invariant-loop-i g l = record {
   filled : vec_len l.outcomes ≡ vec_len l.fn.outcomes + l.i;
   room : vec_capacity l.outcomes ≡ vec_capacity l.fn.outcomes;
   folders : (m : Contents) → g.F.Folders.told l.fn.folders ≡ Some m
-      → g.F.Folders.told l.folders ≡ option_map (files_after l.to (take l.i (works_in (image_in l.rules l.graph.defined) l.from m l.batch))) (g.F.Folders.told l.fn.folders);
+      → g.F.Folders.told l.folders ≡ option_map (files_after l.to (take l.i (works_in (image_in l.fn.rules l.fn.graph.defined) l.from m l.batch))) (g.F.Folders.told l.fn.folders);
   ledger : (m : Contents) → g.F.Folders.told l.fn.folders ≡ Some m
-      → g.K.Keeper.told l.keeper ≡ option_map (ledger_after (take l.i (works_in (image_in l.rules l.graph.defined) l.from m l.batch))) (g.K.Keeper.told l.fn.keeper);
+      → g.K.Keeper.told l.keeper ≡ option_map (ledger_after (take l.i (works_in (image_in l.fn.rules l.fn.graph.defined) l.from m l.batch))) (g.K.Keeper.told l.fn.keeper);
   outcomes : (m : Contents) → g.F.Folders.told l.fn.folders ≡ Some m
-      → l.outcomes.items ≡ l.fn.outcomes.items ++ map outcome_of (take l.i (works_in (image_in l.rules l.graph.defined) l.from m l.batch));
+      → l.outcomes.items ≡ l.fn.outcomes.items ++ map outcome_of (take l.i (works_in (image_in l.fn.rules l.fn.graph.defined) l.from m l.batch));
 }

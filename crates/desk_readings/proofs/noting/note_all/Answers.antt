@@ -1,56 +1,54 @@
-use Rattle.std.proofs.Common.{rules, arith, ◌∙◌, length, length-append, ◌∷◌, []}
-use Rattle.std.proofs.lemmas.Iterator.Adapters.{YieldsList-from_vec}
-use Rattle.std.proofs.lemmas.Iterator.Consumers.{YieldsList-so_far, YieldsList-turn}
+use Rattle.std.proofs.Common.{rules, arith, ◌≡◌, ◌++◌, ◌∙◌, length, map}
+use Rattle.std.proofs.lemmas.Bool.Decides.{nat_tests}
+use Rattle.std.proofs.lemmas.List.{nil_from_length}
 use Rattle.std.proofs.lemmas.Result.{err_from_is_err_and}
+use Rattle.desk_readings.proofs.FirstReading.{fails_behind, few_turned, noted_end, noted_turned, split_turned, within_end, within_turned}
 use Rattle.desk_base.proofs.Results.{at_some}
-use Rattle.desk_readings.proofs.FirstReading.{fails_later, noted_first, noted_more, routes_more, split_now, there_now, within_more}
-use Rattle.desk_readings.specs.Gathered.{all_kept, all_measured}
-use Rattle.desk_readings.specs.Noting.{NotesOne}
+use Rattle.desk_readings.proofs.Fronts.{if_some}
+use Rattle.desk_readings.specs.Slices.{left_in, routes_in}
+use Rattle.desk_readings.specs.Noting.{NotedTo}
+use Rattle.desk_readings.specs.Readings.{measured_by, scans_of}
+use Rattle.desk_readings.specs.declared.measured.Measured.{Measured}
 use Rattle.desk_readings.proofs.noting.note_all.Goals as goal
 
-pub loop-route-init : goal.loop-route-init
-loop-route-init g c = record {
-  told = search rules;
-  counts = search rules;
-  batch = search rules;
-  count = search rules;
-  routes = search rules;
-  within = search rules;
-  noted = λ m e. noted_first c.args.from.now m _ _ _ c.new-gathering.ensures.files c.new-gathering.ensures.scanned c.new-gathering.ensures.batch;
-}
-
-pub note_one-requires : goal.note_one-requires
-note_one-requires g c =
-    let road = YieldsList-from_vec {s = c.into_iter-route-iterator.result} c.args.routes.items (cc) (cc) in
-    let turn = YieldsList-turn road c.loop-route.yielded c.loop-route.route-iterator c.loop-route.yielded_by c.next.result c.next.new.self c.in-Some.route c.in-Some.is c.next.ensures.steps in
-    record {
-      there = there_now c.args.from.now (g.F.Folders.told c.args.folders.now) (g.F.Folders.told c.loop-route.folders) c.args.routes.items (length c.loop-route.yielded) c.in-Some.route
-          c.loop-route.invariant.told c.requires.there turn.0 turn.1;
-    }
-
-pub returns-in_err-waiting-clause-err : goal.returns-in_err-waiting-clause-err
-returns-in_err-waiting-clause-err g c =
-    let road = YieldsList-from_vec {s = c.into_iter-route-iterator.result} c.args.routes.items (cc) (cc) in
-    let turn = YieldsList-turn road c.loop-route.yielded c.loop-route.route-iterator c.loop-route.yielded_by c.next.result c.next.new.self c.in-Some.route c.in-Some.is c.next.ensures.steps in
-    let so_far = YieldsList-so_far road c.loop-route.yielded c.loop-route.route-iterator c.loop-route.yielded_by in
-    let p = err_from_is_err_and c.from_residual.result c.from_residual.ensures.1 in
+pub returns-in_err-slice-2-clause-err : goal.returns-in_err-slice-2-clause-err
+returns-in_err-slice-2-clause-err g c =
+    let p = err_from_is_err_and c.from_residual-in_err-slice-2.result c.from_residual-in_err-slice-2.ensures.1 in
     rw (p.1, p.2)
-    (fails_later c.args.from.now (g.F.Folders.told c.args.folders.now) (g.F.Folders.told c.loop-route.folders) c.loop-route.yielded c.args.routes.items _ c.in-Some.route _ _ _ c.in_err-waiting.field-0.0
-    c.loop-route.invariant.told c.loop-route.invariant.counts (split_now c.args.routes.items c.loop-route.yielded c.in-Some.route so_far turn.0 turn.1) (λ m e. (c.loop-route.invariant.noted m e).fit) c.in_err-waiting.ensures.err)
+    (fails_behind c.args.from.now (g.F.Folders.told c.args.folders.now) (g.F.Folders.told c.loop-alloc.folders) (map (λ (file : Measured). file.route) c.loop-alloc.notes.files.items ++ routes_in c.loop-alloc.slice.items)
+    c.args.routes.items (left_in c.loop-alloc.unread) _ _ _ c.in_err-slice-2.field-0.0 c.loop-alloc.invariant.told c.loop-alloc.invariant.counts c.loop-alloc.invariant.split
+    (λ m e. (c.loop-alloc.invariant.noted m e).fit) c.in_err-slice-2.ensures.err)
 
-pub loop-route-preserved : goal.loop-route-preserved
-loop-route-preserved g c =
-    let behind = length-append c.loop-route.yielded (c.in-Some.route ∷ []) in
+pub loop-alloc-preserved : goal.loop-alloc-preserved
+loop-alloc-preserved g c =
+    let grown : c.add_and_read.new.self.files.items ≡ c.loop-alloc.notes.files.items ++ map measured_by c.loop-alloc.slice.items = search rules in
+    let kept : c.add_and_read.new.self.scanned.items ≡ c.loop-alloc.notes.scanned.items ++ scans_of c.loop-alloc.slice.items = search rules in
     record {
       told = search rules;
       counts = search rules;
-      batch = omega (arith, behind, c.loop-route.invariant.batch, c.in_ok-add.ensures.batch);
-      count = omega (arith, behind, c.loop-route.invariant.count, c.in_ok-add.ensures.count);
-      routes = routes_more c.loop-route.yielded c.in-Some.route (all_measured c.loop-route.gathering) (all_measured c.add.new.self) c.in_ok-waiting.waiting
-          c.loop-route.invariant.routes c.in_ok-waiting.ensures.route c.in_ok-add.ensures.files;
-      within = within_more (all_measured c.loop-route.gathering) (all_measured c.add.new.self) c.in_ok-waiting.waiting c.loop-route.invariant.within c.in_ok-waiting.ensures.within c.in_ok-add.ensures.files;
-      noted = λ m e. noted_more c.args.from.now m c.loop-route.yielded c.in-Some.route (all_measured c.loop-route.gathering) (all_measured c.add.new.self) (all_kept c.loop-route.gathering) (all_kept c.add.new.self)
-          c.in_ok-waiting.waiting (c.loop-route.invariant.noted m e)
-          (at_some (λ m. NotesOne c.args.from.now m c.in-Some.route c.in_ok-waiting.waiting) (g.F.Folders.told c.loop-route.folders) m (c.loop-route.invariant.told ∙ e) c.in_ok-waiting.ensures.one)
-          c.in_ok-add.ensures.files c.in_ok-add.ensures.classes;
+      split = split_turned c.args.routes.items (left_in c.loop-alloc.unread) (left_in c.add_and_read.new.unread) c.loop-alloc.notes.files.items c.add_and_read.new.self.files.items c.loop-alloc.slice.items c.in_ok-slice-2.slice.items
+          c.loop-alloc.invariant.split grown c.in_ok-slice-2.ensures.read.split;
+      within = within_turned c.loop-alloc.notes.files.items c.add_and_read.new.self.files.items c.loop-alloc.slice.items c.in_ok-slice-2.slice.items c.loop-alloc.invariant.within c.in_ok-slice-2.ensures.read.within grown;
+      few = few_turned c.loop-alloc.notes.files.items c.add_and_read.new.self.files.items c.loop-alloc.notes.scanned.items c.add_and_read.new.self.scanned.items c.loop-alloc.slice.items c.loop-alloc.invariant.few c.in_ok-slice-2.ensures.few grown;
+      noted = λ m e. noted_turned c.args.from.now m c.loop-alloc.notes.files.items c.add_and_read.new.self.files.items c.loop-alloc.notes.scanned.items c.add_and_read.new.self.scanned.items c.loop-alloc.slice.items c.in_ok-slice-2.slice.items
+          (c.loop-alloc.invariant.noted m e)
+          (at_some (λ m. NotedTo c.args.from.now m (routes_in c.in_ok-slice-2.slice.items) (map measured_by c.in_ok-slice-2.slice.items) (scans_of c.in_ok-slice-2.slice.items)) (g.F.Folders.told c.loop-alloc.folders) m
+          (c.loop-alloc.invariant.told ∙ e) c.in_ok-slice-2.ensures.read.noted) grown kept;
+      some = c.in_ok-slice-2.ensures.read.some;
+      there = search rules;
+      ahead = search rules;
     }
+
+pub returns-clause-noted : goal.returns-clause-noted
+returns-clause-noted g c =
+    let zero : length c.loop-alloc.slice.items ≡ 0 = grind (arith, nat_tests) in
+    let none = nil_from_length c.loop-alloc.slice.items zero in
+    if_some _ (g.F.Folders.told c.args.folders.now) (λ m e.
+    noted_end c.args.from.now m c.args.routes.items (left_in c.loop-alloc.unread) c.loop-alloc.notes.files.items c.loop-alloc.notes.scanned.items c.loop-alloc.slice.items (c.loop-alloc.invariant.noted m e)
+    c.loop-alloc.invariant.split none (c.loop-alloc.invariant.some none))
+
+pub returns-clause-within : goal.returns-clause-within
+returns-clause-within g c =
+    let zero : length c.loop-alloc.slice.items ≡ 0 = grind (arith, nat_tests) in
+    let none = nil_from_length c.loop-alloc.slice.items zero in
+    within_end c.loop-alloc.notes.files.items c.loop-alloc.slice.items c.loop-alloc.invariant.within none

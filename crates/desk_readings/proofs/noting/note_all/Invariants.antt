@@ -1,17 +1,28 @@
-use Rattle.std.proofs.Common.{All, ◌≡◌, ◌≤◌, Some, map, length}
+use Rattle.std.proofs.Common.{All, ◌≡◌, ◌≤◌, ◌+◌, ◌++◌, [], Some, map, length}
 use Rattle.desk_folders.specs.Contents.{Contents}
-use Rattle.desk_readings.specs.Gathered.{all_kept, all_measured, kept_count}
+use Rattle.std.specs.FinMap as fin
+use Rattle.std.specs.Prelude.{IfSome, IsSome}
+use Rattle.desk_base.specs.Paths.{full}
+use Rattle.desk_file.specs.declared.routes.Route.{Route}
+use Rattle.desk_readings.specs.Slices.{IsAhead, left_in, routes_in}
 use Rattle.desk_readings.specs.Noting.{IsWithin, NotedTo}
+use Rattle.desk_readings.specs.Readings.{measured_by, scans_of}
 use Rattle.desk_readings.specs.declared.measured.Measured.{Measured}
 use Rattle.desk_readings.proofs.noting.note_all.Given as goal
 
-abbrev pub invariant-loop-route : goal.invariant-loop-route
-invariant-loop-route g l = record {
+abbrev pub invariant-loop-alloc : goal.invariant-loop-alloc
+invariant-loop-alloc g l = record {
   told : g.F.Folders.told l.folders ≡ g.F.Folders.told l.fn.folders;
   counts : g.F.Folders.faults l.fn.folders ≤ g.F.Folders.faults l.folders;
-  batch : length l.gathering.batch.items ≤ length l.yielded;
-  count : kept_count l.gathering ≤ length l.yielded;
-  routes : map (λ (file : Measured). file.route) (all_measured l.gathering) ≡ l.yielded;
-  within : All IsWithin (all_measured l.gathering);
-  noted : (m : Contents) → g.F.Folders.told l.fn.folders ≡ Some m → NotedTo l.from m l.yielded (all_measured l.gathering) (all_kept l.gathering);
+  split : l.fn.routes.items ≡ (map (λ (file : Measured). file.route) l.notes.files.items ++ routes_in l.slice.items) ++ left_in l.unread;
+  within : All IsWithin (l.notes.files.items ++ map measured_by l.slice.items);
+  few : length l.notes.scanned.items ≤ length l.notes.files.items;
+  noted : (m : Contents) → g.F.Folders.told l.fn.folders ≡ Some m
+      → NotedTo l.from m (map (λ (file : Measured). file.route) l.notes.files.items ++ routes_in l.slice.items) (l.notes.files.items ++ map measured_by l.slice.items) (l.notes.scanned.items ++ scans_of l.slice.items);
+  some : l.slice.items ≡ [] → left_in l.unread ≡ [];
+  there : IfSome (g.F.Folders.told l.fn.folders) (λ m. All (λ (r : Route). IsSome (fin.get m (full l.from r.path))) l.unread.routes.items);
+  ahead : IsAhead l.from (g.F.Folders.told l.fn.folders) l.unread;
 }
+
+abbrev pub decreases-loop-alloc : goal.decreases-loop-alloc
+decreases-loop-alloc g l = length l.slice.items + length (left_in l.unread)

@@ -1,0 +1,122 @@
+use Rattle.std.proofs.Common.{rules, arith, ◌≡◌, ◌++◌, ◌∙◌, ap, sym, length, map, Ok}
+use Rattle.std.proofs.lemmas.Result.{IfOk-at_ok}
+use Rattle.std.specs.Prelude.{All, IfSome}
+use Rattle.desk_base.proofs.Results.{at_some}
+use Rattle.desk_file.specs.Linked.{image_in}
+use Rattle.desk_file.specs.Routes.{IsRouteBy}
+use Rattle.desk_batches.specs.Notes.{IsNoteOf, IsSound}
+use Rattle.desk_batches.specs.Turns.{image_here, image_of_input, input_in, migrated, slice_length}
+use Rattle.desk_batches.specs.declared.inputs.Input.{Input}
+use Rattle.desk_batches.specs.declared.noted.Noted.{Noted}
+use Rattle.desk_batches.proofs.Taking.{migrated_short}
+use Rattle.desk_batches.proofs.Slices.{all_back, all_front, both_ok, count_first, count_next, digests_known, few_inputs, notes_front, notes_later, slice_more, slice_read}
+use Rattle.desk_batches.proofs.images.images_of_batch.Goals as goal
+
+pub loop-rest-init : goal.loop-rest-init
+loop-rest-init g c =
+    let rules' = c.args.job.now.rules.now in
+    let defined = c.args.job.now.graph.now.defined in
+    let from = c.args.from.now in
+    let told = g.F.Folders.told c.args.folders.now in
+    let batch = c.args.batch.now in
+    let slice = c.split_slice.result.0.now in
+    let rest = c.split_slice.result.1.now in
+    let n = slice_length batch in
+    let split = c.split_slice.ensures in
+    let inputs = c.in_ok-inputs.inputs.items in
+    let none = c.new-images.ensures.items in
+    record {
+      told = search rules;
+      counts = search rules;
+      images = λ m e.
+          let read = at_some (λ m. inputs ≡ map (input_in from m) (migrated slice)) told m e c.in_ok-inputs.ensures.inputs in
+          slice_read rules' defined from m batch slice rest n inputs c.requires.routes split read
+          ∙ ap (λ ys. ys ++ (map (image_of_input rules' defined) inputs ++ map (image_here (image_in rules' defined) from m) (migrated rest))) (sym none);
+      count = let first = count_first batch slice rest n inputs split c.in_ok-inputs.ensures.routes in let empty = ap length none in omega (arith, first, empty);
+      digests = λ m e. digests_known from told m slice inputs e (notes_front from told batch slice rest n split c.requires.notes) c.in_ok-inputs.ensures.inputs;
+      short = let long = split.4 in omega (arith, long);
+      sound = all_back IsSound batch slice rest n split c.requires.sound;
+      routes = all_back (λ (noted : Noted). IsRouteBy rules' noted.route) batch slice rest n split c.requires.routes;
+      notes = λ m e. all_back (IsNoteOf from m) batch slice rest n split (at_some (λ m. All (IsNoteOf from m) batch) told m e c.requires.notes);
+    }
+
+pub migrate_and_read-made-requires-clause-few : goal.migrate_and_read-made-requires-clause-few
+migrate_and_read-made-requires-clause-few g c κs within =
+    let all : c.deref.result.now ≡ c.loop-rest.inputs.items = search rules in
+    let same = ap length all in
+    let few = few_inputs c.args.batch.now c.loop-rest.rest.now _ _ _ c.loop-rest.invariant.count in
+    let most = c.requires.few in
+    omega (arith, same, few, most)
+
+pub migrate_batch-last-requires-clause-few : goal.migrate_batch-last-requires-clause-few
+migrate_batch-last-requires-clause-few g c κs within =
+    let all : c.deref-2.result.now ≡ c.loop-rest.inputs.items = search rules in
+    let same = ap length all in
+    let few = few_inputs c.args.batch.now c.loop-rest.rest.now _ _ _ c.loop-rest.invariant.count in
+    let most = c.requires.few in
+    omega (arith, same, few, most)
+
+pub stopped_by_rest-requires-clause-few : goal.stopped_by_rest-requires-clause-few
+stopped_by_rest-requires-clause-few g c κs within =
+    let rest = c.loop-rest.rest.now in
+    let next = c.split_slice-in-loop-rest.result.0.now in
+    let behind = c.split_slice-in-loop-rest.result.1.now in
+    let was : c.migrate_and_read-made.result.1 ≡ Ok c.in_ok-ahead.ahead = search rules in
+    let routes = IfOk-at_ok (λ inputs. map (λ (input : Input). input.route) inputs.items ≡ map (λ (noted : Noted). noted.route) (migrated next)) was c.migrate_and_read-made.ensures.routes in
+    let all : c.deref-in-Err.result.now ≡ c.in_ok-ahead.ahead.items = search rules in
+    let same = ap length all in
+    let rests = count_first rest next behind (slice_length rest) c.in_ok-ahead.ahead.items c.split_slice-in-loop-rest.ensures routes in
+    let short = migrated_short rest in
+    let shorter = c.loop-rest.invariant.short in
+    let most = c.requires.few in
+    omega (arith, same, rests, short, shorter, most)
+
+pub stopped_by_rest-requires-clause-sound : goal.stopped_by_rest-requires-clause-sound
+stopped_by_rest-requires-clause-sound g c κs within =
+    all_back IsSound c.loop-rest.rest.now c.split_slice-in-loop-rest.result.0.now c.split_slice-in-loop-rest.result.1.now (slice_length c.loop-rest.rest.now) c.split_slice-in-loop-rest.ensures c.loop-rest.invariant.sound
+
+pub stopped_by_rest-requires-clause-notes : goal.stopped_by_rest-requires-clause-notes
+stopped_by_rest-requires-clause-notes g c κs within =
+    let now : g.F.Folders.told c.migrate_and_read-made.new.folders ≡ g.F.Folders.told c.args.folders.now = search rules in
+    notes_later c.args.from.now (g.F.Folders.told c.args.folders.now) (g.F.Folders.told c.migrate_and_read-made.new.folders) c.split_slice-in-loop-rest.result.1.now now
+    (λ m e. all_back (IsNoteOf c.args.from.now m) c.loop-rest.rest.now c.split_slice-in-loop-rest.result.0.now c.split_slice-in-loop-rest.result.1.now (slice_length c.loop-rest.rest.now) c.split_slice-in-loop-rest.ensures
+    (c.loop-rest.invariant.notes m e))
+
+pub loop-rest-preserved : goal.loop-rest-preserved
+loop-rest-preserved g c =
+    let rules' = c.args.job.now.rules.now in
+    let defined = c.args.job.now.graph.now.defined in
+    let from = c.args.from.now in
+    let told = g.F.Folders.told c.args.folders.now in
+    let batch = c.args.batch.now in
+    let rest = c.loop-rest.rest.now in
+    let next = c.split_slice-in-loop-rest.result.0.now in
+    let behind = c.split_slice-in-loop-rest.result.1.now in
+    let n = slice_length rest in
+    let split = c.split_slice-in-loop-rest.ensures in
+    let whole : c.deref.result.now ≡ c.loop-rest.inputs.items = search rules in
+    let inputs = c.loop-rest.inputs.items in
+    let ahead = c.in_ok-ahead.ahead.items in
+    let now : g.F.Folders.told c.loop-rest.folders ≡ told = c.loop-rest.invariant.told in
+    let was : c.migrate_and_read-made.result.1 ≡ Ok c.in_ok-ahead.ahead = search rules in
+    let routes = IfOk-at_ok (λ inputs. map (λ (input : Input). input.route) inputs.items ≡ map (λ (noted : Noted). noted.route) (migrated next)) was c.migrate_and_read-made.ensures.routes in
+    let reads = IfOk-at_ok (λ inputs. IfSome (g.F.Folders.told c.loop-rest.folders) (λ m. inputs.items ≡ map (input_in from m) (migrated next))) was c.migrate_and_read-made.ensures.inputs in
+    record {
+      told = search rules;
+      counts = search rules;
+      images = λ m e.
+          both_ok c.migrate_and_read-made.result.0 c.in_default.ensures.made c.migrate_and_read-made.ensures.images c.in_default.ensures.ok (λ more is grown.
+          slice_more rules' defined from m batch rest next behind n inputs ahead c.loop-rest.images.items more.items c.append_images.new.images.items c.loop-rest.invariant.routes split (c.loop-rest.invariant.images m e)
+          (is ∙ ap (map (image_of_input rules' defined)) whole) grown (at_some (λ m. ahead ≡ map (input_in from m) (migrated next)) (g.F.Folders.told c.loop-rest.folders) m (now ∙ e) reads));
+      count =
+          both_ok c.migrate_and_read-made.result.0 c.in_default.ensures.made c.migrate_and_read-made.ensures.images c.in_default.ensures.ok (λ more is grown.
+          count_next rules' defined batch rest next behind n inputs ahead c.loop-rest.images.items more.items c.append_images.new.images.items split c.loop-rest.invariant.count
+          (is ∙ ap (map (image_of_input rules' defined)) whole) grown routes);
+      digests = λ m e.
+          digests_known from (g.F.Folders.told c.loop-rest.folders) m next ahead (now ∙ e)
+          (notes_later from told (g.F.Folders.told c.loop-rest.folders) next now (λ m e. all_front (IsNoteOf from m) rest next behind n split (c.loop-rest.invariant.notes m e))) reads;
+      short = let long = split.4 in let before = c.loop-rest.invariant.short in omega (arith, long, before);
+      sound = all_back IsSound rest next behind n split c.loop-rest.invariant.sound;
+      routes = all_back (λ (noted : Noted). IsRouteBy rules' noted.route) rest next behind n split c.loop-rest.invariant.routes;
+      notes = λ m e. all_back (IsNoteOf from m) rest next behind n split (c.loop-rest.invariant.notes m e);
+    }
