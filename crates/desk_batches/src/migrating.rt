@@ -34,6 +34,17 @@ pub enum Again {
     Other(Digest),
 }
 
+/// So many workers, and the gate that each item passes.
+#[derive(Drop)]
+pub struct Crew<'r, R, G> {
+    pub(crate) rt: &'r R,
+    pub(crate) gate: &'r G,
+    /// How many workers there are, from 1 to 64.
+    pub(crate) workers: u32,
+    ghost some: { 0 < workers },
+    ghost most: { workers ≤ 64 },
+}
+
 /// Migrates files that were read whole, in an application: what the workers share.
 #[derive(Drop)]
 pub struct Migration<'r> {
@@ -146,40 +157,32 @@ fn images_in(
 /// The images of files that were read whole, by so many workers; `Moved` where the bytes of one have another digest than the one
 /// that was noted.
 pub(crate) fn migrate_batch<R: Threads + Sync, G: Gate + Sync>(
-    rt: &R,
+    crew: &Crew<'_, R, G>,
     job: &Migration<'_>,
     inputs: &[Input],
-    gate: &G,
-    workers: u32,
 ) -> Result<Vec<Result<DigestedImage, Reason>>, Stop>
-    requires some { 0 < workers }
-    requires workers { workers ≤ 64 }
     requires few { length inputs.now < 2 ^ 32 }
     ensures images { IfOk result (λ images. images.items ≡ map (image_of_input job.now.rules.now job.now.graph.now.defined) inputs.now) }
     ensures same { IfOk result (λ _. All HasItsDigest inputs.now) }
     ensures err { IfErr result (MovedIn inputs.now) }
 {
-    let made = map_batch(rt, job.alloc, inputs, job, gate, workers)?;
+    let made = map_batch(crew.rt, job.alloc, inputs, job, crew.gate, crew.workers)?;
     images_in(job.alloc, job.rules, job.graph, inputs, made)
 }
 
 /// What `migrate_batch` gives for files that were read whole, and what `read_batch` gives for the next, which this thread reads
 /// meanwhile.
 pub(crate) fn migrate_and_read<R: Threads + Sync, F: Folders, G: Gate + Sync>(
-    rt: &R,
+    crew: &Crew<'_, R, G>,
     job: &Migration<'_>,
     folders: &mut F,
     from: &Text,
     inputs: &[Input],
     next: &[Noted],
-    gate: &G,
-    workers: u32,
 ) -> (
     Result<Vec<Result<DigestedImage, Reason>>, Stop>,
     Result<Vec<Input>, Stop>,
 )
-    requires some { 0 < workers }
-    requires workers { workers ≤ 64 }
     requires few { length inputs.now < 2 ^ 32 }
     requires sound { All IsSound next.now }
     requires notes { IfSome (F.told folders.old) (λ m. All (IsNoteOf from.now m) next.now) }
@@ -193,12 +196,12 @@ pub(crate) fn migrate_and_read<R: Threads + Sync, F: Folders, G: Gate + Sync>(
 {
     let alloc = job.alloc;
     let (made, read) = map_beside(
-        rt,
+        crew.rt,
         alloc,
         inputs,
         job,
-        gate,
-        workers,
+        crew.gate,
+        crew.workers,
         &mut || -> Result<Vec<Input>, Stop>
             requires { All IsSound next.now × IfSome (F.told folders.now) (λ m. All (IsNoteOf from.now m) next.now) }
             ensures { (F.told folders.exit.now ≡ F.told folders.entry.now)

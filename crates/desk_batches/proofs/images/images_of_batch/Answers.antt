@@ -56,8 +56,8 @@ migrate_batch-last-requires-clause-few g c κs within =
     let most = c.requires.few in
     omega (arith, same, few, most)
 
-pub stopped_by_rest-requires-clause-few : goal.stopped_by_rest-requires-clause-few
-stopped_by_rest-requires-clause-few g c κs within =
+pub read_rest-requires-clause-few : goal.read_rest-requires-clause-few
+read_rest-requires-clause-few g c κs within =
     let rest = c.loop-rest.rest.now in
     let next = c.split_slice-in-loop-rest.result.0.now in
     let behind = c.split_slice-in-loop-rest.result.1.now in
@@ -71,12 +71,12 @@ stopped_by_rest-requires-clause-few g c κs within =
     let most = c.requires.few in
     omega (arith, same, rests, short, shorter, most)
 
-pub stopped_by_rest-requires-clause-sound : goal.stopped_by_rest-requires-clause-sound
-stopped_by_rest-requires-clause-sound g c κs within =
+pub read_rest-requires-clause-sound : goal.read_rest-requires-clause-sound
+read_rest-requires-clause-sound g c κs within =
     all_back IsSound c.loop-rest.rest.now c.split_slice-in-loop-rest.result.0.now c.split_slice-in-loop-rest.result.1.now (slice_length c.loop-rest.rest.now) c.split_slice-in-loop-rest.ensures c.loop-rest.invariant.sound
 
-pub stopped_by_rest-requires-clause-notes : goal.stopped_by_rest-requires-clause-notes
-stopped_by_rest-requires-clause-notes g c κs within =
+pub read_rest-requires-clause-notes : goal.read_rest-requires-clause-notes
+read_rest-requires-clause-notes g c κs within =
     let now : g.F.Folders.told c.migrate_and_read-made.new.folders ≡ g.F.Folders.told c.args.folders.now = search rules in
     notes_later c.args.from.now (g.F.Folders.told c.args.folders.now) (g.F.Folders.told c.migrate_and_read-made.new.folders) c.split_slice-in-loop-rest.result.1.now now
     (λ m e. all_back (IsNoteOf c.args.from.now m) c.loop-rest.rest.now c.split_slice-in-loop-rest.result.0.now c.split_slice-in-loop-rest.result.1.now (slice_length c.loop-rest.rest.now) c.split_slice-in-loop-rest.ensures
