@@ -13,7 +13,7 @@ ghost use Rattle.desk_words.specs.Roots.{IsPathRoot, RootsApart};
 
 use crate::cutting::batch_end;
 use crate::images::images_of_batch;
-use crate::migrating::{Crew, Migration};
+use crate::migrating::{Migration, Workers};
 use crate::noted::{Noted, Outcome, Way};
 use crate::stops::Stop;
 use crate::writing::write_noted;
@@ -103,8 +103,12 @@ fn write_batch<R: Threads + Sync, F: Folders, K: Keeper, G: Gate + Sync>(
     ensures cause { IfErr result (λ stopped. HasCause (F.told folders.old) stopped.why (F.faults folders.old) (F.faults folders.new) (K.faults keeper.old) (K.faults keeper.new)) }
 {
     let job = Migration::of(alloc, rules, graph);
-    let crew = Crew { rt, gate, workers };
-    let made = match images_of_batch(&crew, &job, folders, from, batch) {
+    let workers = Workers {
+        rt,
+        gate,
+        count: workers,
+    };
+    let made = match images_of_batch(&workers, &job, folders, from, batch) {
         Ok(made) => made,
         Err(why) => {
             return Err(Stopped {

@@ -58,9 +58,9 @@ pub(crate) fn batch_end(noted: &[Noted], at: usize) -> usize
 
 /// The first slice of files, and the files behind it: it takes as many files as fit, and one where none does.
 pub(crate) fn split_slice(noted: &[Noted]) -> (&[Noted], &[Noted])
-    requires some { 0 < length noted.now }
-    requires sound { All IsSound noted.now }
+    requires { All IsSound noted.now }
     ensures { IsSplitAt noted.now (slice_length noted.now) result.0.now result.1.now }
 {
-    noted.split_at(fitting_end(noted, 0, SLICE).max(1))
+    let end = fitting_end(noted, 0, SLICE).max(1);
+    noted.split_at(end.min(noted.len()))
 }

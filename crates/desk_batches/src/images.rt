@@ -11,7 +11,7 @@ ghost use Rattle.desk_batches.specs.declared.stops.Stop.TheVariants as stop;
 use crate::cutting::split_slice;
 use crate::digested::DigestedImage;
 use crate::inputs::{Input, read_batch};
-use crate::migrating::{Crew, Migration, migrate_and_read, migrate_batch};
+use crate::migrating::{Migration, Workers, migrate_and_read, migrate_batch};
 use crate::noted::Noted;
 use crate::stops::Stop;
 use desk_base::Text;
@@ -34,52 +34,16 @@ fn append_images(
     Ok(())
 }
 
-/// Whether memory is wanting for the images of files that were read whole.
-fn lacks_memory<R: Threads + Sync, G: Gate + Sync>(
-    crew: &Crew<'_, R, G>,
-    job: &Migration<'_>,
-    inputs: &[Input],
-) -> bool
-    requires { length inputs.now < 2 ^ 32 }
-{
-    matches!(migrate_batch(crew, job, inputs), Err(Stop::Memory))
-}
-
-/// Reads the rest of a batch of which a slice has no images, and the next slice was read. What stops this reading comes before why
-/// the slice has none, and so does want of memory for the images of all these.
-fn read_rest<R: Threads + Sync, F: Folders, G: Gate + Sync>(
-    crew: &Crew<'_, R, G>,
-    job: &Migration<'_>,
-    folders: &mut F,
-    from: &Text,
-    next: &[Input],
-    rest: &[Noted],
-) -> Result<(), Stop>
-    requires few { length next.now < 2 ^ 32 }
-    requires few_behind { length rest.now < 2 ^ 32 }
-    requires sound { All IsSound rest.now }
-    requires notes { IfSome (F.told folders.old) (λ m. All (IsNoteOf from.now m) rest.now) }
-    ensures told { F.told folders.new ≡ F.told folders.old }
-    ensures counts { F.faults folders.old ≤ F.faults folders.new }
-    ensures cause { IfErr result (λ stop. HasCause (F.told folders.old) stop (F.faults folders.old) (F.faults folders.new) 0 0) }
-{
-    let behind = read_batch(job.alloc, folders, from, rest)?;
-    if lacks_memory(crew, job, next) || lacks_memory(crew, job, &behind) {
-        return Err(Stop::Memory);
-    }
-    Ok(())
-}
-
 /// The images of the files of a batch that are read whole, in their order. They are read again slice by slice: while the workers
-/// migrate one slice, this thread reads the next.
+/// migrate one slice, this thread reads the next. Where a slice has no images, the rest of the batch is read before that is told, since
+/// what stops this reading comes first.
 pub(crate) fn images_of_batch<R: Threads + Sync, F: Folders, G: Gate + Sync>(
-    crew: &Crew<'_, R, G>,
+    workers: &Workers<'_, R, G>,
     job: &Migration<'_>,
     folders: &mut F,
     from: &Text,
     batch: &[Noted],
 ) -> Result<Vec<Result<DigestedImage, Reason>>, Stop>
-    requires begins { 0 < length batch.now }
     requires few { length batch.now < 2 ^ 32 }
     requires sound { All IsSound batch.now }
     requires routes { All (λ noted. IsRouteBy job.now.rules.now noted.route) batch.now }
@@ -95,16 +59,16 @@ pub(crate) fn images_of_batch<R: Threads + Sync, F: Folders, G: Gate + Sync>(
     let mut inputs = read_batch(job.alloc, folders, from, slice)?;
     while !rest.is_empty() {
         let (next, behind) = split_slice(rest);
-        let (made, read) = migrate_and_read(crew, job, folders, from, &inputs, next);
+        let (made, read) = migrate_and_read(workers, job, folders, from, &inputs, next);
         let ahead = read?;
         if let Err(why) = append_images(&mut images, made) {
-            read_rest(crew, job, folders, from, &ahead, behind)?;
+            read_batch(job.alloc, folders, from, behind)?;
             return Err(why);
         }
         inputs = ahead;
         rest = behind;
     }
-    let last = migrate_batch(crew, job, &inputs);
+    let last = migrate_batch(workers, job, &inputs);
     append_images(&mut images, last)?;
     Ok(images)
 }

@@ -36,13 +36,15 @@ pub enum Again {
 
 /// So many workers, and the gate that each item passes.
 #[derive(Drop)]
-pub struct Crew<'r, R, G> {
+pub struct Workers<'r, R, G> {
+    /// What starts their threads.
     pub(crate) rt: &'r R,
+    /// What is told of each item.
     pub(crate) gate: &'r G,
-    /// How many workers there are, from 1 to 64.
-    pub(crate) workers: u32,
-    ghost some: { 0 < workers },
-    ghost most: { workers ≤ 64 },
+    /// How many they are, from 1 to 64.
+    pub(crate) count: u32,
+    ghost some: { 0 < count },
+    ghost most: { count ≤ 64 },
 }
 
 /// Migrates files that were read whole, in an application: what the workers share.
@@ -157,7 +159,7 @@ fn images_in(
 /// The images of files that were read whole, by so many workers; `Moved` where the bytes of one have another digest than the one
 /// that was noted.
 pub(crate) fn migrate_batch<R: Threads + Sync, G: Gate + Sync>(
-    crew: &Crew<'_, R, G>,
+    workers: &Workers<'_, R, G>,
     job: &Migration<'_>,
     inputs: &[Input],
 ) -> Result<Vec<Result<DigestedImage, Reason>>, Stop>
@@ -166,14 +168,21 @@ pub(crate) fn migrate_batch<R: Threads + Sync, G: Gate + Sync>(
     ensures same { IfOk result (λ _. All HasItsDigest inputs.now) }
     ensures err { IfErr result (MovedIn inputs.now) }
 {
-    let made = map_batch(crew.rt, job.alloc, inputs, job, crew.gate, crew.workers)?;
+    let made = map_batch(
+        workers.rt,
+        job.alloc,
+        inputs,
+        job,
+        workers.gate,
+        workers.count,
+    )?;
     images_in(job.alloc, job.rules, job.graph, inputs, made)
 }
 
 /// What `migrate_batch` gives for files that were read whole, and what `read_batch` gives for the next, which this thread reads
 /// meanwhile.
 pub(crate) fn migrate_and_read<R: Threads + Sync, F: Folders, G: Gate + Sync>(
-    crew: &Crew<'_, R, G>,
+    workers: &Workers<'_, R, G>,
     job: &Migration<'_>,
     folders: &mut F,
     from: &Text,
@@ -196,12 +205,12 @@ pub(crate) fn migrate_and_read<R: Threads + Sync, F: Folders, G: Gate + Sync>(
 {
     let alloc = job.alloc;
     let (made, read) = map_beside(
-        crew.rt,
+        workers.rt,
         alloc,
         inputs,
         job,
-        crew.gate,
-        crew.workers,
+        workers.gate,
+        workers.count,
         &mut || -> Result<Vec<Input>, Stop>
             requires { All IsSound next.now × IfSome (F.told folders.now) (λ m. All (IsNoteOf from.now m) next.now) }
             ensures { (F.told folders.exit.now ≡ F.told folders.entry.now)

@@ -190,11 +190,11 @@ impl<'r> DiskFolders<'r> {
         let Some(target) = &self.target else {
             return Ok(());
         };
-        let found = self.found.as_bytes();
-        if folder_of(path.as_bytes()).len() < known_end(found, path.as_bytes()) {
+        let known = known_end(self.found.as_bytes(), path.as_bytes());
+        if folder_of(path.as_bytes()).len() < known {
             return Ok(());
         }
-        let end = last_folder(self.rt, text_of(target)?, text_of(path)?, found)?;
+        let end = last_folder(self.rt, text_of(target)?, text_of(path)?, known)?;
         let folder = path.as_bytes().get(..end).unwrap_or_default();
         self.found = Text::from_bytes(self.rt.alloc(), folder)?;
         Ok(())

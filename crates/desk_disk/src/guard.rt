@@ -43,15 +43,14 @@ pub(crate) fn known_end(found: &[u8], path: &[u8]) -> usize
     }
 }
 
-/// Looks at each folder from a root to a path, but for those on the way to the folder that was found last. One that is a link is
-/// refused; below one that is missing none is there. The answer is where the last of them ends that is there, or 0.
+/// Looks at each folder from a root to a path, but for those that end before the byte up to which they were found already. One that is
+/// a link is refused; below one that is missing none is there. The answer is where the last of them ends that is there, or 0.
 pub(crate) fn last_folder(
     rt: &HostRuntime,
     root: &str,
     path: &str,
-    found: &[u8],
+    known: usize,
 ) -> Result<usize, Refusal> {
-    let known = known_end(found, path.as_bytes());
     let mut last = 0;
     for (end, _) in path.match_indices('/') {
         if start_of(root) < end {

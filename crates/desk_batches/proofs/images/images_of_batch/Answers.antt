@@ -8,7 +8,6 @@ use Rattle.desk_batches.specs.Notes.{IsNoteOf, IsSound}
 use Rattle.desk_batches.specs.Turns.{image_here, image_of_input, input_in, migrated, slice_length}
 use Rattle.desk_batches.specs.declared.inputs.Input.{Input}
 use Rattle.desk_batches.specs.declared.noted.Noted.{Noted}
-use Rattle.desk_batches.proofs.Taking.{migrated_short}
 use Rattle.desk_batches.proofs.Slices.{all_back, all_front, both_ok, count_first, count_next, digests_known, few_inputs, notes_front, notes_later, slice_more, slice_read}
 use Rattle.desk_batches.proofs.images.images_of_batch.Goals as goal
 
@@ -55,32 +54,6 @@ migrate_batch-last-requires-clause-few g c κs within =
     let few = few_inputs c.args.batch.now c.loop-rest.rest.now _ _ _ c.loop-rest.invariant.count in
     let most = c.requires.few in
     omega (arith, same, few, most)
-
-pub read_rest-requires-clause-few : goal.read_rest-requires-clause-few
-read_rest-requires-clause-few g c κs within =
-    let rest = c.loop-rest.rest.now in
-    let next = c.split_slice-in-loop-rest.result.0.now in
-    let behind = c.split_slice-in-loop-rest.result.1.now in
-    let was : c.migrate_and_read-made.result.1 ≡ Ok c.in_ok-ahead.ahead = search rules in
-    let routes = IfOk-at_ok (λ inputs. map (λ (input : Input). input.route) inputs.items ≡ map (λ (noted : Noted). noted.route) (migrated next)) was c.migrate_and_read-made.ensures.routes in
-    let all : c.deref-in-Err.result.now ≡ c.in_ok-ahead.ahead.items = search rules in
-    let same = ap length all in
-    let rests = count_first rest next behind (slice_length rest) c.in_ok-ahead.ahead.items c.split_slice-in-loop-rest.ensures routes in
-    let short = migrated_short rest in
-    let shorter = c.loop-rest.invariant.short in
-    let most = c.requires.few in
-    omega (arith, same, rests, short, shorter, most)
-
-pub read_rest-requires-clause-sound : goal.read_rest-requires-clause-sound
-read_rest-requires-clause-sound g c κs within =
-    all_back IsSound c.loop-rest.rest.now c.split_slice-in-loop-rest.result.0.now c.split_slice-in-loop-rest.result.1.now (slice_length c.loop-rest.rest.now) c.split_slice-in-loop-rest.ensures c.loop-rest.invariant.sound
-
-pub read_rest-requires-clause-notes : goal.read_rest-requires-clause-notes
-read_rest-requires-clause-notes g c κs within =
-    let now : g.F.Folders.told c.migrate_and_read-made.new.folders ≡ g.F.Folders.told c.args.folders.now = search rules in
-    notes_later c.args.from.now (g.F.Folders.told c.args.folders.now) (g.F.Folders.told c.migrate_and_read-made.new.folders) c.split_slice-in-loop-rest.result.1.now now
-    (λ m e. all_back (IsNoteOf c.args.from.now m) c.loop-rest.rest.now c.split_slice-in-loop-rest.result.0.now c.split_slice-in-loop-rest.result.1.now (slice_length c.loop-rest.rest.now) c.split_slice-in-loop-rest.ensures
-    (c.loop-rest.invariant.notes m e))
 
 pub loop-rest-preserved : goal.loop-rest-preserved
 loop-rest-preserved g c =
