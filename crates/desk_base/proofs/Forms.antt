@@ -1,8 +1,8 @@
 -- The form at the front of a text, and the first byte that begins none.
-use Rattle.std.proofs.Common.{◌≡◌, ℕ, ◌+◌, ◌<◌, ◌≤◌, Bool, true, false, cond, List, [], ◌∷◌, length, drop, Some, None, refl, sym, arith}
-use Rattle.std.proofs.lemmas.List.{length-drop, drop_all}
+use Rattle.std.proofs.Common.{◌≡◌, ℕ, zero, suc, ◌+◌, ◌<◌, ◌≤◌, Bool, true, false, cond, List, [], ◌∷◌, length, drop, get_or, Some, None, refl, sym, ap, subst, ◌∙◌, arith, add-one}
+use Rattle.std.proofs.lemmas.List.{length-drop, drop_all, drop_more}
 use Rattle.std.proofs.Math.Seq.{drop-drop}
-use Rattle.desk_base.specs.Utf8.{is_single, is_pair, is_triple, bad_from, form_size}
+use Rattle.desk_base.specs.Utf8.{is_single, is_pair, is_triple, bad_from, bad_form, form_size, AreSingle}
 
 abbrev chosen : Bool → ℕ → ℕ → ℕ
 chosen b m n = cond b m n
@@ -89,3 +89,21 @@ bad_step at bytes h = rw (← drop-drop) (sym (bad_past at (drop at bytes) h))
 
 pub step_within : (at : ℕ) (bytes : List ℕ) → at ≤ length bytes → at + form_size (drop at bytes) ≤ length bytes
 step_within at bytes h = omega (arith, size_within (drop at bytes), length-drop at bytes)
+
+-- bytes in front that are forms by themselves are passed
+
+single_size : (a : ℕ) (t : List ℕ) → is_single a ≡ true → form_size (a ∷ t) ≡ 1
+single_size a [] h = ap (λ (s : Bool). chosen s 1 0) h
+single_size a (b ∷ []) h = ap (λ (s : Bool). chosen s 1 (chosen (is_pair a b) 2 0)) h
+single_size a (b ∷ c ∷ t) h = ap (λ (s : Bool). chosen s 1 (chosen (is_pair a b) 2 (chosen (is_triple a b c) 3 0))) h
+
+single_step : (at : ℕ) (bytes : List ℕ) → at < length bytes → is_single (get_or bytes at 0) ≡ true → bad_from (at + 1) (drop (at + 1) bytes) ≡ bad_from at (drop at bytes)
+single_step at bytes h s =
+    let one : form_size (drop at bytes) ≡ 1 = ap form_size (drop_more bytes at 0 h) ∙ single_size (get_or bytes at 0) (drop (at + 1) bytes) s in
+    subst (λ (n : ℕ). bad_from (at + n) (drop (at + n) bytes) ≡ bad_from at (drop at bytes)) one (bad_step at bytes (omega (arith, one)))
+
+pub singles_passed : (n : ℕ) (bytes : List ℕ) → n ≤ length bytes → AreSingle bytes 0 n → bad_from n (drop n bytes) ≡ bad_form bytes
+singles_passed zero bytes h s = refl
+singles_passed (suc n) bytes h s =
+    subst (λ (m : ℕ). bad_from m (drop m bytes) ≡ bad_form bytes) (add-one n)
+    (single_step n bytes (omega arith) (s n (omega arith) (omega arith)) ∙ singles_passed n bytes (omega arith) (λ k p q. s k p (omega arith)))

@@ -1,4 +1,5 @@
 pub mod Forms
+pub mod Singles
 pub mod Bools
 pub mod Orderings
 pub mod Lists

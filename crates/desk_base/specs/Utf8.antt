@@ -1,10 +1,14 @@
 -- Modified UTF-8 (JVMS 4.4.7). A longer spelling of a shorter form is accepted.
-use Rattle.std.specs.Prelude.{ℕ, ◌+◌, Bool, ◌&&◌, nat_le, Option, Some, None, [], ◌∷◌, if◌then◌else◌}
+use Rattle.std.specs.Prelude.{◌≡◌, ℕ, ◌+◌, ◌<◌, ◌≤◌, Bool, true, ◌&&◌, nat_le, Option, Some, None, [], ◌∷◌, if◌then◌else◌, slice_index}
 use Rattle.desk_base.specs.Names.{Text}
 
 -- 0x01 to 0x7F, which is a form by itself
 abbrev pub is_single : ℕ → Bool
 is_single a = nat_le 1 a && nat_le a 127
+
+-- the bytes of a text from one place up to another are forms by themselves
+abbrev pub AreSingle : Text → ℕ → ℕ → Type 0
+AreSingle text from end = (k : ℕ) → from ≤ k → k < end → is_single (slice_index text k) ≡ true
 
 -- 10xxxxxx, which stands behind the first byte of a form
 abbrev pub is_continuation : ℕ → Bool
