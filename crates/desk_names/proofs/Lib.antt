@@ -19,3 +19,4 @@ pub mod Skips
 pub mod CutNames
 pub mod SignatureNames
 pub mod FieldDescriptors
+pub mod NameRests

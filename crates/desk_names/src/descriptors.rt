@@ -1,7 +1,7 @@
 //! Reading a descriptor byte by byte (JVMS 4.3).
 
-ghost use Rattle.std.specs.Prelude.{◌≡◌};
-ghost use Rattle.desk_base.specs.Descriptors.{is_base, is_wide, step, behind, ends, start, is_descriptor};
+ghost use Rattle.std.specs.Prelude.{◌≡◌, ◌≤◌, length, drop};
+ghost use Rattle.desk_base.specs.Descriptors.{Position, Awaited, is_base, is_wide, step, run, behind, ends, start, is_descriptor};
 ghost use Rattle.desk_names.specs.States.{wanted_kind, position_of, awaited_of};
 
 use crate::names::is_reserved;
@@ -182,14 +182,45 @@ fn step(state: State, byte: u8) -> State
     }
 }
 
+/// How far the rest of a class name reaches from a place on, up to the byte that ends or breaks it, and whether a part has
+/// begun there.
+fn name_rest(text: &[u8], from: usize, begun: bool) -> (usize, bool)
+    requires { from ≤ length text.now }
+    ensures onward { from ≤ result.0 }
+    ensures within { result.0 ≤ length text.now }
+    ensures passed { (place : Position) → run (Awaited.name_rest place result.1) (drop result.0 text.now) ≡ run (Awaited.name_rest place begun) (drop from text.now) }
+{
+    let mut at = from;
+    let mut inside = begun;
+    while at < text.len() {
+        let byte = text[at];
+        if !is_reserved(byte) {
+            inside = true;
+        } else if inside && byte == b'/' {
+            inside = false;
+        } else {
+            return (at, inside);
+        }
+        at += 1;
+    }
+    (at, inside)
+}
+
 /// Whether a text is a descriptor of a kind. It takes no memory.
 #[tactic(auto, unfolding(desk_base::specs::Descriptors::run, desk_base::specs::Descriptors::is_descriptor))]
 pub fn is_descriptor(text: &[u8], want: Want) -> bool
     ensures { result ≡ is_descriptor (wanted_kind want) text.now }
 {
     let mut state = start(want);
-    for byte in text {
-        state = step(state, *byte);
+    let mut at = 0;
+    while at < text.len() {
+        state = step(state, text[at]);
+        at += 1;
+        if let State::Name(place, begun) = state {
+            let (end, inside) = name_rest(text, at, begun);
+            state = State::Name(place, inside);
+            at = end;
+        }
     }
     match state {
         State::Over => true,

@@ -93,16 +93,12 @@ fn is_class_name(text: &[u8]) -> bool
 {
     let mut inside = false;
     for byte in text {
-        if *byte == b'/' {
-            if !inside {
-                return false;
-            }
+        if !is_reserved(*byte) {
+            inside = true;
+        } else if inside && *byte == b'/' {
             inside = false;
         } else {
-            if is_reserved(*byte) {
-                return false;
-            }
-            inside = true;
+            return false;
         }
     }
     inside
