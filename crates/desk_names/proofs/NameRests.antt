@@ -29,9 +29,6 @@ run_front st b t = refl
 run_on : (st : Awaited) (text : Text) (at : ℕ) → at < length text → run (step st (get_or text at 0)) (drop (at + 1) text) ≡ run st (drop at text)
 run_on st text at h = sym (ap (run st) (drop_more text at 0 h) ∙ run_front st (get_or text at 0) (drop (at + 1) text))
 
-pub step_passed : (st r : Awaited) (text : Text) (at : ℕ) → at < length text → r ≡ step st (get_or text at 0) → run r (drop (at + 1) text) ≡ run st (drop at text)
-step_passed st r text at h e = ap (λ (s : Awaited). run s (drop (at + 1) text)) e ∙ run_on st text at h
-
 -- past a byte of a part
 pub plain_passed : (place : Position) (inside : Bool) (text : Text) (at : ℕ) → at < length text → is_reserved (get_or text at 0) ≡ false → run (Awaited.name_rest place true) (drop (at + 1) text) ≡ run (Awaited.name_rest place inside) (drop at text)
 plain_passed place inside text at h e =
