@@ -6,7 +6,7 @@ ghost use Rattle.desk_format.specs.Reading.{read};
 ghost use Rattle.desk_format.specs.Walk.{walk, walk_at, Walks};
 ghost use Rattle.desk_annos.specs.Stands.{StandsWithin};
 
-use crate::parts::{walk_method_parameters, walk_module, walk_raw, walk_tables};
+use crate::parts::{walk_line_numbers, walk_method_parameters, walk_module, walk_raw, walk_tables};
 use crate::places::signature_kind;
 use desk_annos::{
     walk_annotations, walk_element, walk_frames, walk_parameter_annotations, walk_row, walk_table,
@@ -55,7 +55,7 @@ pub(crate) fn walk_known<P: PoolView, V: Visit>(
         Attribute::Signature => row!(Index(signature_kind(place))),
         Attribute::SourceFile => row!(Index(UseKind::Plain)),
         Attribute::SourceDebugExtension => walk_raw(length, cursor),
-        Attribute::LineNumberTable => table!(Number, Number),
+        Attribute::LineNumberTable => walk_line_numbers(cursor, pool, visit),
         Attribute::LocalVariableTable => table!(
             Number,
             Number,

@@ -93,6 +93,39 @@ pub(crate) fn walk_code_head<P: PoolView, V: Visit>(
     walk_code_and_handlers(cursor, pool, visit)
 }
 
+/// So many rows of a table of line numbers. Where one is cut, the number that is cut is Truncated at its first byte.
+#[tactic(auto, using(crate::proofs::Lines::lines_passed))]
+fn walk_lines<P: PoolView, V: Visit>(
+    rows: u16,
+    cursor: &mut Cursor<'_>,
+    pool: &P,
+    visit: &mut V,
+) -> Result<(), ReadFault>
+    ensures walks { Walks result (walk (times rows (read (P.pool pool.now) (row_layout (slots.Number ∷ slots.Number ∷ [])))) (walk_at (V.taken visit.old) cursor.old)) cursor.new (V.taken visit.new) }
+    ensures stands { StandsWithin cursor.old cursor.new }
+{
+    let rows = u32::from(rows);
+    match cursor.take(4 * rows) {
+        Ok(_) => Ok(()),
+        Err(_) => walk_rows(rows, &[Slot::Number, Slot::Number], cursor, pool, visit),
+    }
+}
+
+/// A table of line numbers: rows of two numbers, behind their two-byte count (JVMS 4.7.12). None of them is an index of the
+/// constant pool, so that all rows are passed at once where none is cut; where one is, its place is found row by row.
+#[tactic(auto, using(desk_format::proofs::Walks::table_walked, desk_format::proofs::Walks::table_stopped))]
+pub(crate) fn walk_line_numbers<P: PoolView, V: Visit>(
+    cursor: &mut Cursor<'_>,
+    pool: &P,
+    visit: &mut V,
+) -> Result<(), ReadFault>
+    ensures walks { Walks result (walk (read (P.pool pool.now) (table_layout (slots.Number ∷ slots.Number ∷ []))) (walk_at (V.taken visit.old) cursor.old)) cursor.new (V.taken visit.new) }
+    ensures stands { StandsWithin cursor.old cursor.new }
+{
+    let count = walk_u2(cursor)?;
+    walk_lines(count, cursor, pool, visit)
+}
+
 /// A row of slots, and a table of rows of other slots behind it.
 #[tactic(auto, using(desk_format::proofs::Walks::row_walked, desk_format::proofs::Walks::row_stopped, desk_annos::proofs::Steps::last_walked))]
 fn walk_row_and_table<const N: usize, const M: usize, P: PoolView, V: Visit>(
