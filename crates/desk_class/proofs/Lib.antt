@@ -1,3 +1,4 @@
+mod Apart
 mod Bare
 mod Scans
 pub mod Heads

@@ -1,5 +1,4 @@
 use Rattle.std.proofs.Common.{◌≡◌, List, [], ◌∷◌, Result, Ok, Err, OnOk, false, true, sym, ap, subst, ◌∙◌}
-use Rattle.std.specs.List.{starts_with}
 use Rattle.desk_base.specs.Names.{Text}
 use Rattle.desk_base.specs.Referents.{begins_array}
 use Rattle.desk_base.specs.declared.kinds.Role.{Role}

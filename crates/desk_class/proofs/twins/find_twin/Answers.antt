@@ -2,7 +2,7 @@ use Rattle.std.proofs.Common.{arith, get_or}
 use Rattle.desk_format.specs.declared.members.Member.{Member}
 use Rattle.std.proofs.Common.{false}
 use Rattle.desk_class.proofs.Pairs.{numbered, twin_found, seen_more}
-use Rattle.desk_class.proofs.twins.first_twin.Goals as goal
+use Rattle.desk_class.proofs.twins.find_twin.Goals as goal
 
 abbrev none : Member
 none = record { at = 0; name = 0; descriptor = 0; method = false }
