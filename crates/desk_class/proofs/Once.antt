@@ -1,6 +1,7 @@
 -- Names in the order in which they first stand, each once.
-use Rattle.std.proofs.Common.{◌≡◌, ◌⊎◌, inl, inr, Bool, true, false, List, [], ◌∷◌, ◌++◌, refl, ap, subst, ◌∙◌, if◌then◌else◌}
+use Rattle.std.proofs.Common.{◌≡◌, ◌⊎◌, inl, inr, ℕ, ◌<◌, length, get_or, Bool, true, false, List, [], ◌∷◌, ◌++◌, refl, ap, subst, ◌∙◌, if◌then◌else◌}
 use Rattle.std.proofs.lemmas.Cmp.{eq_by_cmp_equiv, nat_list_cmp_total}
+use Rattle.std.proofs.lemmas.List.{get_or_default}
 use Rattle.std.proofs.lemmas.Map.Lookups.{exact_bytes}
 use Rattle.std.proofs.lemmas.Map.Views.{tells_apart, Contains-from_any, list_any-from_Contains}
 use Rattle.desk_base.specs.Names.{Text}
@@ -82,3 +83,7 @@ once_ascending ts =
       λ c. to_contains ts q (from_once ts q (from_ascending (each_once ts) q (from_contains (ascending (each_once ts)) q c))),
       λ c. to_contains (ascending (each_once ts)) q (in_ascending (each_once ts) q (in_once ts q (from_contains ts q c))),
     ))
+
+-- nor is one that stands at a place
+pub found_at : (s : List Text) (t : Text) (i : ℕ) → i < length s → get_or s i [] ≡ t → found_all s (t ∷ []) ≡ s
+found_at s t i within is = found_there s t (list_any-from_Contains (eq_by_cmp_equiv nat_list_cmp_total) t s (i, within, get_or_default s i t [] within ∙ is))

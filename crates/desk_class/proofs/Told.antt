@@ -22,6 +22,7 @@ use Rattle.desk_class.specs.Marks.{mark, marked_cmp}
 use Rattle.desk_class.specs.MarkOrder.{same_of_tie, tie_of_same}
 use Rattle.desk_class.proofs.Sets.{is_held-append}
 use Rattle.desk_class.proofs.Once.{found_there, found_new}
+use Rattle.desk_class.proofs.Packing.{get_map}
 
 same_text : (s t : Text) → is_eq (slice_cmp nat_cmp s t) ≡ true → s ≡ t
 same_text s t e = tells_apart exact_bytes s t e
@@ -131,6 +132,10 @@ turned false b e = ap not e
 
 abbrev pub Borrowed : Type 0
 Borrowed = Bor (List ℕ)
+
+-- the name at a place
+pub name_at : (names : List Borrowed) (i : ℕ) (d : Borrowed) → i < length names → get_or (texts names) i [] ≡ (get_or names i d).now
+name_at names i d within = sym (get_map (λ (n : Borrowed). n.now) names i d [] within)
 
 texts_push : (xs : List Borrowed) (x : Borrowed) → texts (xs ++ x ∷ []) ≡ texts xs ++ x.now ∷ []
 texts_push [] x = refl

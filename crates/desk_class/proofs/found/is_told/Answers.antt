@@ -1,17 +1,13 @@
-use Rattle.std.proofs.Common.{◌≡◌, ◌∙◌, sym, ap, get_or, ℕ, List, [], length, ◌<◌, arith}
+use Rattle.std.proofs.Common.{◌∙◌, sym, ap, arith}
 use Rattle.std.specs.Str.{bytes_eq}
 use Rattle.std.proofs.lemmas.Bool.{false_from_ne_true, eqb-true, and_right, and_left}
 use Rattle.std.proofs.lemmas.Slice.Eq.{bytes_eq-Decides}
 use Rattle.desk_base.specs.Names.{Text}
 use Rattle.desk_class.specs.Found.{texts}
-use Rattle.desk_class.proofs.Told.{Borrowed, told_here, told_on}
-use Rattle.desk_class.proofs.Packing.{get_map, length_map}
+use Rattle.desk_class.proofs.Told.{Borrowed, name_at, told_here, told_on}
+use Rattle.desk_class.proofs.Packing.{length_map}
 use Rattle.desk_class.proofs.found.is_told.Goals.{else-known-mark-via-then-known-mark+then-place-names+else-eq, else-known-mark-via-then-known-mark+else-place-names, else-known-mark-via-else-known-mark}
 use Rattle.desk_class.proofs.found.is_told.Goals as goal
-
--- the name at a place
-name_at : (names : List Borrowed) (i : ℕ) (d : Borrowed) → i < length names → get_or (texts names) i [] ≡ (get_or names i d).now
-name_at names i d within = sym (get_map (λ (n : Borrowed). n.now) names i d [] within)
 
 pub returns-then-eq : goal.returns-then-eq
 returns-then-eq c =
