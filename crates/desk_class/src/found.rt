@@ -25,7 +25,7 @@ pub struct FoundNames<'a> {
     names: Vec<&'a [u8]>,
     marks: Vec<u64>,
     behind: BTreeSet<Marked<'a>>,
-    hints: [u8; 256],
+    hints: [u8; HINTS],
 }
 
 impl<'a> Model for FoundNames<'a> {
