@@ -2,3 +2,4 @@ mod Indices
 mod Steps
 mod Advance
 pub mod Begins
+mod Fits

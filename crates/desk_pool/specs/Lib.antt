@@ -1,3 +1,4 @@
 pub mod Seen
 pub mod Begins
 pub mod Bodies
+pub mod Fits

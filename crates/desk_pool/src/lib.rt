@@ -9,6 +9,7 @@
 #![tactic(auto)]
 
 mod constant;
+mod fitting;
 mod links;
 mod lookup;
 mod named;
@@ -16,6 +17,5 @@ mod passes;
 mod pool;
 mod slots;
 mod texts;
-mod uses;
 
 pub use pool::Pool;

@@ -72,7 +72,7 @@ impl Links {
 }
 
 /// Which member a method handle of a kind must name (JVMS 4.4.8).
-fn handled(kind: u8) -> Referent
+pub fn handled(kind: u8) -> Referent
     ensures { result ≡ handled kind }
 {
     if kind < 5 {

@@ -90,7 +90,7 @@ pub fn number_at<'a>(slots: &[Option<Constant<'a>>], index: u16) -> Option<&'a [
 }
 
 /// The text of the Utf8 that an index names, or the empty text.
-fn text_at<'a>(slots: &[Option<Constant<'a>>], index: u16) -> PoolText<'a>
+pub fn text_at<'a>(slots: &[Option<Constant<'a>>], index: u16) -> PoolText<'a>
     ensures { result.bytes.now ≡ text_at (seen slots.now) index }
 {
     match constant_at(slots, index) {

@@ -1,11 +1,14 @@
-//! The second and third pass over a pool: each index names an entry of a fitting tag, and leads to a text of its form.
+//! The first fault of a pool with one, by two passes over its entries: each index names an entry of a fitting tag, and leads to
+//! a text of its form.
 
-ghost use Rattle.std.specs.Prelude.{◌≡◌, ◌+◌, ◌≤◌, length};
+ghost use Rattle.std.specs.Prelude.{◌≡◌, ◌+◌, ◌≤◌, false, length, Some};
 ghost use Rattle.desk_base.specs.Limits.{file_size};
 ghost use Rattle.desk_base.specs.Referents.{links};
 ghost use Rattle.desk_format.specs.PoolBytes.{size, print_slots};
-ghost use Rattle.desk_format.specs.PoolReading.{first_among, first_fault};
+ghost use Rattle.desk_base.specs.Misfits.{or_else};
+ghost use Rattle.desk_format.specs.PoolReading.{first_among, first_fault, names_wrong, leads_wrong};
 ghost use Rattle.desk_pool.specs.Seen.{entry_of, seen, link_of, listed, check_of};
+ghost use Rattle.desk_pool.specs.Fits.{slots_fit};
 
 use crate::constant::Constant;
 use crate::links::{Link, links_of};
@@ -93,7 +96,7 @@ pub fn size_of(constant: &Constant<'_>) -> u32
 }
 
 /// The first fault that a pass finds in the entries, the first of which stands at a place.
-pub fn first_fault(slots: &[Option<Constant<'_>>], pass: Pass, start: u32) -> Option<Malformed>
+fn first_fault(slots: &[Option<Constant<'_>>], pass: Pass, start: u32) -> Option<Malformed>
     requires { start + length (print_slots (seen slots.now)) ≤ file_size }
     ensures { result ≡ first_fault (check_of pass (seen slots.now)) start (seen slots.now) }
 {
@@ -107,4 +110,20 @@ pub fn first_fault(slots: &[Option<Constant<'_>>], pass: Pass, start: u32) -> Op
         }
     }
     None
+}
+
+/// The first fault of entries, the first of which stands at a place: one of what their indices name, or else one of the forms
+/// of the texts that they lead to.
+pub fn first_misfit(slots: &[Option<Constant<'_>>], start: u32) -> Malformed
+    requires size { start + length (print_slots (seen slots.now)) ≤ file_size }
+    requires misfit { slots_fit (seen slots.now) (seen slots.now) ≡ false }
+    ensures { or_else (first_fault (names_wrong (seen slots.now)) start (seen slots.now)) (first_fault (leads_wrong (seen slots.now)) start (seen slots.now)) ≡ Some result }
+{
+    if let Some(fault) = first_fault(slots, Pass::Names, start) {
+        return fault;
+    }
+    match first_fault(slots, Pass::Texts, start) {
+        Some(fault) => fault,
+        None => unreachable!(),
+    }
 }

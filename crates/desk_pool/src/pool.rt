@@ -9,11 +9,11 @@ ghost use Rattle.desk_pool.specs.Seen.{ReadPool, ReadsAll, seen};
 ghost use Rattle.desk_pool.specs.Bodies.{operands_at, number_at};
 
 use crate::constant::{Constant, read_number};
+use crate::fitting::uses_if_fitting;
 use crate::lookup::{class_name_at, constant_at, misfit, number_at, operands_at, tag_at, utf8_at};
 use crate::named::find_class_names;
-use crate::passes::{Pass, first_fault};
+use crate::passes::first_misfit;
 use crate::slots::read_slots;
-use crate::uses::uses_of;
 use desk_base::{Cursor, FaultKind, Malformed, PoolView, ReadFault, Tag, UseKind, Used};
 use std::alloc::Global;
 use std::marker::Model;
@@ -55,15 +55,11 @@ impl<'a> Pool<'a> {
         }
         let start = cursor.at();
         let mut slots = read_slots(alloc, count - 1, cursor)?;
-        if let Some(fault) = first_fault(&slots, Pass::Names, start) {
-            return Err(ReadFault::Malformed(fault));
-        }
         find_class_names(&mut slots);
-        if let Some(fault) = first_fault(&slots, Pass::Texts, start) {
-            return Err(ReadFault::Malformed(fault));
+        match uses_if_fitting(alloc, &slots, start)? {
+            Some(uses) => Ok(Pool { slots, uses }),
+            None => Err(ReadFault::Malformed(first_misfit(&slots, start))),
         }
-        let uses = uses_of(alloc, &slots, start)?;
-        Ok(Pool { slots, uses })
     }
 
     /// The pool's count, which is one more than its last index (JVMS 4.1).
