@@ -14,6 +14,7 @@ ghost use Rattle.desk_pool.specs.Fits.{index_fits, links_fit, slots_fit, Faultle
 use crate::constant::Constant;
 use crate::links::handled;
 use crate::lookup::{constant_at, text_at, wrong_entry, wrong_text};
+use crate::named::find_class_name;
 use crate::passes::size_of;
 use desk_base::{Form, Memory, Referent, Role, Used};
 use std::alloc::Global;
@@ -53,9 +54,20 @@ fn index_fits(slots: &[Option<Constant<'_>>], referent: Referent, index: u16) ->
     wrong_entry(slots, referent, index).is_none() && wrong_text(slots, referent, index).is_none()
 }
 
-/// Whether each index of an entry fits.
-fn entry_fits(slots: &[Option<Constant<'_>>], constant: &Constant<'_>) -> bool
-    ensures { result ≡ links_fit (seen slots.now) (links (entry_of constant.now)) }
+/// Whether an index names a Utf8 whose text has a form of class names. It is then known of the text whether it is one.
+fn names_class_text(slots: &mut [Option<Constant<'_>>], index: u16, form: Form) -> bool
+    ensures fits { result ≡ index_fits (seen slots.old) (referents.Text roles.Plain form) index }
+    ensures same { seen slots.new ≡ seen slots.old }
+{
+    find_class_name(slots, index);
+    names_text(slots, index, form)
+}
+
+/// Whether each index of an entry fits. It is then known of the texts of a Class and of a Package whether they are class
+/// names; what each index names stays as it is.
+fn entry_fits(slots: &mut [Option<Constant<'_>>], constant: &Constant<'_>) -> bool
+    ensures fits { result ≡ links_fit (seen slots.old) (links (entry_of constant.now)) }
+    ensures same { seen slots.new ≡ seen slots.old }
 {
     match *constant {
         Constant::Utf8(_)
@@ -63,7 +75,7 @@ fn entry_fits(slots: &[Option<Constant<'_>>], constant: &Constant<'_>) -> bool
         | Constant::Float(_)
         | Constant::Long(_)
         | Constant::Double(_) => true,
-        Constant::Class(name) => names_text(slots, name, Form::ClassOrArray),
+        Constant::Class(name) => names_class_text(slots, name, Form::ClassOrArray),
         Constant::String(text) | Constant::Module(text) => names_text(slots, text, Form::Any),
         Constant::Fieldref(class, named) => {
             names_class(slots, class) && names_member(slots, named, Form::Field)
@@ -78,7 +90,7 @@ fn entry_fits(slots: &[Option<Constant<'_>>], constant: &Constant<'_>) -> bool
         Constant::MethodType(descriptor) => names_text(slots, descriptor, Form::Method),
         Constant::Dynamic(_, named) => names_member(slots, named, Form::Field),
         Constant::InvokeDynamic(_, named) => names_member(slots, named, Form::Method),
-        Constant::Package(name) => names_text(slots, name, Form::ClassName),
+        Constant::Package(name) => names_class_text(slots, name, Form::ClassName),
     }
 }
 
@@ -120,24 +132,28 @@ fn push_uses(uses: &mut Vec<Used>, constant: &Constant<'_>, at: u32) -> Result<(
 }
 
 /// The texts that entries use, in index order and then by place, where each of their indices fits and the first entry
-/// stands at a place; none where an index doesn't fit.
+/// stands at a place; none where an index doesn't fit. What each index names stays as it is.
 pub fn uses_if_fitting(
     alloc: Global,
-    slots: &[Option<Constant<'_>>],
+    slots: &mut [Option<Constant<'_>>],
     start: u32,
 ) -> Result<Option<Vec<Used>>, Memory>
-    requires { start + length (print_slots (seen slots.now)) ≤ file_size }
-    ensures { IfOk result (λ found. MatchOption found (slots_fit (seen slots.now) (seen slots.now) ≡ false) (λ uses. Faultless start (seen slots.now) uses.items)) }
+    requires { start + length (print_slots (seen slots.old)) ≤ file_size }
+    ensures uses { IfOk result (λ found. MatchOption found (slots_fit (seen slots.old) (seen slots.old) ≡ false) (λ uses. Faultless start (seen slots.old) uses.items)) }
+    ensures same { seen slots.new ≡ seen slots.old }
 {
     let mut uses = Vec::with_capacity(alloc, slots.len())?;
     let mut at = start;
-    for slot in slots {
-        if let Some(constant) = slot {
-            if !entry_fits(slots, constant) {
-                return Ok(None);
-            }
-            push_uses(&mut uses, constant, at)?;
-            at += size_of(constant);
+    for place in 0..slots.len() {
+        let slot = slots[place];
+        let Some(constant) = slot else {
+            continue;
+        };
+        if entry_fits(slots, &constant) {
+            push_uses(&mut uses, &constant, at)?;
+            at += size_of(&constant);
+        } else {
+            return Ok(None);
         }
     }
     Ok(Some(uses))

@@ -16,7 +16,7 @@ fn with_class_name(slot: Option<Constant<'_>>) -> Option<Constant<'_>>
 }
 
 /// Finds whether the text that an index names is a class name. What each index names stays as it is.
-fn find_class_name(slots: &mut [Option<Constant<'_>>], index: u16)
+pub fn find_class_name(slots: &mut [Option<Constant<'_>>], index: u16)
     ensures { seen slots.new ≡ seen slots.old }
 {
     if index == 0 || slots.len() < index as usize {
@@ -25,18 +25,4 @@ fn find_class_name(slots: &mut [Option<Constant<'_>>], index: u16)
     let place = index as usize - 1;
     let slot = slots[place];
     slots[place] = with_class_name(slot);
-}
-
-/// Finds which of the texts that classes and packages lead to are class names. What each index names stays as it is.
-pub fn find_class_names(slots: &mut [Option<Constant<'_>>])
-    ensures { seen slots.new ≡ seen slots.old }
-{
-    for place in 0..slots.len() {
-        let slot = slots[place];
-        match slot {
-            Some(Constant::Class(name)) => find_class_name(slots, name),
-            Some(Constant::Package(name)) => find_class_name(slots, name),
-            _ => {}
-        }
-    }
 }

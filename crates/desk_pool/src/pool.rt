@@ -11,7 +11,6 @@ ghost use Rattle.desk_pool.specs.Bodies.{operands_at, number_at};
 use crate::constant::{Constant, read_number};
 use crate::fitting::uses_if_fitting;
 use crate::lookup::{class_name_at, constant_at, misfit, number_at, operands_at, tag_at, utf8_at};
-use crate::named::find_class_names;
 use crate::passes::first_misfit;
 use crate::slots::read_slots;
 use desk_base::{Cursor, FaultKind, Malformed, PoolView, ReadFault, Tag, UseKind, Used};
@@ -35,9 +34,11 @@ impl<'a> Model for Pool<'a> {
 }
 
 impl<'a> Pool<'a> {
-    /// Reads from the count to the end of the pool, and checks it in three passes: the entries; what the indices name; the
-    /// forms of the texts that they lead to. Malformed is the first fault with its place; Memory is want of memory. The
-    /// cursor then stands behind the pool, and after an error between where it stood and its end.
+    /// Reads from the count to the end of the pool, and checks the entries, what their indices name, and the forms of the
+    /// texts that they lead to. Malformed is the first fault of three passes, one for each of these, with its place; Memory
+    /// is want of memory. The cursor then stands behind the pool, and after an error between where it stood and its end.
+    ///
+    /// Entries without a fault are gone through once behind their reading. Only others are gone through again, by the passes.
     #[tactic(auto, unfolding(desk_format::specs::PoolReading::read_pool))]
     pub fn read(alloc: Global, cursor: &mut Cursor<'a>) -> Result<Pool<'a>, ReadFault>
         ensures pool { ReadsAll result (λ pool. pool.entries) (read_pool cursor.old.at cursor.old.left) cursor.new }
@@ -55,8 +56,7 @@ impl<'a> Pool<'a> {
         }
         let start = cursor.at();
         let mut slots = read_slots(alloc, count - 1, cursor)?;
-        find_class_names(&mut slots);
-        match uses_if_fitting(alloc, &slots, start)? {
+        match uses_if_fitting(alloc, &mut slots, start)? {
             Some(uses) => Ok(Pool { slots, uses }),
             None => Err(ReadFault::Malformed(first_misfit(&slots, start))),
         }

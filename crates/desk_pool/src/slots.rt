@@ -21,7 +21,9 @@ pub fn read_slots<'a>(
     ensures ahead { cursor.old.at ≤ cursor.new.at }
     ensures end { cursor.new.at + length cursor.new.left ≡ cursor.old.at + length cursor.old.left }
 {
-    let mut slots = Vec::new(alloc);
+    // An entry takes three bytes at least, so that a count with few bytes behind it takes little memory.
+    let room = u32::from(count).min(cursor.left() / 3);
+    let mut slots = Vec::with_capacity(alloc, room as usize)?;
     let mut later = count;
     let mut second = false;
     while later > 0 {

@@ -12,8 +12,8 @@ pub returns-clause-size : goal.returns-clause-size
 returns-clause-size c =
     slots_size _ _ _ _ _ _ _ (all_read _ c.loop-later.later c.loop-later.second c.loop-later.cursor.at c.loop-later.cursor.left _ c.loop-later-test.false c.loop-later.invariant.goes_on)
 
-pub loop-later-preserved-in-Continue-1 : goal.loop-later-preserved-in-Continue-1
-loop-later-preserved-in-Continue-1 c = record {
+pub loop-later-preserved-in-Continue-branch-2 : goal.loop-later-preserved-in-Continue-branch-2
+loop-later-preserved-in-Continue-branch-2 c = record {
   goes_on = second_read c.loop-later.slots.items c.push.new.self.items _ c.loop-later.later c.loop-later.cursor.at c.loop-later.cursor.left c.loop-later.second _ c.loop-later-test.true c.if-second.true c.in_ok-push.ensures.items refl c.loop-later.invariant.goes_on;
   many = one_more c.loop-later.slots.items c.push.new.self.items _ c.loop-later.later _ c.loop-later-test.true c.in_ok-push.ensures.items c.loop-later.invariant.many;
   ahead = omega arith;
