@@ -1,6 +1,8 @@
 //! The sink of standard output.
 
-ghost use Rattle.std.specs.Prelude.{◌≡◌, None};
+ghost use Rattle.std.specs.Prelude.{◌≡◌, true, None};
+ghost use Rattle.std.specs.Io.KnownBytes.{Appends};
+ghost use Rattle.desk_report.specs.Written.{AppendsFront};
 
 use crate::{Sink, SinkFault};
 use std::io::{self, Write};
@@ -30,12 +32,16 @@ impl<'r> StdSink<'r> {
     }
 }
 
-/// Writes bytes to standard output, and answers whether all were taken. A write that takes none of some
-/// bytes ends it.
-fn write_out(rt: &HostRuntime, bytes: &[u8]) -> bool {
+/// Writes bytes to a writer, each part that it doesn't take by a further write, and answers whether all were taken. A write that
+/// fails, or takes none of some bytes, ends it: then a front of them was written.
+#[tactic(auto, using(crate::proofs::Taken::written_more))]
+fn write_to<W: Write>(writer: &mut W, bytes: &[u8]) -> bool
+    ensures whole { result ≡ true → Appends (W.contents writer.old) (W.contents writer.new) bytes.now }
+    ensures front { AppendsFront bytes.now (W.contents writer.old) (W.contents writer.new) }
+{
     let mut rest = bytes;
     while !rest.is_empty() {
-        match io::writer(rt).write(rest) {
+        match writer.write(rest) {
             Ok(taken) if 0 < taken => rest = &rest[taken..],
             _ => return false,
         }
@@ -49,7 +55,7 @@ impl Sink for StdSink<'_> {
     ghost faults = { λ s. s };
 
     fn write(&mut self, bytes: &[u8]) -> Result<(), SinkFault> {
-        if write_out(self.rt, bytes) {
+        if write_to(&mut io::writer(self.rt), bytes) {
             return Ok(());
         }
         self.faults = self.faults.saturating_add(1);
