@@ -2,6 +2,7 @@
 
 ghost use Rattle.std.specs.Prelude.{◌≡◌, ◌≢◌, ◌+◌, ◌-◌, ◌<◌, ◌≤◌, ◌↔◌, ◌⊎◌, ◌^◌, length, min, Some, None, Ok, Err, IfErr, IfOk, IsErr, IsTrue, OnOk};
 ghost use Rattle.std.specs.IoError.{error_kind};
+ghost use Rattle.std.specs.Io.KnownBytes.{Appends};
 ghost use Rattle.std.specs.Fs.{IsDir, IsFile, IsSymlink, file_type, metadata_len};
 ghost use Rattle.std.specs.Str.{IsUtf8};
 ghost use Rattle.desk_faults.specs.declared.causes.Cause.TheVariants as cause;
@@ -84,6 +85,13 @@ fn read_bytes(alloc: Global, file: &mut File, size: usize) -> Result<Text, Refus
     }
     bytes.truncate(filled);
     Ok(Text::from(bytes))
+}
+
+/// Writes bytes to a writer, by as many writes as it takes.
+fn write_whole<W: Write>(writer: &mut W, bytes: &[u8]) -> Result<(), Refusal>
+    ensures { OnOk result (Appends (W.contents writer.old) (W.contents writer.new) bytes.now) }
+{
+    writer.write_all(bytes).map_err(fault_of)
 }
 
 /// Why what isn't a file isn't read.
@@ -238,6 +246,6 @@ impl Writing {
     pub(crate) fn write(&mut self, bytes: &[u8]) -> Result<(), Refusal>
         ensures { self.new.path ≡ self.old.path }
     {
-        self.file.write_all(bytes).map_err(fault_of)
+        write_whole(&mut self.file, bytes)
     }
 }
