@@ -39,7 +39,7 @@ while IFS=: read -r name _; do
   done
 done <"$room/crates.txt"
 
-echo "proving $total crates, the program last: half an hour on two processors, where nothing is kept" >&2
+echo "proving $total crates, the program last: half an hour on four processors, where nothing is kept" >&2
 ended=0
 mkdir -p build
 : >"$log"
