@@ -19,7 +19,7 @@ unfolding same_within
 level_of zero left right i j h = absurd (omega arith)
 level_of (suc n) left right i j h = let e : suc n - 1 ≡ n = omega arith in rw e refl
 
-level_by : (n : ℕ) (left right : Pool) (i j : ℕ) (f g : EntryParts) → 0 < n → f ≡ parts_at left i → g ≡ parts_at right j
+pub level_by : (n : ℕ) (left right : Pool) (i j : ℕ) (f g : EntryParts) → 0 < n → f ≡ parts_at left i → g ≡ parts_at right j
     → same_within n left right i j ≡ (same_parts f g && (same_within (n - 1) left right f.first g.first && same_within (n - 1) left right f.second g.second))
 level_by n left right i j f g h p q = rw (p, q) (level_of n left right i j h)
 

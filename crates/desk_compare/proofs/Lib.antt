@@ -5,7 +5,12 @@ mod Alike
 mod Moved
 mod Levels
 mod SameValues
+mod Agreements
+mod KnownValues
+mod Places
 mod SameCodes
+mod OneByOne
+mod SameSteps
 mod SameClasses
 pub mod Deciding
 pub mod Verdicts

@@ -191,7 +191,7 @@ module _ (left right : Pool) where
       and_from _ _ (parts_from f g parts)
       (and_from _ _ (within_from n f.first g.first (sym a.first ∙ ap first_in h ∙ b.first)) (within_from n f.second g.second (sym a.second ∙ ap second_in h ∙ b.second)))
 
-  at_nothing : (n : ℕ) → same_within n left right 0 0 ≡ true
+  pub at_nothing : (n : ℕ) → same_within n left right 0 0 ≡ true
   at_nothing n = within_from n 0 0 (sym (at_none n left) ∙ at_none n right)
 
   -- index 0 leads to nothing

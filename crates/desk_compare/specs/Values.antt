@@ -10,7 +10,6 @@ use Rattle.desk_base.specs.declared.referents.Referent.TheVariants as referents
 use Rattle.desk_base.specs.Entries.{Pool, Entry, entry_at, tag_of, number_of, text_at, text_in}
 use Rattle.desk_base.specs.Referents.{referent_of, may_be_none}
 use Rattle.desk_pool.specs.Bodies.{operands_in, number_in}
-use Rattle.desk_compare.specs.declared.values.EntryParts.{EntryParts as CodeParts}
 
 -- What an entry of the pool holds, one level deep: its tag; the kind of a method handle, or the number of a bootstrap method; the
 -- text that it is or names, or the bytes of its number; the descriptor that it names beside a name; and two indices that lead
@@ -22,9 +21,6 @@ pub record EntryParts : Type 0 where
   pub descriptor : Text
   pub first : ℕ
   pub second : ℕ
-
-abbrev pub seen_parts : CodeParts → EntryParts
-seen_parts p = record { tag = p.tag; number = p.number; text = p.text.now; descriptor = p.descriptor.now; first = p.first; second = p.second }
 
 abbrev pub with_texts : Option Tag → Text → Text → EntryParts
 with_texts tag s d = record { tag = tag; number = 0; text = s; descriptor = d; first = 0; second = 0 }

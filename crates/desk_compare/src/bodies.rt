@@ -7,9 +7,10 @@ ghost use Rattle.desk_format.specs.Attributes.{attribute_named};
 ghost use Rattle.desk_format.specs.ClassBody.{class_body};
 ghost use Rattle.desk_parts.specs.Gives.{Gives};
 ghost use Rattle.desk_parts.specs.Steps.{along};
-ghost use Rattle.desk_compare.specs.Bodies.{Pair, pair, ahead, bytes_by, comparing, two_pools};
+ghost use Rattle.desk_compare.specs.Bodies.{Pair, pair, ahead, bytes_by, enter_by, leave_by, comparing, two_pools, Place, place, comparing_at};
 
 use crate::codes::same_code;
+use crate::known::KnownPairs;
 use crate::values::{same_of_kind, text_at};
 use byteorder::{BigEndian, ByteOrder};
 use desk_attrs::attribute_named;
@@ -79,12 +80,43 @@ impl<'l, 'r> BodyPair<'l, 'r> {
         Some(BigEndian::read_u16(&self.left[..2]))
     }
 
+    /// Goes into the next `n` bytes of the left body, and answers what is behind them.
+    fn enter(&mut self, n: usize) -> Result<&'l [u8], Stop>
+        ensures step { Gives result (enter_by n self.old) self.new }
+        ensures behind { IfOk result (λ behind. behind.now ≡ drop n self.old.left) }
+    {
+        if self.left.len() < n {
+            return Err(Stop::Ended);
+        }
+        let (front, rest) = self.left.split_at(n);
+        self.left = front;
+        Ok(rest)
+    }
+
+    /// Goes on behind the bytes of the left body, of which none may be left.
+    fn leave(&mut self, behind: &'l [u8]) -> Result<(), Stop>
+        ensures { Gives result (leave_by behind.now self.old) self.new }
+    {
+        if !self.left.is_empty() {
+            return Err(Stop::Ended);
+        }
+        self.left = behind;
+        Ok(())
+    }
+
     /// Whether nothing is left of either.
     fn is_done(&self) -> bool
         ensures { IsTrue result ↔ (self.now ≡ pair [] []) }
     {
         self.left.is_empty() && self.right.is_empty()
     }
+}
+
+/// What is left of two bodies, with the pools of both classes.
+#[derive(Drop)]
+pub(crate) struct BodyPlace<'p, 'l, 'r> {
+    bodies: BodyPair<'l, 'r>,
+    known: KnownPairs<'p, 'l, 'r>,
 }
 
 /// The constant pools of two classes, over which their bodies are walked along at once. The walk goes by the layout of the left
@@ -95,95 +127,92 @@ pub(crate) struct PoolPair<'p, 'l, 'r> {
     pub right: &'p Pool<'r>,
 }
 
+#[tactic(auto, using(crate::proofs::Places::on_at, crate::proofs::Places::stops_at))]
 impl<'p, 'l, 'r> Walker for PoolPair<'p, 'l, 'r> {
-    type Position = BodyPair<'l, 'r>;
+    type Position = BodyPlace<'p, 'l, 'r>;
 
     type Behind = &'l [u8];
 
-    ghost State = { Pair };
+    ghost State = { Place };
 
     ghost place_behind = { λ bytes. record { at = 0; left = bytes.now } };
 
-    ghost state = { λ position. position };
+    ghost state = { λ position. place position.known position.bodies };
 
-    ghost steps = { λ pools. comparing (two_pools pools.left.now.entries pools.right.now.entries) };
+    ghost steps = { λ pools. comparing_at };
 
-    fn bytes(&self, n: u32, position: &mut BodyPair<'l, 'r>) -> Result<(), Stop> {
-        position.take_same(n as usize)?;
+    fn bytes(&self, n: u32, position: &mut BodyPlace<'p, 'l, 'r>) -> Result<(), Stop> {
+        position.bodies.take_same(n as usize)?;
         Ok(())
     }
 
-    fn u1(&self, position: &mut BodyPair<'l, 'r>) -> Result<u8, Stop> {
-        let bytes = position.take_same(1)?;
+    fn u1(&self, position: &mut BodyPlace<'p, 'l, 'r>) -> Result<u8, Stop> {
+        let bytes = position.bodies.take_same(1)?;
         Ok(bytes[0])
     }
 
-    fn u2(&self, position: &mut BodyPair<'l, 'r>) -> Result<u16, Stop> {
-        let bytes = position.take_same(2)?;
+    fn u2(&self, position: &mut BodyPlace<'p, 'l, 'r>) -> Result<u16, Stop> {
+        let bytes = position.bodies.take_same(2)?;
         Ok(BigEndian::read_u16(bytes))
     }
 
-    fn u4(&self, position: &mut BodyPair<'l, 'r>) -> Result<u32, Stop> {
-        let bytes = position.take_same(4)?;
+    fn u4(&self, position: &mut BodyPlace<'p, 'l, 'r>) -> Result<u32, Stop> {
+        let bytes = position.bodies.take_same(4)?;
         Ok(BigEndian::read_u32(bytes))
     }
 
-    fn index(&self, kind: UseKind, position: &mut BodyPair<'l, 'r>) -> Result<(), Stop> {
-        let (left, right) = match position.take(2) {
+    fn index(&self, kind: UseKind, position: &mut BodyPlace<'p, 'l, 'r>) -> Result<(), Stop> {
+        let (left, right) = match position.bodies.take(2) {
             None => return Err(Stop::Ended),
             Some(both) => both,
         };
         let i = BigEndian::read_u16(left);
         let j = BigEndian::read_u16(right);
-        if same_of_kind(self.left, self.right, kind, i, j) {
+        if same_of_kind(&mut position.known, kind, i, j) {
             Ok(())
         } else {
             Err(Stop::Ended)
         }
     }
 
-    fn code(&self, n: u32, position: &mut BodyPair<'l, 'r>) -> Result<(), Stop> {
-        let (left, right) = match position.take(n as usize) {
+    fn code(&self, n: u32, position: &mut BodyPlace<'p, 'l, 'r>) -> Result<(), Stop> {
+        let (left, right) = match position.bodies.take(n as usize) {
             None => return Err(Stop::Ended),
             Some(both) => both,
         };
-        if same_code(self.left, self.right, left, right) {
+        if same_code(&mut position.known, left, right) {
             Ok(())
         } else {
             Err(Stop::Ended)
         }
     }
 
-    fn name(&self, position: &mut BodyPair<'l, 'r>) -> Result<Option<Attribute>, Stop> {
-        let index = match position.ahead() {
+    fn name(&self, position: &mut BodyPlace<'p, 'l, 'r>) -> Result<Option<Attribute>, Stop> {
+        let index = match position.bodies.ahead() {
             None => return Err(Stop::Ended),
             Some(index) => index,
         };
         self.index(UseKind::AttrName, position)?;
-        Ok(attribute_named(text_at(self.left, index)))
+        Ok(attribute_named(text_at(position.known.left(), index)))
     }
 
-    fn enter(&self, n: u32, position: &mut BodyPair<'l, 'r>) -> Result<&'l [u8], Stop> {
-        if position.left.len() < n as usize {
-            return Err(Stop::Ended);
-        }
-        let (front, rest) = position.left.split_at(n as usize);
-        position.left = front;
-        Ok(rest)
+    fn enter(&self, n: u32, position: &mut BodyPlace<'p, 'l, 'r>) -> Result<&'l [u8], Stop> {
+        position.bodies.enter(n as usize)
     }
 
-    fn leave(&self, behind: &'l [u8], position: &mut BodyPair<'l, 'r>) -> Result<(), Stop> {
-        if !position.left.is_empty() {
-            return Err(Stop::Ended);
-        }
-        position.left = behind;
-        Ok(())
+    fn leave(
+        &self,
+        behind: &'l [u8],
+        position: &mut BodyPlace<'p, 'l, 'r>,
+    ) -> Result<(), Stop> {
+        position.bodies.leave(behind)
     }
 
-    fn member(&self, _position: &mut BodyPair<'l, 'r>) {}
+    fn member(&self, _position: &mut BodyPlace<'p, 'l, 'r>) {}
 }
 
 /// Whether a walk goes along two bodies of classes to their ends. The only error is want of memory.
+#[tactic(auto, using(crate::proofs::Places::walked, crate::proofs::Places::ended))]
 pub(crate) fn same_body<'l, 'r>(
     left: &'l [u8],
     right: &'r [u8],
@@ -191,9 +220,12 @@ pub(crate) fn same_body<'l, 'r>(
 ) -> Result<bool, Memory>
     ensures { IfOk result (λ same. IsTrue same ↔ (along (comparing (two_pools pools.now.left.now.entries pools.now.right.now.entries)) class_body (pair left.now right.now) ≡ Some (pair [] []))) }
 {
-    let mut position = BodyPair { left, right };
+    let mut position = BodyPlace {
+        bodies: BodyPair { left, right },
+        known: KnownPairs::new(pools.left, pools.right),
+    };
     match walk_body(&mut position, pools) {
-        Ok(()) => Ok(position.is_done()),
+        Ok(()) => Ok(position.bodies.is_done()),
         Err(Stop::Ended) => Ok(false),
         Err(Stop::Memory) => Err(Memory),
     }

@@ -1,41 +1,43 @@
 //! Two code arrays.
 
-ghost use Rattle.std.specs.Prelude.{◌≡◌, ◌<◌, [], ◌∷◌, length, IfNone, IfSome};
+ghost use Rattle.std.specs.Prelude.{◌≡◌, ◌<◌, [], ◌∷◌, true, length, IfNone, IfSome, IsTrue};
 ghost use Rattle.desk_code.specs.Instructions.{instructions_of};
 ghost use Rattle.desk_compare.specs.Codes.{same_index, same_instruction, same_instructions, reads, same_code};
 
+use crate::known::KnownPairs;
+use crate::steps::same_step;
 use crate::values::same_value;
 use desk_code::{CodeReader, Instruction};
-use desk_pool::Pool;
 
 /// Whether the indices of two instructions lead to the same value, or neither has one.
-fn same_index(left: &Pool<'_>, right: &Pool<'_>, i: Option<u16>, j: Option<u16>) -> bool
-    ensures { result ≡ same_index left.now.entries right.now.entries i j }
+fn same_index(known: &mut KnownPairs<'_, '_, '_>, i: Option<u16>, j: Option<u16>) -> bool
+    ensures same { result ≡ same_index known.old.left known.old.right i j }
+    ensures pools { known.new ≡ known.old }
 {
     match i {
         None => j.is_none(),
         Some(i) => match j {
             None => false,
-            Some(j) => same_value(left, right, i, j),
+            Some(j) => same_value(known, i, j),
         },
     }
 }
 
 /// Whether an instruction of one code array is the same as one of the other.
 fn same_instruction(
-    left: &Pool<'_>,
-    right: &Pool<'_>,
+    known: &mut KnownPairs<'_, '_, '_>,
     left_code: &[u8],
     right_code: &[u8],
     i: &Instruction,
     j: &Instruction,
 ) -> bool
-    ensures { result ≡ same_instruction left.now.entries right.now.entries left_code.now right_code.now i.now j.now }
+    ensures same { result ≡ same_instruction known.old.left known.old.right left_code.now right_code.now i.now j.now }
+    ensures pools { known.new ≡ known.old }
 {
     i.at == j.at
         && i.opcode == j.opcode
         && i.plain_bytes(left_code) == j.plain_bytes(right_code)
-        && same_index(left, right, i.index, j.index)
+        && same_index(known, i.index, j.index)
 }
 
 /// The next instruction; None at the end and at a fault.
@@ -54,14 +56,14 @@ fn next_in(reader: &mut CodeReader<'_, '_>) -> Option<Instruction>
 /// Whether the instructions of two code arrays, each up to its first fault, are the same. The readers stand at the first of them,
 /// and where this ends afterwards: behind the last, or behind a first difference.
 fn same_instructions(
-    left: &Pool<'_>,
-    right: &Pool<'_>,
+    known: &mut KnownPairs<'_, '_, '_>,
     left_code: &[u8],
     right_code: &[u8],
     one: &mut CodeReader<'_, '_>,
     other: &mut CodeReader<'_, '_>,
 ) -> bool
-    ensures same { result ≡ same_instructions left.now.entries right.now.entries left_code.now right_code.now one.old.instructions other.old.instructions }
+    ensures same { result ≡ same_instructions known.old.left known.old.right left_code.now right_code.now one.old.instructions other.old.instructions }
+    ensures pools { known.new ≡ known.old }
     ensures left_fault { one.new.fault ≡ one.old.fault }
     ensures right_fault { other.new.fault ≡ other.old.fault }
 {
@@ -71,7 +73,7 @@ fn same_instructions(
             Some(i) => match next_in(other) {
                 None => return false,
                 Some(j) => {
-                    if !same_instruction(left, right, left_code, right_code, &i, &j) {
+                    if !same_instruction(known, left_code, right_code, &i, &j) {
                         return false;
                     }
                 }
@@ -94,25 +96,62 @@ fn reads(mut reader: CodeReader<'_, '_>) -> bool
     }
 }
 
-/// Whether two code arrays have the same instructions, or neither reads to its end and their bytes are the same. Each is read
+/// Whether two code arrays have the same instructions, or neither reads to its end and their bytes are the same, by reading each
 /// once.
 #[tactic(auto, unfolding(crate::specs::Codes::same_code))]
-pub(crate) fn same_code(
-    left: &Pool<'_>,
-    right: &Pool<'_>,
-    left_code: &[u8],
-    right_code: &[u8],
-) -> bool
+fn same_readings(known: &mut KnownPairs<'_, '_, '_>, left_code: &[u8], right_code: &[u8]) -> bool
     requires left_short { length left_code.now < 4294967296 }
     requires right_short { length right_code.now < 4294967296 }
-    ensures { result ≡ same_code left.now.entries right.now.entries left_code.now right_code.now }
+    ensures same { result ≡ same_code known.old.left known.old.right left_code.now right_code.now }
+    ensures pools { known.new ≡ known.old }
 {
-    let mut one = CodeReader::new(left_code, left);
-    let mut other = CodeReader::new(right_code, right);
-    let same = same_instructions(left, right, left_code, right_code, &mut one, &mut other);
+    let mut one = CodeReader::new(left_code, known.left());
+    let mut other = CodeReader::new(right_code, known.right());
+    let same = same_instructions(known, left_code, right_code, &mut one, &mut other);
     match (reads(one), reads(other)) {
         (true, true) => same,
         (false, false) => left_code == right_code,
         _ => false,
     }
+}
+
+/// Whether two code arrays are found to read to their ends with the same instructions, one step along both at a time. No instruction
+/// is made a value of.
+#[tactic(auto, using(crate::proofs::SameSteps::start, crate::proofs::SameSteps::further, crate::proofs::SameSteps::done))]
+fn same_steps(known: &mut KnownPairs<'_, '_, '_>, left_code: &[u8], right_code: &[u8]) -> bool
+    ensures same { IsTrue result → same_code known.old.left known.old.right left_code.now right_code.now ≡ true }
+    ensures pools { known.new ≡ known.old }
+{
+    let mut one = left_code;
+    let mut other = right_code;
+    while !one.is_empty() {
+        match same_step(known, one, other) {
+            None => return false,
+            Some(size) => {
+                let (_, ones) = one.split_at(size);
+                let (_, others) = other.split_at(size);
+                one = ones;
+                other = others;
+            }
+        }
+    }
+    other.is_empty()
+}
+
+/// Whether two code arrays have the same instructions, or neither reads to its end and their bytes are the same. Where steps along
+/// both don't find that they are the same, each is read once more.
+pub(crate) fn same_code(
+    known: &mut KnownPairs<'_, '_, '_>,
+    left_code: &[u8],
+    right_code: &[u8],
+) -> bool
+    requires left_short { length left_code.now < 4294967296 }
+    requires right_short { length right_code.now < 4294967296 }
+    ensures same { result ≡ same_code known.old.left known.old.right left_code.now right_code.now }
+    ensures pools { known.new ≡ known.old }
+{
+    if same_steps(known, left_code, right_code) {
+        return true;
+    }
+    same_readings(known, left_code, right_code)
 }

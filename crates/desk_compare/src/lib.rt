@@ -12,6 +12,8 @@ mod bodies;
 mod classes;
 mod codes;
 mod files;
+mod known;
+mod steps;
 mod values;
 
 pub use files::{Verdict, What, compare};
