@@ -1,5 +1,5 @@
 -- What two entries of the same tag need to lead to the same value, and when they do.
-use Rattle.std.proofs.Common.{◌≡◌, ◌<◌, ◌-◌, ℕ, Bool, true, false, ◌&&◌, nat_eq, cond, List, [], Option, Some, None, bytes_eq, refl, sym, ap, ap₂, ◌∙◌, arith}
+use Rattle.std.proofs.Common.{◌≡◌, ◌<◌, ◌-◌, ℕ, Bool, true, false, ◌&&◌, nat_eq, cond, List, [], Option, Some, None, bytes_eq, refl, sym, ap, ap₂, ◌∙◌}
 use Rattle.std.proofs.lemmas.Bool.{eq-eqb, eqb-true}
 use Rattle.std.proofs.lemmas.Slice.Eq.{bytes_eq-Decides}
 use Rattle.desk_base.specs.Names.{Text}
@@ -8,7 +8,7 @@ use Rattle.desk_base.specs.declared.kinds.Tag.{Tag}
 use Rattle.desk_base.specs.declared.kinds.Tag.TheVariants as tags
 use Rattle.desk_pool.specs.Bodies.{operands_at, number_at}
 use Rattle.desk_compare.specs.declared.values.Agreement.{Agreement}
-use Rattle.desk_compare.specs.declared.values.Agreement.TheVariants.{Decided, One, Both}
+use Rattle.desk_compare.specs.declared.values.Agreement.TheVariants.{Decided, One}
 use Rattle.desk_compare.specs.Values.{EntryParts, with_texts, with_indices, with_number, parts_by, parts_at, first_of, second_of, bytes_or_none, tag_number, same_parts, same_within}
 use Rattle.desk_compare.specs.Agreements.{agrees, index_pair, agreement_by, agreement_of}
 use Rattle.desk_compare.proofs.Levels.{level_by}
@@ -28,17 +28,17 @@ module _ (n : ℕ) (left right : Pool) where
   one_text : (tag : Option Tag) (u v : Text) → level (with_texts tag u []) (with_texts tag v []) ≡ bytes_eq u v
   one_text tag u v =
       by (bytes_eq u v) where
-    by : (c : Bool) → (nat_eq (tag_number tag) (tag_number tag) && (nat_eq 0 0 && (c && bytes_eq [] []))) && (same_within n left right 0 0 && same_within n left right 0 0) ≡ c
-    by true = rw (same_number (tag_number tag), no_bytes, at_nothing left right n) refl
-    by false = rw (same_number (tag_number tag)) refl
+        by : (c : Bool) → (nat_eq (tag_number tag) (tag_number tag) && (nat_eq 0 0 && (c && bytes_eq [] []))) && (same_within n left right 0 0 && same_within n left right 0 0) ≡ c
+        by true = rw (same_number (tag_number tag), no_bytes, at_nothing left right n) refl
+        by false = rw (same_number (tag_number tag)) refl
 
   two_texts : (tag : Option Tag) (u v d e : Text) → level (with_texts tag u d) (with_texts tag v e) ≡ (bytes_eq u v && bytes_eq d e)
   two_texts tag u v d e =
       by (bytes_eq u v) (bytes_eq d e) where
-    by : (b c : Bool) → (nat_eq (tag_number tag) (tag_number tag) && (nat_eq 0 0 && (b && c))) && (same_within n left right 0 0 && same_within n left right 0 0) ≡ (b && c)
-    by true true = rw (same_number (tag_number tag), at_nothing left right n) refl
-    by true false = rw (same_number (tag_number tag)) refl
-    by false c = rw (same_number (tag_number tag)) refl
+        by : (b c : Bool) → (nat_eq (tag_number tag) (tag_number tag) && (nat_eq 0 0 && (b && c))) && (same_within n left right 0 0 && same_within n left right 0 0) ≡ (b && c)
+        by true true = rw (same_number (tag_number tag), at_nothing left right n) refl
+        by true false = rw (same_number (tag_number tag)) refl
+        by false c = rw (same_number (tag_number tag)) refl
 
   indices : (tag : Option Tag) (a b c d : ℕ) → level (with_indices tag a b) (with_indices tag c d) ≡ (same_within n left right a c && same_within n left right b d)
   indices tag a b c d = rw (same_number (tag_number tag)) refl

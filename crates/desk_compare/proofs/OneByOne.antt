@@ -1,8 +1,7 @@
 -- The instructions of a code array that are to come, from one to the next.
-use Rattle.std.proofs.Common.{◌≡◌, ℕ, zero, suc, ◌+◌, ◌-◌, ◌<◌, ◌≤◌, List, [], ◌∷◌, length, drop, Some, Ok, Err, refl, sym, ap, ◌∙◌, arith}
+use Rattle.std.proofs.Common.{◌≡◌, ℕ, zero, suc, ◌+◌, ◌-◌, ◌<◌, ◌≤◌, List, [], ◌∷◌, length, drop, Ok, refl, sym, ap, ◌∙◌, arith}
 use Rattle.desk_base.specs.Entries.{Pool}
 use Rattle.desk_code.specs.declared.reader.Instruction.{Instruction}
-use Rattle.desk_base.specs.declared.faults.CodeFault.{CodeFault}
 use Rattle.desk_code.specs.Instructions.{instructions_from, no_instructions, instruction_at}
 
 skipped : (pool : Pool) (at k : ℕ) (s : List ℕ) → k ≤ length s → instructions_from pool at k s ≡ instructions_from pool (at + k) 0 (drop k s)

@@ -1,5 +1,5 @@
 -- Two code arrays, an instruction of both at a time.
-use Rattle.std.proofs.Common.{◌≡◌, ℕ, zero, suc, ◌+◌, ◌<◌, ◌≤◌, Bool, true, false, ◌&&◌, nat_eq, nat_lt, cond, List, [], ◌∷◌, length, take, drop, Option, Some, None, Ok, IfSome, bytes_eq, refl, sym, ap, ap₂, subst, ◌∙◌, arith}
+use Rattle.std.proofs.Common.{◌≡◌, ℕ, ◌+◌, ◌<◌, ◌≤◌, Bool, true, false, ◌&&◌, nat_eq, List, [], ◌∷◌, length, take, drop, Option, Some, None, Ok, IfSome, bytes_eq, refl, sym, ap, ap₂, subst, ◌∙◌, arith}
 use Rattle.std.specs.Int.{w8, w16, from_be_bytes}
 use Rattle.std.proofs.lemmas.Bool.{and_parts, and_from, eq-eqb, le-ltb, true≢false, false≢true}
 use Rattle.std.proofs.lemmas.List.{drop-drop, drop-take}

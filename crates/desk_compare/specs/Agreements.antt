@@ -2,7 +2,7 @@
 use Rattle.std.specs.Prelude.{ℕ, Bool, false, ◌&&◌, ◌==◌, List, if◌then◌else◌}
 use Rattle.std.specs.Str.{bytes_eq}
 use Rattle.desk_base.specs.Names.{Text}
-use Rattle.desk_base.specs.Entries.{Pool, text_at, entry_at, text_in}
+use Rattle.desk_base.specs.Entries.{Pool, text_at}
 use Rattle.desk_base.specs.declared.kinds.Tag.{Tag}
 use Rattle.desk_base.specs.declared.kinds.Tag.TheVariants as tags
 use Rattle.desk_pool.specs.Bodies.{operands_at, number_at}

@@ -200,11 +200,7 @@ impl<'p, 'l, 'r> Walker for PoolPair<'p, 'l, 'r> {
         position.bodies.enter(n as usize)
     }
 
-    fn leave(
-        &self,
-        behind: &'l [u8],
-        position: &mut BodyPlace<'p, 'l, 'r>,
-    ) -> Result<(), Stop> {
+    fn leave(&self, behind: &'l [u8], position: &mut BodyPlace<'p, 'l, 'r>) -> Result<(), Stop> {
         position.bodies.leave(behind)
     }
 

@@ -1,5 +1,4 @@
-use Rattle.std.proofs.Common.{◌≡◌, true, refl, sym, ap, ◌∙◌}
-use Rattle.desk_compare.specs.Values.{same_within}
+use Rattle.std.proofs.Common.{refl, sym}
 use Rattle.desk_compare.proofs.KnownValues.{within_known, no_levels}
 use Rattle.desk_compare.proofs.values.+same_within.Goals as goal
 
