@@ -1,8 +1,7 @@
 -- The new pool of a class, by the wants of its uses.
-use Rattle.std.proofs.Common.{◌≡◌, ℕ, suc, ◌+◌, ◌≤◌, false, List, [], ◌∷◌, map, length, Option, None, Ok, option_map, refl, ap, sym, ◌∙◌, subst, arith, count_by, All}
+use Rattle.std.proofs.Common.{◌≡◌, ℕ, suc, ◌+◌, ◌≤◌, false, List, [], ◌∷◌, map, length, Option, None, Ok, option_map, refl, ap, sym, ◌∙◌, subst, arith, All}
 use denote.Ref.{Bor}
 use Rattle.std.specs.List.{AllByRecursion}
-use Rattle.std.proofs.lemmas.List.Elements.{All-same}
 use Rattle.desk_base.specs.Names.{Text}
 use Rattle.desk_base.specs.declared.kinds.Used.{Used}
 use Rattle.desk_base.specs.Entries.{Pool}
@@ -31,9 +30,10 @@ use Rattle.desk_format.specs.Classes.{list_in, uses_in}
 use Rattle.desk_class.specs.Parts.{pool_in}
 use Rattle.desk_rewrite.specs.Tables.{Table, HasImages, HasDescriptors}
 use Rattle.desk_rewrite.proofs.Described.{has_descriptors}
-use Rattle.desk_rewrite.specs.Wanting.{used_in, has_other, IsWantedUnder, AreWanted, IsNewTexts}
+use Rattle.desk_rewrite.specs.Wanting.{used_in, IsWantedUnder, AreWanted, IsNewTexts}
 use Rattle.desk_rewrite.proofs.Parts.{IsFound}
-use Rattle.desk_rewrite.proofs.Wanting.{wants_are, own_wants}
+use Rattle.desk_rewrite.proofs.Tables.{all_own}
+use Rattle.desk_rewrite.proofs.Wanting.{IsOwn, wants_are, own_wants}
 use Rattle.desk_rewrite.proofs.Short.{texts_short, length-split}
 
 map_map : {A B C : Type 0} (f : B → C) (g : A → B) (xs : List A) → map f (map g xs) ≡ map (λ x. f (g x)) xs
@@ -119,6 +119,15 @@ wanted_in im bytes c table ws pool us vs e p u v h used make =
       descriptors = has_descriptors im table c (images_moved im table pool c.pool us (class_uses c) p' u' h);
     }
 
--- where no image is another text
-pub own_in : (im : Images) (bytes : List ℕ) (c : Class) (ws : List WantedText) (table : Table) → IsFound bytes c → IsWantedIn im c ws table → count_by has_other ws ≡ 0 → AllByRecursion (Own c.pool) (wants im c.pool (class_uses c))
-own_in im bytes c ws table f w none = own_wants im c.pool (class_uses c) ws w.wants.used none (all_named entries_at c.pool c.body f.printed.pool.linked f.printed.fits) w.wants.each
+-- ---- where no image is another text
+
+pub record IsOwnIn (im : Images) (c : Class) : Type 0 where
+  pub each : All (IsOwn im c.pool) (class_uses c)
+  pub wants : AllByRecursion (Own c.pool) (wants im c.pool (class_uses c))
+
+pub own_in : (im : Images) (bytes : List ℕ) (c : Class) (table : Table) (pool : Pool) (us : List Used) → IsFound bytes c → read_class bytes ≡ Ok c → pool ≡ pool_in bytes → us ≡ uses_in bytes → HasImages im pool us table → table.entries ≡ [] → IsOwnIn im c
+own_in im bytes c table pool us f e p u h none =
+    let p' : pool ≡ c.pool = p ∙ ap (list_in (λ (d : Class). d.pool)) e in
+    let u' : us ≡ class_uses c = u ∙ ap (list_in class_uses) e in
+    let own : All (IsOwn im c.pool) (class_uses c) = all_own im c.pool table (class_uses c) none (images_moved im table pool c.pool us (class_uses c) p' u' h) in
+    record { each = own; wants = own_wants im c.pool (class_uses c) (all_named entries_at c.pool c.body f.printed.pool.linked f.printed.fits) own }

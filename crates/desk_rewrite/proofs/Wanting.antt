@@ -1,5 +1,5 @@
 -- What uses want is what the definitions say.
-use Rattle.std.proofs.Common.{◌≡◌, ℕ, ◌+◌, ◌<◌, ◌^◌, Bool, true, false, not, cond, List, [], ◌∷◌, map, length, Option, Some, None, option_map, refl, ap, ap₂, sym, ◌∙◌, subst, bytes_eq, count_by, arith, All}
+use Rattle.std.proofs.Common.{◌≡◌, ℕ, ◌+◌, ◌<◌, ◌^◌, Bool, false, not, cond, List, [], ◌∷◌, map, length, Option, Some, None, option_map, refl, ap, ap₂, sym, ◌∙◌, subst, bytes_eq, count_by, arith, All}
 use denote.Ref.{Bor}
 use Rattle.std.specs.List.{AllByRecursion}
 use Rattle.std.specs.Option.{is_some, option_copied}
@@ -90,30 +90,27 @@ renamed_are im pool us ws e h = renamed_same im pool ws h ∙ ap (count_by (is_r
 
 -- ---- where no image is another text
 
-none_here : (b : Bool) (n : ℕ) → cond b 1 0 + n ≡ 0 → (b ≡ false) × (n ≡ 0)
-none_here true n h = absurd (omega arith)
-none_here false n h = (refl, omega arith)
+-- the text of a use is its own image
+abbrev pub IsOwn : Images → Pool → Used → Type 0
+IsOwn im pool u = image im u.role (text_at pool u.index) ≡ text_at pool u.index
 
-own_image : (own image : Text) (o : Option (Bor Text)) → is_some o ≡ false → IsImage own image (option_copied o) → image ≡ own
-own_image own image None e h = h
-own_image own image (Some t) e h = absurd cc
-
-own_want : (im : Images) (pool : Pool) (w : WantedText) → has_other w ≡ false → NamesText pool w.used → IsWantedUnder im pool w → Own pool (want_in_role im pool w.used.role w.used.index)
-own_want im pool w e named h =
-    let p = is_utf8 (entry_at pool w.used.index) named in
-    let own : text_at pool w.used.index ≡ p.0 = text_is pool w.used.index p.0 p.1 in
-    let same : image im w.used.role (text_at pool w.used.index) ≡ text_at pool w.used.index = own_image (text_at pool w.used.index) (image im w.used.role (text_at pool w.used.index)) w.image e h in
+own_want : (im : Images) (pool : Pool) (u : Used) → NamesText pool u → IsOwn im pool u → Own pool (want_in_role im pool u.role u.index)
+own_want im pool u named same =
+    let p = is_utf8 (entry_at pool u.index) named in
+    let own : text_at pool u.index ≡ p.0 = text_is pool u.index p.0 p.1 in
     record { names = p.1 ∙ ap (λ (t : Text). Some (utf8 t)) (sym own ∙ sym same) }
 
-own_same : (im : Images) (pool : Pool) (ws : List WantedText) → count_by has_other ws ≡ 0 → AllByRecursion (NamesText pool) (map used_in ws) → All (IsWantedUnder im pool) ws → AllByRecursion (Own pool) (wants im pool (map used_in ws))
-own_same im pool [] e named h = tt
-own_same im pool (w ∷ ws) e named h =
-    let none = none_here (has_other w) (count_by has_other ws) (sym (sum_by-cons (λ (v : WantedText). cond (has_other v) 1 0) w ws) ∙ e) in
-    (own_want im pool w (none.0) (named.0) (All-head (IsWantedUnder im pool) w ws h), own_same im pool ws (none.1) (named.1) (All-tail (IsWantedUnder im pool) w ws h))
+pub own_wants : (im : Images) (pool : Pool) (us : List Used) → AllByRecursion (NamesText pool) us → All (IsOwn im pool) us → AllByRecursion (Own pool) (wants im pool us)
+own_wants im pool [] named h = tt
+own_wants im pool (u ∷ us) named h = (own_want im pool u (named.0) (All-head (IsOwn im pool) u us h), own_wants im pool us (named.1) (All-tail (IsOwn im pool) u us h))
 
-pub own_wants : (im : Images) (pool : Pool) (us : List Used) (ws : List WantedText) → map used_in ws ≡ us → count_by has_other ws ≡ 0 → AllByRecursion (NamesText pool) us → All (IsWantedUnder im pool) ws → AllByRecursion (Own pool) (wants im pool us)
-own_wants im pool us ws e none named h =
-    subst (λ (vs : List Used). AllByRecursion (Own pool) (wants im pool vs)) e (own_same im pool ws none (subst (AllByRecursion (NamesText pool)) (sym e) named) h)
+pub none_renamed : (im : Images) (pool : Pool) (us : List Used) → All (IsOwn im pool) us → count_by (is_renamed im pool) us ≡ 0
+none_renamed im pool [] h = refl
+none_renamed im pool (u ∷ us) h =
+    sum_by-cons (λ (v : Used). cond (is_renamed im pool v) 1 0) u us
+    ∙ ap₂ (λ (b : Bool) (n : ℕ). cond b 1 0 + n)
+    (ap not ((bytes_eq-Decides (image im u.role (text_at pool u.index)) (text_at pool u.index)).1 (All-head (IsOwn im pool) u us h)))
+    (none_renamed im pool us (All-tail (IsOwn im pool) u us h))
 
 -- ---- the uses of wants name texts
 

@@ -1,5 +1,5 @@
 -- The images of texts by index and role, as the code keeps them.
-use Rattle.std.specs.Prelude.{◌≡◌, ℕ, Bool, true, List, Option, Some, None, All, is_some, ◌||◌}
+use Rattle.std.specs.Prelude.{◌≡◌, ◌&&◌, ◌||◌, ℕ, nat_lt, Bool, false, List, length, slice_get, Option, Some, None, All}
 use Rattle.std.specs.Ordering.{nat_cmp, ordering_then, is_eq}
 use Rattle.std.specs.declared.cmp.Ordering.{Ordering}
 use Rattle.std.specs.BTreeMap.{BTreeMap, get}
@@ -11,6 +11,7 @@ use Rattle.desk_base.specs.declared.kinds.Used.{Used}
 use Rattle.desk_format.specs.declared.members.Member.{Member}
 use Rattle.desk_format.specs.Resolved.{Images, image}
 use Rattle.desk_rules.specs.Images.{IsImage}
+use Rattle.desk_rewrite.specs.declared.seen.RoleSet.{RoleSet}
 use Rattle.desk_rewrite.specs.declared.table.TextRole.{TextRole}
 use Rattle.desk_rewrite.specs.declared.table.TextRole.TheVariants as text_roles
 
@@ -48,7 +49,7 @@ rank text_roles.MethodSig = 4
 rank text_roles.FieldSig = 5
 rank text_roles.Str = 6
 
--- ---- tables
+-- ---- keys
 
 -- an index and a role
 abbrev pub Key : Type 0
@@ -57,42 +58,57 @@ Key = ℕ × TextRole
 abbrev pub key_cmp : Key → Key → Ordering
 key_cmp x y = ordering_then (nat_cmp x.0 y.0) (nat_cmp (rank x.1) (rank y.1))
 
-abbrev pub Table : Type 0
-Table = BTreeMap Key (Option Text)
+-- ---- what was looked at
 
--- what a table says of a key
-abbrev pub answer_at : Table → Key → Option (Option Text)
-answer_at table key = get key_cmp table key
+-- whether a role is one of a set
+abbrev pub has_role : RoleSet → TextRole → Bool
+has_role roles text_roles.Class = roles.classes
+has_role roles text_roles.Package = roles.packages
+has_role roles text_roles.Descriptor = roles.descriptors
+has_role roles text_roles.ClassSig = roles.class_signatures
+has_role roles text_roles.MethodSig = roles.method_signatures
+has_role roles text_roles.FieldSig = roles.field_signatures
+has_role roles text_roles.Str = roles.strings
+
+abbrev pub has_role_in : Option RoleSet → TextRole → Bool
+has_role_in None text_role = false
+has_role_in (Some roles) text_role = has_role roles text_role
+
+-- whether the text of a key was looked at
+abbrev pub is_seen : List RoleSet → Key → Bool
+is_seen seen key = has_role_in (slice_get seen key.0) key.1
+
+-- one key more was looked at, if there is room for its index
+abbrev pub Sees : List RoleSet → Key → List RoleSet → Type 0
+Sees old key new = (q : Key) → is_seen new q ≡ ((is_eq (key_cmp key q) && nat_lt key.0 (length old)) || is_seen old q)
+
+-- ---- tables
+
+-- the images that are other texts
+abbrev pub Table : Type 0
+Table = BTreeMap Key Text
+
+-- what a table has at a key
+abbrev pub image_at : Table → Key → Option Text
+image_at table key = get key_cmp table key
 
 -- the image of the text at the index of a key, as an answer
 abbrev pub IsAnswer : Images → Pool → Key → Option Text → Type 0
 IsAnswer im pool key answer = IsImage (text_at pool key.0) (image im (role_of key.1) (text_at pool key.0)) answer
 
--- each answer of a table is the image
+-- What a table has at a key is the image of its text, and nothing where that is the text itself.
+abbrev pub FindsAt : Images → Pool → Table → Key → Type 0
+FindsAt im pool table key = IsAnswer im pool key (image_at table key)
+
+-- each text of a table is the image of another
 abbrev pub IsSoundTable : Images → Pool → Table → Type 0
-IsSoundTable im pool table = (key : Key) (answer : Option Text) → answer_at table key ≡ Some answer → IsAnswer im pool key answer
-
--- whether a table has an answer for an index in a role that needs one
-abbrev pub has_text_role : Table → ℕ → Option TextRole → Bool
-has_text_role table i None = true
-has_text_role table i (Some text_role) = is_some (answer_at table (i, text_role))
-
-abbrev pub has_image : Table → Used → Bool
-has_image table u = has_text_role table u.index (text_role_of u.role)
-
--- a table that answers one key more, or the same keys
-abbrev pub Grows : Table → Key → Table → Type 0
-Grows old key new = (q : Key) → is_some (answer_at new q) ≡ (is_eq (key_cmp key q) || is_some (answer_at old q))
+IsSoundTable im pool table = (key : Key) (text : Text) → image_at table key ≡ Some text → IsAnswer im pool key (Some text)
 
 -- ---- what is found
 
-abbrev pub found : Option (Option Text) → Option Text
-found None = None
-found (Some answer) = answer
-
 abbrev pub found_by : Table → ℕ → Option TextRole → Option Text
 found_by table i None = None
-found_by table i (Some text_role) = found (answer_at table (i, text_role))
+found_by table i (Some text_role) = image_at table (i, text_role)
 
 -- the image of the text at an index in a role, where a table has one that is another text
 abbrev pub image_found : Table → ℕ → Role → Option Text

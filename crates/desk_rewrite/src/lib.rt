@@ -14,6 +14,7 @@ mod laws;
 mod members;
 mod printing;
 mod rewriting;
+mod seen;
 mod table;
 mod wants;
 

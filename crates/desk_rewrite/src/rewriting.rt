@@ -166,13 +166,13 @@ pub fn rewrite<I: Images>(
     tell_settled(rules);
     let bytes = bytes_of(view);
     let table = all_images(alloc, rules, images, view.pool(), view.uses())?;
-    let wants = wanted_texts(alloc, &table, view.uses())?;
     let odd = odd_uses(view.pool(), view.uses());
-    let renamed = renamed_uses(&wants);
-    let (bytes, added) = if renamed == 0 {
-        (Text::from_bytes(alloc, bytes)?, 0)
+    let ((bytes, added), renamed) = if table.is_empty() {
+        ((Text::from_bytes(alloc, bytes)?, 0), 0)
     } else {
-        new_class(alloc, view, &table, &wants)?
+        let wants = wanted_texts(alloc, &table, view.uses())?;
+        let (bytes, added) = new_class(alloc, view, &table, &wants)?;
+        ((bytes, added), renamed_uses(&wants))
     };
     // `bytes_in` says that they are bytes.
     let _each = bytes_in(&bytes);

@@ -1,11 +1,12 @@
-//! The images of the texts of a class, each computed once.
+//! The images of the texts of a class that are other texts.
 
-ghost use Rattle.std.specs.Prelude.{◌≡◌, All, IfOk, OnOk, true, is_some, option_copied};
+ghost use Rattle.std.specs.Prelude.{◌≡◌, IfOk, OnOk, option_copied};
 ghost use Rattle.desk_base.specs.Entries.{text_at};
 ghost use Rattle.desk_follow.specs.RuleImages.{images_of};
-ghost use Rattle.desk_rewrite.specs.Tables.{text_role_of, answer_at, found, image_found, Grows, IsSoundTable, HasImages};
+ghost use Rattle.desk_rewrite.specs.Tables.{Key, text_role_of, image_at, image_found, FindsAt, IsSoundTable, HasImages};
 
 use crate::images::image_by_role;
+use crate::seen::{RoleSet, is_seen, see};
 use desk_base::{Memory, Role, Text, Used};
 use desk_pool::Pool;
 use desk_rename::Images;
@@ -32,8 +33,8 @@ pub enum TextRole {
     Str,
 }
 
-/// The image of the text at each index in each such role, and none where it is the text itself.
-pub type ImageTable = BTreeMap<(u16, TextRole), Option<Text>>;
+/// The images that differ from their texts, by the index of the text and its role.
+pub type ImageTable = BTreeMap<(u16, TextRole), Text>;
 
 /// The role as one whose texts may have another image; none where each text is its own image.
 fn text_role_of(role: Role) -> Option<TextRole>
@@ -61,7 +62,7 @@ pub fn text_at<'a>(pool: &Pool<'a>, index: u16) -> &'a [u8]
     }
 }
 
-/// Adds the image of a text, if the table lacks it.
+/// Adds the image of a text, where it is another text.
 fn add_image<I: Images>(
     alloc: Global,
     rules: &RuleSet,
@@ -73,17 +74,18 @@ fn add_image<I: Images>(
     requires images { I.renames images.now ≡ rules.now.renames }
     requires sound { IsSoundTable (images_of rules.now) pool.now.entries table.old }
     ensures sound { OnOk result (IsSoundTable (images_of rules.now) pool.now.entries table.new) }
-    ensures grows { OnOk result (Grows table.old key table.new) }
+    ensures finds { OnOk result (FindsAt (images_of rules.now) pool.now.entries table.new key) }
+    ensures keeps { OnOk result ((q : Key) → FindsAt (images_of rules.now) pool.now.entries table.old q → FindsAt (images_of rules.now) pool.now.entries table.new q) }
 {
-    if table.contains_key(&key) {
-        return Ok(());
+    let text = text_at(pool, key.0);
+    if let Some(image) = image_by_role(alloc, rules, images, key.1, text)? {
+        table.insert(key, image)?;
     }
-    let image = image_by_role(alloc, rules, images, key.1, text_at(pool, key.0))?;
-    table.insert(key, image)?;
     Ok(())
 }
 
-/// The images of the texts of all uses. Each is computed once, at its first use. The only error is want of memory.
+/// The images of the texts of all uses. Each is computed once, at its first use, and kept where it is another text. The only
+/// error is want of memory.
 pub fn all_images<I: Images>(
     alloc: Global,
     rules: &RuleSet,
@@ -95,29 +97,26 @@ pub fn all_images<I: Images>(
     ensures { IfOk result (HasImages (images_of rules.now) pool.now.entries uses.now) }
 {
     let mut table = BTreeMap::new(alloc);
+    let mut seen = vec![in alloc; RoleSet::none(); pool.count() as usize]?;
     for used in uses {
         if let Some(text_role) = text_role_of(used.role) {
-            add_image(
-                alloc,
-                rules,
-                images,
-                pool,
-                &mut table,
-                (used.index, text_role),
-            )?;
+            let key = (used.index, text_role);
+            if !is_seen(&seen, key) {
+                add_image(alloc, rules, images, pool, &mut table, key)?;
+                see(&mut seen, key);
+            }
         }
     }
     Ok(table)
 }
 
-/// The image that a table has at a key, where it is another text.
+/// The image that a table has at a key.
 fn image_at(table: &ImageTable, key: (u16, TextRole)) -> Option<&[u8]>
-    ensures { option_copied result ≡ found (answer_at table.now key) }
+    ensures { option_copied result ≡ image_at table.now key }
 {
     match table.get(&key) {
         None => None,
-        Some(None) => None,
-        Some(Some(image)) => Some(image.as_bytes()),
+        Some(image) => Some(image.as_bytes()),
     }
 }
 

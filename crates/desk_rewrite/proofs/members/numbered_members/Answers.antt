@@ -1,4 +1,4 @@
-use Rattle.std.proofs.Common.{◌≡◌, ◌∙◌, ◌++◌, ◌∷◌, [], List, sym, ap, ap₂, subst, false, get_or, unwrap_or, map, Option}
+use Rattle.std.proofs.Common.{◌∙◌, ◌++◌, ◌∷◌, [], List, sym, ap, ap₂, subst, false, get_or, unwrap_or, map, Option}
 use Rattle.std.proofs.lemmas.List.{take_more, map_push}
 use Rattle.desk_base.specs.Names.{Text}
 use Rattle.desk_base.specs.Entries.{text_at}

@@ -1,6 +1,5 @@
 use Rattle.std.proofs.Common.{◌≡◌, map, take}
 use Rattle.desk_format.specs.Resolved.{Images}
-use Rattle.desk_format.specs.NewClass.{renamed_in}
 use Rattle.desk_new_pool.specs.Twins.{member_in}
 use Rattle.desk_rewrite.specs.Tables.{HasDescriptors}
 use Rattle.desk_rewrite.proofs.Numbered.{Numbered}

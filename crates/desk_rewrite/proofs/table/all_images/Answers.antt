@@ -1,32 +1,61 @@
-use Rattle.std.proofs.Common.{◌≡◌, ◌+◌, true, All, take, sym, ◌∙◌, subst, arith}
+use Rattle.std.proofs.Common.{◌≡◌, ◌+◌, List, length, drop, get_or, sym, ap, ◌∙◌, subst, arith}
 use Rattle.std.proofs.lemmas.List.{take_all}
 use Rattle.desk_base.specs.declared.kinds.Role.TheVariants.{Class}
 use Rattle.desk_base.specs.declared.kinds.Used.{Used}
 use Rattle.desk_follow.specs.RuleImages.{images_of}
-use Rattle.desk_rewrite.specs.Tables.{Table, has_image, IsSoundTable}
-use Rattle.desk_rewrite.proofs.Tables.{next_has, next_passed, has_images, none_of}
+use Rattle.desk_rewrite.specs.declared.seen.RoleSet.{RoleSet}
+use Rattle.desk_rewrite.specs.Tables.{Table, Key, Sees, FindsAt, IsSoundTable, HasImages, is_seen}
+use Rattle.desk_rewrite.proofs.Tables.{FindsSeen, HasBefore, has_more, seen_more, finds_use, own_use, none_of, written_over}
 use Rattle.desk_rewrite.proofs.table.all_images.Goals as goal
-use Rattle.desk_rewrite.proofs.table.all_images.Goals.{in-Some+in_ok-add_image, in_default}
+use Rattle.desk_rewrite.proofs.table.all_images.Goals.{in-Some+then-not-is_seen+in_ok-add_image, in-Some+else-not-is_seen, in_default}
 
 abbrev default : Used
 default = record { at = 0; index = 0; role = Class }
 
 pub loop-used-preserved : goal.loop-used-preserved
 loop-used-preserved g c =
+    let im = images_of c.args.rules.now in
+    let pool = c.args.pool.now.entries in
+    let i = c.loop-used.used-index in
+    let us = c.args.uses.now in
+    let u : Used = get_or us i default in
     elim c.match-text_role_of.branch [
-      | in-Some+in_ok-add_image w ↦ record {
-        sound = subst (IsSoundTable (images_of c.args.rules.now) c.args.pool.now.entries) (sym w.table-is) w.in_ok-add_image.ensures.sound;
-        has = subst (λ (t : Table). All (λ (u : Used). has_image t u ≡ true) (take (c.loop-used.used-index + 1) c.args.uses.now)) (sym w.table-is)
-            (next_has c.loop-used.table w.add_image.new.table c.args.uses.now c.loop-used.used-index default w.in-Some.text_role c.loop-used-test.true (sym c.text_role_of.ensures ∙ w.in-Some.is) w.in_ok-add_image.ensures.grows c.loop-used.invariant.has);
-      }
+      | in-Some+then-not-is_seen+in_ok-add_image w ↦
+          let key : Key = (u.index, w.in-Some.text_role) in
+          let new : Table = w.add_image.new.table in
+          let up : Sees c.loop-used.seen.items key w.see.new.seen = subst (λ (s : List RoleSet). Sees s key w.see.new.seen) w.deref_mut.ensures.value w.see.ensures.sees in
+          let same : c.loop-used.seen.len ≡ length w.see.new.seen = sym (w.see.ensures.length ∙ w.deref_mut.ensures.len) in
+          record {
+            sound = subst (IsSoundTable im pool) (sym w.table-is) w.in_ok-add_image.ensures.sound;
+            seen = subst (λ (t : Table). FindsSeen im pool t c.match-text_role_of.seen.items) (sym w.table-is)
+                (subst (λ (s : List RoleSet). FindsSeen im pool new s) (sym (ap (λ v. v.items) w.seen-is ∙ written_over c.loop-used.seen.len w.see.new.seen (drop (length w.see.new.seen) c.loop-used.seen.items) same))
+                (seen_more im pool c.loop-used.table new c.loop-used.seen.items w.see.new.seen key up w.in_ok-add_image.ensures.keeps w.in_ok-add_image.ensures.finds c.loop-used.invariant.seen));
+            has = subst (λ (t : Table). HasBefore im pool t us (i + 1)) (sym w.table-is)
+                (has_more im pool c.loop-used.table new us i default c.loop-used-test.true w.in_ok-add_image.ensures.keeps
+                (finds_use im pool new u.role u.index w.in-Some.text_role (sym c.text_role_of.ensures ∙ w.in-Some.is) w.in_ok-add_image.ensures.finds) c.loop-used.invariant.has);
+          }
+      | in-Some+else-not-is_seen w ↦
+          let key : Key = (u.index, w.in-Some.text_role) in
+          let here : FindsAt im pool c.loop-used.table key =
+          c.loop-used.invariant.seen key (ap (λ (s : List RoleSet). is_seen s key) (sym w.deref.ensures.value) ∙ sym w.is_seen.ensures ∙ w.if-not-is_seen.false) in
+          record {
+            sound = subst (IsSoundTable im pool) (sym w.table-is) c.loop-used.invariant.sound;
+            seen = subst (λ (t : Table). FindsSeen im pool t c.match-text_role_of.seen.items) (sym w.table-is)
+                (subst (λ (s : List RoleSet). FindsSeen im pool c.loop-used.table s) (sym (ap (λ v. v.items) w.seen-is)) c.loop-used.invariant.seen);
+            has = subst (λ (t : Table). HasBefore im pool t us (i + 1)) (sym w.table-is)
+                (has_more im pool c.loop-used.table c.loop-used.table us i default c.loop-used-test.true (λ q h. h)
+                (finds_use im pool c.loop-used.table u.role u.index w.in-Some.text_role (sym c.text_role_of.ensures ∙ w.in-Some.is) here) c.loop-used.invariant.has);
+          }
       | in_default w ↦ record {
-        sound = subst (IsSoundTable (images_of c.args.rules.now) c.args.pool.now.entries) (sym w.table-is) c.loop-used.invariant.sound;
-        has = subst (λ (t : Table). All (λ (u : Used). has_image t u ≡ true) (take (c.loop-used.used-index + 1) c.args.uses.now)) (sym w.table-is)
-            (next_passed c.loop-used.table c.args.uses.now c.loop-used.used-index default c.loop-used-test.true (sym c.text_role_of.ensures ∙ none_of c.text_role_of.result w.in_default.not-Some) c.loop-used.invariant.has);
+        sound = subst (IsSoundTable im pool) (sym w.table-is) c.loop-used.invariant.sound;
+        seen = subst (λ (t : Table). FindsSeen im pool t c.match-text_role_of.seen.items) (sym w.table-is)
+            (subst (λ (s : List RoleSet). FindsSeen im pool c.loop-used.table s) (sym (ap (λ v. v.items) w.seen-is)) c.loop-used.invariant.seen);
+        has = subst (λ (t : Table). HasBefore im pool t us (i + 1)) (sym w.table-is)
+            (has_more im pool c.loop-used.table c.loop-used.table us i default c.loop-used-test.true (λ q h. h)
+            (own_use im pool c.loop-used.table u.role u.index (sym c.text_role_of.ensures ∙ none_of c.text_role_of.result w.in_default.not-Some)) c.loop-used.invariant.has);
       }
     ]
 
 pub returns : goal.returns
 returns g c =
-    has_images (images_of c.args.rules.now) c.args.pool.now.entries c.loop-used.table c.args.uses.now c.loop-used.invariant.sound
-    (subst (All (λ (u : Used). has_image c.loop-used.table u ≡ true)) (take_all c.loop-used.used-index c.args.uses.now (omega arith)) c.loop-used.invariant.has)
+    subst (λ (us : List Used). HasImages (images_of c.args.rules.now) c.args.pool.now.entries us c.loop-used.table) (take_all c.loop-used.used-index c.args.uses.now (omega arith)) c.loop-used.invariant.has
