@@ -1,2 +1,5 @@
+pub mod Formats
+pub mod Found
 pub mod OverFile
 pub mod Statements
+pub mod WorkingFolder

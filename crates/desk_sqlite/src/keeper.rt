@@ -13,7 +13,7 @@ use desk_ledger::{Header, Keeper, KeeperFault, Row};
 use std::marker::Model;
 
 /// A keeper over an SQLite file. It tells nothing. It reads the file once, when it is attached, and
-/// answers from memory. The header, and the removal of a row, are in the file when their call answers; of
+/// answers from memory; a ledger that is there is not written before the first call that changes it or commits. The header, and the removal of a row, are in the file when their call answers; of
 /// the rows that are put, up to 1,024 wait to be written together, at the latest before the next removal. `commit`
 /// writes those that wait. Each refusal of the outside counts as a fault. Contracts see the attached name,
 /// what it answers from, the rows that wait, and the count of faults.
@@ -103,6 +103,18 @@ impl<'r> SqliteKeeper<'r> {
     {
         match &mut self.opened {
             Some(opened) => opened.write_waiting(),
+            None => Ok(()),
+        }
+    }
+
+    /// Writes the rows that wait, also to a ledger that was only read so far.
+    fn write_all(&mut self) -> Result<(), Refusal>
+        ensures ok { OnOk result (self.new.opened ≡ option_map all_written self.old.opened) }
+        ensures err { OnErr result (self.new ≡ self.old) }
+        ensures counts { self.new.faults ≡ self.old.faults }
+    {
+        match &mut self.opened {
+            Some(opened) => opened.commit(),
             None => Ok(()),
         }
     }
@@ -263,7 +275,7 @@ impl Keeper for SqliteKeeper<'_> {
         ensures counts { self.old.faults ≤ self.new.faults }
         ensures failed { result ≡ Err KeeperFault.Failed → Rose self.old.faults self.new.faults }
     {
-        let written = self.write_waiting();
+        let written = self.write_all();
         match written {
             Ok(()) => Ok(()),
             Err(refusal) => Err(self.note(Tried::Keeping, None, refusal)),

@@ -10,6 +10,7 @@
 
 mod database;
 mod files;
+mod formats;
 mod keeper;
 mod opened;
 mod tables;

@@ -1,15 +1,17 @@
 //! A ledger that is open.
 
-ghost use Rattle.std.specs.Prelude.{◌≡◌, ◌↔◌, ◌⊎◌, ◌<◌, length, IfOk, IsTrue, OnOk, OnErr, option_map};
+ghost use Rattle.std.specs.Prelude.{◌≡◌, ◌≢◌, ◌↔◌, ◌⊎◌, ◌<◌, length, None, Some, Ok, Err, IfOk, IfSome, IsTrue, OnOk, OnErr, option_map};
 ghost use Rattle.std.specs.FinMap as fin;
 ghost use Rattle.desk_ledger.specs.Ledger.{row_at, with_header, without_row};
 ghost use Rattle.desk_sqlite.specs.OverFile.{all_written, nothing, with_put, with_room};
+ghost use Rattle.desk_sqlite.specs.WorkingFolder.{has_relative_root, is_relative};
 
 use crate::database::Database;
 use crate::files::{Log, fault_of, file_path, has_room_beside};
+use crate::formats::Format;
 use crate::tables::{
-    make_tables, read_contents, read_folder, write_folder, write_header, write_rows,
-    write_then_remove,
+    Pending, find_tables, pending_of, read_contents, read_folder, settle, write_folder,
+    write_header, write_rows, write_then_remove,
 };
 use crate::waiting::UnwrittenRows;
 use desk_base::{Memory, Text};
@@ -27,6 +29,7 @@ pub(crate) struct Opened {
     alloc: Global,
     name: Text,
     database: Database,
+    pending: Option<Pending>,
     log: Log,
     contents: Contents,
     waiting: UnwrittenRows,
@@ -42,28 +45,39 @@ impl Model for Opened {
     ghost view = { λ o. record { name = o.name; ledger = o.contents; waiting = o.waiting } };
 }
 
-/// What the tables of a database hold. They are made where it holds nothing.
-fn tables_in(rt: &HostRuntime, database: &mut Database) -> Result<Contents, Refusal> {
-    make_tables(database)?;
-    let contents = read_contents(rt.alloc(), database)?;
-    check_folder(rt, database, &contents)?;
-    Ok(contents)
+/// A ledger as its file has it: what the tables hold, and what is still to be done to the file before it is written.
+#[derive(Drop)]
+struct Found {
+    contents: Contents,
+    pending: Option<Pending>,
 }
 
-/// A ledger's file: the database, what its tables hold, and its log.
+/// The ledger that the tables of a database hold, which are made where it holds nothing. Nothing else is written: it may be
+/// another run's.
+fn found_in(rt: &HostRuntime, database: &mut Database) -> Result<Found, Refusal> {
+    let format = find_tables(database)?;
+    let contents = read_contents(rt.alloc(), database, format)?;
+    let folder = folder_to_note(rt, database, format, &contents)?;
+    Ok(Found {
+        contents,
+        pending: pending_of(format, folder),
+    })
+}
+
+/// A ledger's file: the database, the ledger in it, and its log.
 #[derive(Drop)]
 struct Ledger {
     database: Database,
-    contents: Contents,
+    found: Found,
     log: Log,
 }
 
 /// The ledger of a database that is open. A database with other tables is left as it was.
 fn ledger_in(rt: &HostRuntime, mut database: Database, log: Log) -> Result<Ledger, Refusal> {
-    match tables_in(rt, &mut database) {
-        Ok(contents) => Ok(Ledger {
+    match found_in(rt, &mut database) {
+        Ok(found) => Ok(Ledger {
             database,
-            contents,
+            found,
             log,
         }),
         Err(refusal) => {
@@ -128,12 +142,16 @@ fn ledger_of(rt: &HostRuntime, name: &Text) -> Result<Ledger, Refusal> {
 }
 
 /// Whether a root is relative.
-fn is_relative(root: &Text) -> bool {
+fn is_relative(root: &Text) -> bool
+    ensures { result ≡ is_relative root.now }
+{
     !root.as_bytes().starts_with(b"/")
 }
 
 /// Whether a header has a relative root.
-fn has_relative_root(header: &Header) -> bool {
+fn has_relative_root(header: &Header) -> bool
+    ensures { result ≡ has_relative_root header.now }
+{
     is_relative(&header.from) || is_relative(&header.to)
 }
 
@@ -143,25 +161,33 @@ fn working_folder(rt: &HostRuntime) -> Result<Text, Refusal> {
     Ok(Text::from_bytes(rt.alloc(), folder.as_str().as_bytes())?)
 }
 
-/// Compares the working folder that is noted with this one. Where none is noted, this one is.
-fn settle_folder(rt: &HostRuntime, database: &mut Database) -> Result<(), Refusal> {
-    let folder = working_folder(rt)?;
-    match read_folder(rt.alloc(), database)? {
-        Some(noted) if noted == folder => Ok(()),
+/// The working folder where it is to be noted, since none is. A ledger of another one is refused.
+fn unnoted(noted: Option<Text>, folder: Text) -> Result<Option<Text>, Refusal>
+    ensures same { noted ≡ Some folder → result ≡ Ok None }
+    ensures other { IfSome noted (λ path. path ≢ folder → result ≡ Err (Refusal.Failed Cause.Elsewhere)) }
+    ensures none { noted ≡ None → result ≡ Ok (Some folder) }
+{
+    match noted {
+        Some(noted) if noted == folder => Ok(None),
         Some(_) => Err(Refusal::Failed(Cause::Elsewhere)),
-        None => write_folder(database, &folder),
+        None => Ok(Some(folder)),
     }
 }
 
-/// Refuses a ledger whose header has a relative root, where the working folder is another one than is noted.
-fn check_folder(
+/// The working folder where it is to be noted: a ledger whose header has a relative root belongs to one, and is refused
+/// in another.
+fn folder_to_note(
     rt: &HostRuntime,
     database: &mut Database,
+    format: Format,
     contents: &Contents,
-) -> Result<(), Refusal> {
+) -> Result<Option<Text>, Refusal> {
     match contents.header()? {
-        Some(header) if has_relative_root(&header) => settle_folder(rt, database),
-        _ => Ok(()),
+        Some(header) if has_relative_root(&header) => {
+            let noted = read_folder(rt.alloc(), database, format)?;
+            unnoted(noted, working_folder(rt)?)
+        }
+        _ => Ok(None),
     }
 }
 
@@ -174,7 +200,7 @@ impl Opened {
         let alloc = rt.alloc();
         let Ledger {
             database,
-            contents,
+            found,
             log,
         } = ledger_of(rt, name)?;
         let name = name.clone()?;
@@ -182,8 +208,9 @@ impl Opened {
             alloc,
             name,
             database,
+            pending: found.pending,
             log,
-            contents,
+            contents: found.contents,
             waiting: UnwrittenRows::new(alloc),
         })
     }
@@ -219,6 +246,18 @@ impl Opened {
         self.contents.find(target)
     }
 
+    /// Does what is still to be done to the file before it is written. This is left to the first change, by which the ledger
+    /// is known to be this run's.
+    fn settle(&mut self) -> Result<(), Refusal>
+        ensures { self.new ≡ self.old }
+    {
+        if let Some(pending) = &self.pending {
+            settle(&mut self.database, pending)?;
+            self.pending = None;
+        }
+        Ok(())
+    }
+
     /// Writes the rows that wait.
     pub(crate) fn write_waiting(&mut self) -> Result<(), Refusal>
         ensures ok { OnOk result (self.new ≡ all_written self.old) }
@@ -229,12 +268,22 @@ impl Opened {
         Ok(())
     }
 
+    /// Writes the rows that wait to a file to which nothing else is to be done any more, also where none waits.
+    pub(crate) fn commit(&mut self) -> Result<(), Refusal>
+        ensures ok { OnOk result (self.new ≡ all_written self.old) }
+        ensures err { OnErr result (self.new ≡ self.old) }
+    {
+        self.settle()?;
+        self.write_waiting()
+    }
+
     /// Makes this the header, in the file first, with the working folder where a root is relative.
     pub(crate) fn set_header(&mut self, rt: &HostRuntime, header: &Header) -> Result<(), Refusal>
         ensures ok { OnOk result (self.new ≡ record self.old { ledger = with_header header.now self.old.ledger }) }
         ensures err { OnErr result (self.new ≡ self.old) }
     {
         let copy = header.clone()?;
+        self.settle()?;
         if has_relative_root(header) {
             write_folder(&mut self.database, &working_folder(rt)?)?;
         }
@@ -281,6 +330,7 @@ impl Opened {
         ensures ok { OnOk result (self.new ≡ with_put row (with_room self.old)) }
         ensures err { OnErr result ((self.new ≡ self.old) ⊎ (self.new ≡ with_room self.old)) }
     {
+        self.settle()?;
         self.make_room()?;
         self.take(row)?;
         Ok(())
@@ -291,6 +341,7 @@ impl Opened {
         ensures ok { OnOk result (self.new ≡ record self.old { ledger = without_row target.now self.old.ledger; waiting = nothing }) }
         ensures err { OnErr result (self.new ≡ self.old) }
     {
+        self.settle()?;
         write_then_remove(&mut self.database, self.alloc, &self.waiting, target)?;
         self.waiting.clear();
         self.contents.forget(target);

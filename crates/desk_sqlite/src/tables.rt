@@ -1,11 +1,16 @@
 //! The tables of a ledger's file: one holds the header, one the rows by their targets, and one notes the working folder of
-//! relative roots. In format 1 the rows have no outputs; a ledger of that format is taken over when it is opened.
+//! relative roots. In format 1 the rows have no outputs; a ledger of that format is read as it is, and taken over before
+//! anything is written to it.
 
-ghost use Rattle.std.specs.Prelude.{◌≡◌, string_bytes, IfOk, OnOk};
+ghost use Rattle.std.specs.Prelude.{◌≡◌, ◌≤◌, length, string_bytes, None, IfOk, IfSome, IsOk, OnOk};
 ghost use Rattle.sqlite.specs.Values.{bound};
+ghost use Rattle.desk_ledger.specs.Ledger.{with_row};
+ghost use Rattle.desk_ledger_tables.specs.Rows.{shown_row};
+ghost use Rattle.desk_sqlite.specs.Found.{header_in, ledger_in, with_shown_rows};
 ghost use Rattle.desk_sqlite.specs.Statements.{insertion, values_in, verb};
 
 use crate::database::Database;
+use crate::formats::{FOLDER, Format, format_of};
 use crate::waiting::UnwrittenRows;
 use desk_base::Text;
 use desk_faults::{Cause, Refusal};
@@ -14,13 +19,6 @@ use desk_ledger_tables::{Statement, Unread, header_values, read_header, read_row
 use sqlite::types::ValueRef;
 use sqlite::{Row as TableRow, params};
 use std::alloc::{AllocError, Global};
-
-/// The table with the rows of format 1.
-const WRITTEN: &str =
-    "CREATE TABLE written (target BLOB NOT NULL PRIMARY KEY, source BLOB NOT NULL, digest BLOB NOT NULL) STRICT";
-
-/// The table with the working folder of relative roots, whose only row has the number 1.
-const FOLDER: &str = "CREATE TABLE folder (number INTEGER PRIMARY KEY, path BLOB NOT NULL) STRICT";
 
 fn make_all(database: &mut Database) -> Result<(), Refusal>
     ensures { OnOk result (database.new ≡ database.old) }
@@ -37,6 +35,22 @@ fn make(database: &mut Database) -> Result<(), Refusal>
     database.run("BEGIN", &[])?;
     let made = make_all(database);
     database.end(made)
+}
+
+/// The format of the tables that a database has. They are made in one that holds nothing; one that holds any other tables
+/// is refused.
+pub(crate) fn find_tables(database: &mut Database) -> Result<Format, Refusal>
+    ensures { OnOk result (database.new ≡ database.old) }
+{
+    let found = database.query(
+        "SELECT sql FROM sqlite_schema WHERE sql IS NOT NULL ORDER BY name",
+    )?;
+    if found.is_empty() {
+        make(database)?;
+        return Ok(Format::Present);
+    }
+    let (headers, rows) = (Statement::MakeHeaders.text(), Statement::MakeRows.text());
+    format_of(found.as_slice(), headers, rows).ok_or(Refusal::Failed(Cause::Tables))
 }
 
 /// Makes the table of the rows from the one of format 1: each row without an output.
@@ -59,60 +73,55 @@ fn move_rows_and_make_folder(database: &mut Database) -> Result<(), Refusal>
     database.run(FOLDER, &[])
 }
 
-/// Takes a ledger of format 1 over: all of it or nothing.
-fn take_over(database: &mut Database, has_folder: bool) -> Result<(), Refusal>
+/// Makes tables of any format those of the present one.
+fn take_over(database: &mut Database, format: Format) -> Result<(), Refusal>
+    ensures { OnOk result (database.new ≡ database.old) }
+{
+    match format {
+        Format::Present => Ok(()),
+        Format::OneWithFolder => move_rows(database),
+        Format::One => move_rows_and_make_folder(database),
+    }
+}
+
+/// What is still to be done to a ledger's file before anything else is written to it: its tables are to be those of the
+/// present format, and the working folder is to be noted where it isn't.
+#[derive(Drop)]
+pub(crate) struct Pending {
+    /// The format of the tables.
+    pub(crate) format: Format,
+    /// The working folder that is to be noted, if it is.
+    pub(crate) folder: Option<Text>,
+}
+
+/// What is still to be done to a file of a format, in which this folder is to be noted, if there is anything to do.
+pub(crate) fn pending_of(format: Format, folder: Option<Text>) -> Option<Pending>
+    ensures nothing { result ≡ None → (format ≡ Format.Present) × (folder ≡ None) }
+    ensures is { IfSome result (λ pending. (pending.format ≡ format) × (pending.folder ≡ folder)) }
+{
+    match (format, folder) {
+        (Format::Present, None) => None,
+        (format, folder) => Some(Pending { format, folder }),
+    }
+}
+
+fn take_over_and_note(database: &mut Database, pending: &Pending) -> Result<(), Refusal>
+    ensures { OnOk result (database.new ≡ database.old) }
+{
+    take_over(database, pending.format)?;
+    match &pending.folder {
+        Some(folder) => write_folder(database, folder),
+        None => Ok(()),
+    }
+}
+
+/// Does what is still to be done to a ledger's file: all of it or nothing.
+pub(crate) fn settle(database: &mut Database, pending: &Pending) -> Result<(), Refusal>
     ensures { OnOk result (database.new ≡ database.old) }
 {
     database.run("BEGIN", &[])?;
-    let moved = if has_folder {
-        move_rows(database)
-    } else {
-        move_rows_and_make_folder(database)
-    };
-    database.end(moved)
-}
-
-/// Whether this was made by a statement with this text.
-fn is_made_by(found: &TableRow, statement: &str) -> bool {
-    matches!(found.get_ref(0), Ok(ValueRef::Text(text)) if text == statement.as_bytes())
-}
-
-/// Whether this is the table of the header.
-fn is_header_table(found: &TableRow) -> bool {
-    is_made_by(found, Statement::MakeHeaders.text())
-}
-
-/// Leaves the table of the rows as it is, or takes the one of format 1 over.
-fn settle_rows(database: &mut Database, found: &TableRow) -> Result<(), Refusal>
-    ensures { OnOk result (database.new ≡ database.old) }
-{
-    if is_made_by(found, Statement::MakeRows.text()) {
-        Ok(())
-    } else if is_made_by(found, WRITTEN) {
-        take_over(database, true)
-    } else {
-        Err(Refusal::Failed(Cause::Tables))
-    }
-}
-
-/// Makes the tables in a database that holds nothing, and takes one of format 1 over, in one transaction either way.
-/// One that holds any other tables is refused.
-pub(crate) fn make_tables(database: &mut Database) -> Result<(), Refusal>
-    ensures { OnOk result (database.new ≡ database.old) }
-{
-    let found = database.query(
-        "SELECT sql FROM sqlite_schema WHERE sql IS NOT NULL ORDER BY name",
-    )?;
-    match found.as_slice() {
-        [] => make(database),
-        [first, second] if is_header_table(first) && is_made_by(second, WRITTEN) => {
-            take_over(database, false)
-        }
-        [first, second, third] if is_made_by(first, FOLDER) && is_header_table(second) => {
-            settle_rows(database, third)
-        }
-        _ => Err(Refusal::Failed(Cause::Tables)),
-    }
+    let done = take_over_and_note(database, pending);
+    database.end(done)
 }
 
 /// The bytes that a row has in a column.
@@ -135,55 +144,84 @@ fn unread(why: Unread) -> Refusal {
     }
 }
 
-/// Takes the header that the tables hold, if there is one.
-fn take_header(
-    alloc: Global,
-    database: &mut Database,
-    contents: &mut Contents,
-) -> Result<(), Refusal>
-    ensures { OnOk result (database.new ≡ database.old) }
+/// The header that was found, if there is one.
+fn header_in(alloc: Global, found: &[TableRow]) -> Result<Option<Header>, Refusal>
+    ensures header { IfOk result (λ header. header ≡ header_in found.now) }
+    ensures one { IsOk result → length found.now ≤ 1 }
 {
-    let found = database.query(Statement::FindHeader.text())?;
-    match found.as_slice() {
-        [] => Ok(()),
-        [one] => {
-            contents.set_header(read_header(alloc, one).map_err(unread)?);
-            Ok(())
-        }
+    match found {
+        [] => Ok(None),
+        [one] => match read_header(alloc, one) {
+            Ok(header) => Ok(Some(header)),
+            Err(why) => Err(unread(why)),
+        },
         _ => Err(Refusal::Failed(Cause::Unsound)),
     }
 }
 
 /// Takes a row that was found.
-fn take_row(alloc: Global, found: &TableRow, contents: &mut Contents) -> Result<(), Refusal> {
-    contents.put(read_row(alloc, found).map_err(unread)?)?;
+fn take_row(alloc: Global, found: &TableRow, contents: &mut Contents) -> Result<(), Refusal>
+    ensures { OnOk result (contents.new ≡ with_row (shown_row found.now) contents.old) }
+{
+    let row = read_row(alloc, found).map_err(unread)?;
+    contents.put(row)?;
     Ok(())
 }
 
-/// Takes the rows that the tables hold.
-fn take_rows(alloc: Global, database: &mut Database, contents: &mut Contents) -> Result<(), Refusal>
-    ensures { OnOk result (database.new ≡ database.old) }
+/// Takes each row that was found.
+fn take_rows(alloc: Global, found: &[TableRow], contents: &mut Contents) -> Result<(), Refusal>
+    ensures { OnOk result (contents.new ≡ with_shown_rows found.now contents.old) }
 {
-    for found in database.query(Statement::FindRows.text())? {
-        take_row(alloc, &found, contents)?;
+    for row in found {
+        take_row(alloc, row, contents)?;
     }
     Ok(())
 }
 
-/// All that the tables hold.
-pub(crate) fn read_contents(alloc: Global, database: &mut Database) -> Result<Contents, Refusal>
-    ensures { OnOk result (database.new ≡ database.old) }
+/// The ledger of a header and of rows that were found.
+fn ledger_in(alloc: Global, headers: &[TableRow], rows: &[TableRow]) -> Result<Contents, Refusal>
+    ensures { IfOk result (λ contents. contents ≡ ledger_in headers.now rows.now) }
 {
     let mut contents = Contents::new(alloc);
-    take_header(alloc, database, &mut contents)?;
-    take_rows(alloc, database, &mut contents)?;
+    if let Some(header) = header_in(alloc, headers)? {
+        contents.set_header(header);
+    }
+    take_rows(alloc, rows, &mut contents)?;
     Ok(contents)
 }
 
-/// The working folder that the tables note, if they note one.
-pub(crate) fn read_folder(alloc: Global, database: &mut Database) -> Result<Option<Text>, Refusal>
+/// The query for all rows in tables of a format: those of format 1 have no outputs.
+fn query_of_rows(format: Format) -> &'static str {
+    match format {
+        Format::Present => Statement::FindRows.text(),
+        Format::OneWithFolder | Format::One => "SELECT target, source, digest, NULL FROM written",
+    }
+}
+
+/// All that tables of a format hold.
+pub(crate) fn read_contents(
+    alloc: Global,
+    database: &mut Database,
+    format: Format,
+) -> Result<Contents, Refusal>
     ensures { OnOk result (database.new ≡ database.old) }
 {
+    let headers = database.query(Statement::FindHeader.text())?;
+    let rows = database.query(query_of_rows(format))?;
+    ledger_in(alloc, headers.as_slice(), rows.as_slice())
+}
+
+/// The working folder that tables of a format note, if they note one. The first ledgers have no table for it.
+pub(crate) fn read_folder(
+    alloc: Global,
+    database: &mut Database,
+    format: Format,
+) -> Result<Option<Text>, Refusal>
+    ensures { OnOk result (database.new ≡ database.old) }
+{
+    if matches!(format, Format::One) {
+        return Ok(None);
+    }
     let found = database.query("SELECT path FROM folder")?;
     match found.as_slice() {
         [] => Ok(None),
