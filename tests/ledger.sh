@@ -89,6 +89,27 @@ rows2' "$(sqlite3 "$seen" "SELECT name FROM sqlite_schema WHERE type = 'table' O
 check 'format 1: the rows' '3|0' "$(sqlite3 "$seen" 'SELECT count(*), count(output) FROM rows2')"
 rm -rf "$place.seen"
 
+# first FILE: the same ledger as the first programs made it, which note no working folder
+first() {
+  old "$1"
+  sqlite3 "$1" 'DROP TABLE folder'
+}
+
+# elsewhere TO LEDGER: the status of a run in another working folder, whose source has the same name
+elsewhere() {
+  (cd elsewhere && "$program" run --rules "$place/rules" --from app --to "$1" --ledger "$place/$2" >/dev/null 2>&1; echo "status $?")
+}
+
+mkdir elsewhere
+cp -r app elsewhere/app
+cp ledger earliest && cp ledger-wal earliest-wal && first earliest
+before=$(tree .)
+check 'format 1, of another run' 'status 27' "$(elsewhere other earliest)"
+check 'format 1, of another run: all is as it was' "$before" "$(tree .)"
+check 'format 1: its own run goes on' "$kept" "$(run rules out earliest 2>&1)"
+check 'format 1: from then on it belongs to the working folder' 'status 12' "$(elsewhere out earliest)"
+rm -rf elsewhere earliest*
+
 # ---- a generated application, whose ledger is a database in memory
 
 before=$(tree .)
