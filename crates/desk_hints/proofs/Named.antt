@@ -8,6 +8,8 @@ pub data Is (h : Hint) : Type 0 where
   is_Differs : h ≡ hint.Differs → Is h
   is_Memory : h ≡ hint.Memory → Is h
   is_Folders : h ≡ hint.Folders → Is h
+  is_FileAsFolder : h ≡ hint.FileAsFolder → Is h
+  is_NoFolder : h ≡ hint.NoFolder → Is h
   is_Ledger : h ≡ hint.Ledger → Is h
   is_Output : h ≡ hint.Output → Is h
   is_Usage : h ≡ hint.Usage → Is h
@@ -55,6 +57,8 @@ is_one hint.Refusals = is_Refusals refl
 is_one hint.Differs = is_Differs refl
 is_one hint.Memory = is_Memory refl
 is_one hint.Folders = is_Folders refl
+is_one hint.FileAsFolder = is_FileAsFolder refl
+is_one hint.NoFolder = is_NoFolder refl
 is_one hint.Ledger = is_Ledger refl
 is_one hint.Output = is_Output refl
 is_one hint.Usage = is_Usage refl

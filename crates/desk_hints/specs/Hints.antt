@@ -15,6 +15,11 @@ use Rattle.desk_report.specs.declared.status.LimitKind.{LimitKind}
 use Rattle.desk_report.specs.declared.status.LimitKind.TheVariants as limit
 use Rattle.desk_report.specs.declared.status.Status.{Status}
 use Rattle.desk_report.specs.declared.status.Status.TheVariants as status
+use Rattle.desk_faults.specs.declared.fault.Fault.{Fault}
+use Rattle.desk_faults.specs.declared.fault.Tried.{Tried}
+use Rattle.desk_faults.specs.declared.fault.Tried.TheVariants as tried
+use Rattle.desk_hints.specs.declared.listed.Listed.{Listed}
+use Rattle.desk_hints.specs.declared.listed.Listed.TheVariants as listed
 use Rattle.desk_hints.specs.declared.hints.Hint.{Hint}
 use Rattle.desk_hints.specs.declared.hints.Hint.TheVariants as hint
 
@@ -24,6 +29,8 @@ hint_text hint.Refusals = codes "migrate: some files were refused, and nothing w
 hint_text hint.Differs = codes "migrate: the other application isn't what the rules make of this one: the line `differs` names the first path that differs, and how\n         let `migrate run` write that file, and compare both by `javap -v -p`: order, duplicates and unused entries of a constant pool don't count\n"
 hint_text hint.Memory = codes "migrate: memory ran out, so the run stopped\n         give it more memory and run again: what was written and noted in the ledger is kept\n"
 hint_text hint.Folders = codes "migrate: a file or folder could not be used as it should, so the run stopped\n         put right what is said above and run again: what was done is kept\n"
+hint_text hint.FileAsFolder = codes "migrate: it is a file, and a folder is wanted, so nothing was begun; an archive is unpacked first: tools/unpack.py ARCHIVE FOLDER\n         run again with that folder in its place\n"
+hint_text hint.NoFolder = codes "migrate: there is no such folder, so nothing was begun\n         mend its name, or make it: an archive is unpacked by tools/unpack.py ARCHIVE FOLDER\n"
 hint_text hint.Ledger = codes "migrate: the ledger could not be used, so the run stopped\n         put right what is said above and run again, or name another ledger, which starts anew\n"
 hint_text hint.Output = codes "migrate: standard output took no more, so the report isn't whole; all files are done\n         run again with an output that takes it: the files are kept, and the report is printed\n"
 hint_text hint.Usage = codes "migrate: these words ask for nothing that can be done\n         give the words as in the line of usage; docs/REFERENCE.md says each\n"
@@ -144,3 +151,26 @@ hint_of (status.Stranded path name) = Some hint.Stranded
 hint_of (status.OtherRun kept wanted) = Some (other_hint kept wanted)
 hint_of (status.Moved path first second) = Some hint.Moved
 hint_of (status.NotInvertible fault) = Some (invert_hint fault)
+
+-- what stood where a folder was listed, by the system's words
+abbrev pub listed_by : Text → Listed
+listed_by words =
+    if bytes_eq words (codes "Not a directory") then listed.File
+    else if bytes_eq words (codes "No such file or directory") then listed.Nothing
+    else listed.Unknown
+
+-- what stood where a folder was listed, by what was tried and the system's words
+abbrev pub listed_as : Tried → Text → Listed
+listed_as tried.Listing words = listed_by words
+listed_as other words = listed.Unknown
+
+-- the hint of a fault of the folders
+abbrev pub folder_hint : Listed → Hint
+folder_hint listed.File = hint.FileAsFolder
+folder_hint listed.Nothing = hint.NoFolder
+folder_hint listed.Unknown = hint.Folders
+
+-- the hint of a status, by what is known of the folder that was listed
+abbrev pub hint_behind : Status → Listed → Option Hint
+hint_behind (status.FolderFault done) found = Some (folder_hint found)
+hint_behind other found = hint_of other

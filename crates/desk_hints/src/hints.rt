@@ -22,6 +22,10 @@ pub enum Hint {
     Memory,
     /// Status 11.
     Folders,
+    /// Status 11 where a file stands in place of a folder that is listed.
+    FileAsFolder,
+    /// Status 11 where a folder that is listed isn't there.
+    NoFolder,
     /// Status 12.
     Ledger,
     /// Status 13.
@@ -125,6 +129,14 @@ pub const HINTS: &[(Hint, &[u8])] = &[
     (
         Hint::Folders,
         b"migrate: a file or folder could not be used as it should, so the run stopped\n         put right what is said above and run again: what was done is kept\n",
+    ),
+    (
+        Hint::FileAsFolder,
+        b"migrate: it is a file, and a folder is wanted, so nothing was begun; an archive is unpacked first: tools/unpack.py ARCHIVE FOLDER\n         run again with that folder in its place\n",
+    ),
+    (
+        Hint::NoFolder,
+        b"migrate: there is no such folder, so nothing was begun\n         mend its name, or make it: an archive is unpacked by tools/unpack.py ARCHIVE FOLDER\n",
     ),
     (
         Hint::Ledger,

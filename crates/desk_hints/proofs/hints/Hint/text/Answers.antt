@@ -1,5 +1,5 @@
 use Rattle.std.proofs.Common.{refl}
-use Rattle.desk_hints.proofs.Named.{is_one, is_Refusals, is_Differs, is_Memory, is_Folders, is_Ledger, is_Output, is_Usage, is_Nested, is_NoRenames, is_NotUtf8, is_Escape, is_BadPackage, is_BadKey, is_BadValue, is_MissingText, is_Chain1, is_Chain2, is_Chain3, is_Chain4, is_Chain5, is_Chain6, is_Chain7, is_Chain8, is_Chain9, is_Files, is_PathLength, is_FileSize, is_RuleFiles, is_RuleSize, is_Both, is_Clash, is_NameClash, is_Stranded, is_Other, is_OtherRules, is_OtherTarget, is_OtherTargetRules, is_OtherSource, is_OtherSourceRules, is_OtherSourceTarget, is_OtherSourceTargetRules, is_Moved, is_NotRenames, is_NothingToInvert, is_Overlap}
+use Rattle.desk_hints.proofs.Named.{is_one, is_Refusals, is_Differs, is_Memory, is_Folders, is_FileAsFolder, is_NoFolder, is_Ledger, is_Output, is_Usage, is_Nested, is_NoRenames, is_NotUtf8, is_Escape, is_BadPackage, is_BadKey, is_BadValue, is_MissingText, is_Chain1, is_Chain2, is_Chain3, is_Chain4, is_Chain5, is_Chain6, is_Chain7, is_Chain8, is_Chain9, is_Files, is_PathLength, is_FileSize, is_RuleFiles, is_RuleSize, is_Both, is_Clash, is_NameClash, is_Stranded, is_Other, is_OtherRules, is_OtherTarget, is_OtherTargetRules, is_OtherSource, is_OtherSourceRules, is_OtherSourceTarget, is_OtherSourceTargetRules, is_Moved, is_NotRenames, is_NothingToInvert, is_Overlap}
 use Rattle.desk_hints.proofs.hints.Hint.text.Goals as goal
 
 -- the table has the text of each hint at its place
@@ -9,6 +9,8 @@ returns c = elim (is_one c.args.self) [
   | is_Differs e ↦ rw e refl
   | is_Memory e ↦ rw e refl
   | is_Folders e ↦ rw e refl
+  | is_FileAsFolder e ↦ rw e refl
+  | is_NoFolder e ↦ rw e refl
   | is_Ledger e ↦ rw e refl
   | is_Output e ↦ rw e refl
   | is_Usage e ↦ rw e refl
