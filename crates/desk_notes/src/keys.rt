@@ -3,6 +3,9 @@
 ghost use Rattle.std.specs.Prelude.{◌≡◌};
 ghost use Rattle.desk_notes.specs.Keys.{has_mark};
 
+/// A byte order mark in UTF-8 (U+FEFF).
+pub(crate) const MARK: &[u8] = b"\xEF\xBB\xBF";
+
 /// Why a key looks like a slip.
 #[derive(Clone, Copy, Debug, PartialEq, Eq)]
 pub enum Slip {

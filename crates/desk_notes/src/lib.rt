@@ -8,16 +8,23 @@
 //! ```
 #![tactic(auto)]
 
+mod closing;
+mod entries;
+
 mod keys;
 mod lines;
 mod names;
 mod notes;
 mod overheard;
+mod patterns;
 mod rules;
 
+pub use closing::{Closing, closing_line, count_notes};
+pub use entries::{KeyLine, key_lines, line_of_byte, line_of_key};
 pub use keys::{Slip, slip_of};
-pub use lines::{Said, is_archive_file, is_signature, read_line, unshown};
+pub use lines::{Said, is_archive_file, is_jsr305, is_signature, is_utf16, read_line, unshown};
 pub use names::Names;
 pub use notes::{Notes, Refusals};
 pub use overheard::Overheard;
-pub use rules::rule_notes;
+pub use patterns::special_patterns;
+pub use rules::{RuleNotes, place_text};

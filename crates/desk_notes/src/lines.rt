@@ -1,5 +1,8 @@
 //! The lines of a report, as they are read.
 
+ghost use Rattle.std.specs.Prelude.{◌≡◌};
+ghost use Rattle.desk_notes.specs.Keys.{is_utf16};
+
 use desk_base::{Memory, Text};
 use std::alloc::Global;
 
@@ -8,6 +11,15 @@ use std::alloc::Global;
 pub enum Said<'a> {
     /// The file was copied.
     Copied(&'a [u8]),
+    /// The image of a class was written.
+    Class {
+        path: &'a [u8],
+        target: &'a [u8],
+    },
+    /// A text with text rules was written, none of which fits anything in it.
+    Unchanged(&'a [u8]),
+    /// Any other image was written.
+    Written,
     /// Its target stands from an earlier run.
     Kept,
     /// It was refused, for the reason of this word and of the one behind it, which is empty where there is none.
@@ -18,8 +30,25 @@ pub enum Said<'a> {
     },
     /// A call site of a package.
     Site,
+    /// The first path at which two applications differ, and how.
+    Differs,
     /// Anything else.
     Other,
+}
+
+/// What the line of a file that was written says, by its path, its target, the word behind them, and the one behind that.
+fn written<'a>(
+    path: &'a [u8],
+    target: &'a [u8],
+    kind: &[u8],
+    count: Option<&[u8]>,
+) -> Said<'a> {
+    match (kind, count) {
+        (b"copy", _) => Said::Copied(path),
+        (b"class", _) => Said::Class { path, target },
+        (b"text", Some(b"changed=0")) => Said::Unchanged(path),
+        _ => Said::Written,
+    }
 }
 
 /// Reads a line of a report, without its line end. No text that is shown holds a space.
@@ -27,7 +56,9 @@ pub fn read_line(line: &[u8]) -> Said<'_> {
     let mut words = line.split(|byte| *byte == b' ');
     let (first, second, third, fourth) = (words.next(), words.next(), words.next(), words.next());
     match (first, second, third, fourth) {
-        (Some(b"written"), Some(path), Some(_), Some(b"copy")) => Said::Copied(path),
+        (Some(b"written"), Some(path), Some(target), Some(kind)) => {
+            written(path, target, kind, words.next())
+        }
         (Some(b"kept"), Some(_), Some(_), None) => Said::Kept,
         (Some(b"refused"), Some(path), Some(reason), kind) => Said::Refused {
             path,
@@ -35,6 +66,7 @@ pub fn read_line(line: &[u8]) -> Said<'_> {
             kind: kind.unwrap_or(b""),
         },
         (Some(b"site"), ..) => Said::Site,
+        (Some(b"differs"), Some(_), Some(_), None) => Said::Differs,
         _ => Said::Other,
     }
 }
@@ -79,6 +111,19 @@ pub fn is_signature(path: &[u8]) -> bool {
     let folder = &path[..path.len().saturating_sub(name.len())];
     is_signature_name(name)
         && (folder == b"META-INF/".as_slice() || folder.ends_with(b"/META-INF/"))
+}
+
+/// Whether a path is that of a class of JSR 305 that each copy of these annotations has.
+pub fn is_jsr305(path: &[u8]) -> bool {
+    path == b"javax/annotation/Nonnull.class".as_slice()
+        || path.ends_with(b"/javax/annotation/Nonnull.class")
+}
+
+/// Whether a text begins with a byte order mark of UTF-16, as none in UTF-8 does.
+pub fn is_utf16(text: &[u8]) -> bool
+    ensures { result ≡ is_utf16 text.now }
+{
+    matches!(text, [0xFE, 0xFF, ..] | [0xFF, 0xFE, ..])
 }
 
 /// The value of a hexadecimal digit.

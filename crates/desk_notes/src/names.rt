@@ -3,6 +3,7 @@
 ghost use Rattle.std.specs.Prelude.{◌≡◌, ◌≤◌, OnErr, length};
 
 use desk_base::{Memory, Text, TextList};
+use itoa::Buffer;
 use std::alloc::Global;
 
 /// How many names are told.
@@ -42,8 +43,13 @@ impl Names {
         Ok(())
     }
 
-    /// Adds the line of what is said of these names, and a line for each that is kept. Where there are none it adds
-    /// nothing.
+    /// How many there are beside those that are kept.
+    fn others(&self) -> usize {
+        (self.count as usize).saturating_sub(self.first.len())
+    }
+
+    /// Adds the line of what is said of these names, a line for each that is kept, and how many others there are. Where there are
+    /// none it adds nothing.
     pub fn append_to(&self, text: &mut Text, said: &[u8]) -> Result<(), Memory> {
         if self.count == 0 {
             return Ok(());
@@ -56,6 +62,16 @@ impl Names {
             text.append(name.as_bytes())?;
             text.append(b"\n")?;
         }
-        Ok(())
+        self.append_others(text)
+    }
+
+    /// Adds how many there are beside those that are kept, where there are some.
+    fn append_others(&self, text: &mut Text) -> Result<(), Memory> {
+        if self.others() == 0 {
+            return Ok(());
+        }
+        text.append(b"migrate:   and ")?;
+        text.append(Buffer::new().format(self.others() as u64).as_bytes())?;
+        text.append(b" more\n")
     }
 }

@@ -1,8 +1,9 @@
 //! What is noted of a report.
 
-use crate::lines::{Said, is_archive_file, is_signature, read_line};
+use crate::closing::Closing;
+use crate::lines::{Said, is_archive_file, is_jsr305, is_signature, read_line};
 use crate::names::Names;
-use desk_base::{Memory, Text};
+use desk_base::{Memory, Text, TextList};
 use itoa::Buffer;
 use std::alloc::Global;
 
@@ -58,6 +59,15 @@ impl Refusals {
         }
     }
 
+    /// How many files were refused.
+    fn total(&self) -> u32 {
+        let mut total = 0_u32;
+        for (count, _) in self.rows().iter() {
+            total = total.saturating_add(*count);
+        }
+        total
+    }
+
     /// Each count with what it counts.
     fn rows(&self) -> [(u32, &'static [u8]); 8] {
         [
@@ -90,12 +100,22 @@ pub struct Notes {
     pub signatures: Names,
     /// Classes of a release that isn't read, by their paths as they are shown.
     pub versions: Names,
+    /// Classes of JSR 305 that moved.
+    pub moved: Names,
+    /// Classes of JSR 305 that stayed.
+    pub stayed: Names,
+    /// Texts in which no text rule fits anything, by their paths as they are shown.
+    pub unchanged: TextList,
     /// How many files were refused, by their reason.
     pub refusals: Refusals,
+    /// How many files were written.
+    pub written: u32,
     /// How many files were kept from an earlier run.
     pub kept: u32,
     /// How many call sites were found.
     pub sites: u64,
+    /// The line of the first path at which two applications differ, without its end; empty where there is none.
+    pub differs: Text,
 }
 
 impl Notes {
@@ -107,14 +127,25 @@ impl Notes {
             archives: Names::new(alloc),
             signatures: Names::new(alloc),
             versions: Names::new(alloc),
+            moved: Names::new(alloc),
+            stayed: Names::new(alloc),
+            unchanged: TextList::empty(alloc),
             refusals: Refusals::none(),
+            written: 0,
             kept: 0,
             sites: 0,
+            differs: Text::empty(alloc),
         }
     }
 
-    /// Notes a file that was copied, where it is an archive or a signature file.
+    /// Counts a file that was written.
+    fn count_written(&mut self) {
+        self.written = self.written.saturating_add(1);
+    }
+
+    /// Counts a file that was copied, and notes it where it is an archive or a signature file.
     fn copied(&mut self, path: &[u8]) -> Result<(), Memory> {
+        self.count_written();
         if is_archive_file(path) {
             self.archives.take(self.alloc, path)
         } else if is_signature(path) {
@@ -122,6 +153,24 @@ impl Notes {
         } else {
             Ok(())
         }
+    }
+
+    /// Counts a class that was written, and notes it where it is one of JSR 305.
+    fn class(&mut self, path: &[u8], target: &[u8]) -> Result<(), Memory> {
+        self.count_written();
+        if !is_jsr305(path) {
+            Ok(())
+        } else if path == target {
+            self.stayed.take(self.alloc, path)
+        } else {
+            self.moved.take(self.alloc, path)
+        }
+    }
+
+    /// Counts a text that was written, and keeps its path.
+    fn unchanged(&mut self, path: &[u8]) -> Result<(), Memory> {
+        self.count_written();
+        self.unchanged.push(Text::from_bytes(self.alloc, path)?)
     }
 
     /// Counts a file that was refused, and notes a class whose release isn't read.
@@ -135,10 +184,22 @@ impl Notes {
         }
     }
 
+    /// Keeps the line of the first path at which two applications differ.
+    fn differs(&mut self, line: &[u8]) -> Result<(), Memory> {
+        self.differs = Text::from_bytes(self.alloc, line)?;
+        Ok(())
+    }
+
     /// Takes a whole line. What memory doesn't suffice for is left out.
     fn take_line(&mut self, line: &[u8]) {
         let _ = match read_line(line) {
             Said::Copied(path) => self.copied(path),
+            Said::Class { path, target } => self.class(path, target),
+            Said::Unchanged(path) => self.unchanged(path),
+            Said::Written => {
+                self.count_written();
+                Ok(())
+            }
             Said::Refused { path, reason, kind } => self.refused(path, reason, kind),
             Said::Kept => {
                 self.kept = self.kept.saturating_add(1);
@@ -148,6 +209,7 @@ impl Notes {
                 self.sites = self.sites.saturating_add(1);
                 Ok(())
             }
+            Said::Differs => self.differs(line),
             Said::Other => Ok(()),
         };
     }
@@ -197,12 +259,33 @@ impl Notes {
         Ok(())
     }
 
+    /// What came of a run that completed, with so many notes that were told.
+    pub fn closing(&self, notes: u32) -> Closing {
+        let refused = self.refusals.total();
+        let done = self.written.saturating_add(self.kept);
+        Closing {
+            files: done.saturating_add(refused),
+            written: self.written,
+            kept: self.kept,
+            refused,
+            notes,
+        }
+    }
+
     /// Adds what was noted, in lines that begin with `migrate: `. The only error is want of memory.
     pub fn append_to(&self, text: &mut Text) -> Result<(), Memory> {
         self.append_refusals(text)?;
         self.archives.append_to(text, ARCHIVES)?;
         self.signatures.append_to(text, SIGNATURES)?;
+        self.moved.append_to(text, MOVED)?;
         self.append_sites(text)
+    }
+
+    /// What was noted, as it is told. The only error is want of memory.
+    pub fn text(&self) -> Result<Text, Memory> {
+        let mut text = Text::empty(self.alloc);
+        self.append_to(&mut text)?;
+        Ok(text)
     }
 }
 
@@ -210,7 +293,10 @@ const ARCHIVES: &[u8] =
     b"archives were copied unread; unpack them into folders of their names to have them migrated, the first of them:";
 
 const SIGNATURES: &[u8] =
-    b"signature files no longer fit what they sign; remove them, or sign anew, the first of them:";
+    b"signature files no longer fit what they sign; remove them from the target, or sign the archive anew, the first of them:";
+
+const MOVED: &[u8] =
+    b"annotations of JSR 305 moved with the package javax.annotation, and tools that look for their old names miss them; see docs/RULES.md:";
 
 const SITES: &[u8] =
     b" instructions use members of the package; migrate the application by rules that rename it, and look again in the target\n";

@@ -1,81 +1,140 @@
 //! What is noted of rules.
 
-use crate::keys::{Slip, slip_of};
+use crate::entries::KeyLine;
+use crate::keys::{MARK, Slip, slip_of};
 use crate::names::Names;
-use desk_base::{MAX_RULE_FILE_SIZE, Memory, Text, show_byte};
-use desk_properties::read_properties;
+use desk_base::{Memory, Text, show_byte};
+use itoa::Buffer;
 use std::alloc::Global;
+use std::collections::BTreeMap;
 
 const MARKS: &[u8] =
-    b"keys of renames.properties begin with a byte order mark, which belongs to no package; store the file without one:";
+    b"rule files have a byte order mark, which belongs to the key behind it; store them without one:";
 
 const CAPITALS: &[u8] =
     b"keys of renames.properties end as the name of a class does; only packages are renamed, the first of them:";
 
-/// Keys that look like a slip, by why.
-struct Slips {
+const TWICE: &[u8] = b"keys stand in one rule file again, so that these lines have no effect:";
+
+const UNNAMED: &[u8] =
+    b"files of the rule folder that nothing reads; mend their names, or take them away:";
+
+const UNMET: &[u8] = b"patterns that fit no file of the source, so that these lines have no effect:";
+
+/// The file of the renames.
+const RENAMES: &[u8] = b"renames.properties";
+
+/// Adds a text as it is shown.
+fn append_shown(line: &mut Text, text: &[u8]) -> Result<(), Memory> {
+    for byte in text {
+        line.append(show_byte(*byte).as_bytes())?;
+    }
+    Ok(())
+}
+
+/// A place in a rule file, as `renames.properties:3`, and the key that stands there.
+pub fn place_text(alloc: Global, file: &[u8], line: u32, key: &[u8]) -> Result<Text, Memory> {
+    let mut place = Text::empty(alloc);
+    append_shown(&mut place, file)?;
+    place.append(b":")?;
+    place.append(Buffer::new().format(line).as_bytes())?;
+    if !key.is_empty() {
+        place.append(b" ")?;
+        append_shown(&mut place, key)?;
+    }
+    Ok(place)
+}
+
+/// What is noted of the files of a rule folder: what looks like a slip in them, and what has no effect.
+#[derive(Debug, Drop)]
+pub struct RuleNotes {
+    alloc: Global,
     marks: Names,
     capitals: Names,
+    twice: Names,
+    unnamed: Names,
+    unmet: Names,
 }
 
-impl Drop for Slips {
-    fn drop(self) {
-        let Slips {
-            marks: _,
-            capitals: _,
-        } = self;
+impl RuleNotes {
+    /// What is noted of a rule folder of which no file is looked at yet. It takes no memory.
+    pub fn new(alloc: Global) -> RuleNotes {
+        RuleNotes {
+            alloc,
+            marks: Names::new(alloc),
+            capitals: Names::new(alloc),
+            twice: Names::new(alloc),
+            unnamed: Names::new(alloc),
+            unmet: Names::new(alloc),
+        }
     }
-}
 
-/// A text as it is shown.
-fn shown(alloc: Global, text: &[u8]) -> Result<Text, Memory> {
-    let mut shown = Text::empty(alloc);
-    for byte in text {
-        shown.append(show_byte(*byte).as_bytes())?;
-    }
-    Ok(shown)
-}
-
-impl Slips {
-    /// Notes a key that looks like a slip.
-    fn take(&mut self, alloc: Global, key: &Text) -> Result<(), Memory> {
-        match slip_of(key.as_bytes()) {
+    /// Notes a key of the renames that looks like a slip.
+    fn take_rename(&mut self, entry: &KeyLine) -> Result<(), Memory> {
+        let key = entry.key.as_bytes();
+        match slip_of(key) {
             Some(Slip::Mark) => {
-                let name = shown(alloc, key.as_bytes())?;
-                self.marks.take(alloc, name.as_bytes())
+                let place = place_text(self.alloc, RENAMES, entry.line, key)?;
+                self.marks.take(self.alloc, place.as_bytes())
             }
             Some(Slip::Capital) => {
-                let name = shown(alloc, key.as_bytes())?;
-                self.capitals.take(alloc, name.as_bytes())
+                let place = place_text(self.alloc, RENAMES, entry.line, key)?;
+                self.capitals.take(self.alloc, place.as_bytes())
             }
             None => Ok(()),
         }
     }
-}
 
-/// The keys of a file of renames that look like a slip.
-fn slips_in(alloc: Global, file: &[u8]) -> Result<Slips, Memory> {
-    let mut slips = Slips {
-        marks: Names::new(alloc),
-        capitals: Names::new(alloc),
-    };
-    if file.len() > MAX_RULE_FILE_SIZE {
-        return Ok(slips);
-    }
-    if let Ok(entries) = read_properties(alloc, file) {
-        for (key, _) in entries.iter() {
-            slips.take(alloc, key)?;
+    /// Notes each key that stands in a later line again.
+    fn take_twice(&mut self, name: &[u8], entries: &[KeyLine]) -> Result<(), Memory> {
+        let mut lines: BTreeMap<Text, u32> = BTreeMap::new(self.alloc);
+        for entry in entries {
+            if let Some(line) = lines.get(&entry.key) {
+                let place = place_text(self.alloc, name, *line, entry.key.as_bytes())?;
+                self.twice.take(self.alloc, place.as_bytes())?;
+            }
+            lines.insert(entry.key.clone()?, entry.line)?;
         }
+        Ok(())
     }
-    Ok(slips)
-}
 
-/// What is noted of a file of renames, in lines that begin with `migrate: `: keys that look like a slip, at most ten of
-/// each kind. The only error is want of memory.
-pub fn rule_notes(alloc: Global, file: &[u8]) -> Result<Text, Memory> {
-    let slips = slips_in(alloc, file)?;
-    let mut text = Text::empty(alloc);
-    slips.marks.append_to(&mut text, MARKS)?;
-    slips.capitals.append_to(&mut text, CAPITALS)?;
-    Ok(text)
+    /// Notes a rule file: its name, its bytes, and its entries.
+    pub fn take(&mut self, name: &[u8], file: &[u8], entries: &[KeyLine]) -> Result<(), Memory> {
+        self.take_twice(name, entries)?;
+        if name == RENAMES {
+            for entry in entries {
+                self.take_rename(entry)?;
+            }
+        } else if file.starts_with(MARK) {
+            let key = match entries.first() {
+                Some(entry) => entry.key.as_bytes(),
+                None => MARK,
+            };
+            let place = place_text(self.alloc, name, 1, key)?;
+            self.marks.take(self.alloc, place.as_bytes())?;
+        }
+        Ok(())
+    }
+
+    /// Notes a file of the rule folder that nothing reads.
+    pub fn take_unnamed(&mut self, name: &[u8]) -> Result<(), Memory> {
+        let mut shown = Text::empty(self.alloc);
+        append_shown(&mut shown, name)?;
+        self.unnamed.take(self.alloc, shown.as_bytes())
+    }
+
+    /// Notes a pattern of a rule file that fits no file.
+    pub fn take_unmet(&mut self, name: &[u8], entry: &KeyLine) -> Result<(), Memory> {
+        let place = place_text(self.alloc, name, entry.line, entry.key.as_bytes())?;
+        self.unmet.take(self.alloc, place.as_bytes())
+    }
+
+    /// Adds what was noted, in lines that begin with `migrate: `. The only error is want of memory.
+    pub fn append_to(&self, text: &mut Text) -> Result<(), Memory> {
+        self.marks.append_to(text, MARKS)?;
+        self.capitals.append_to(text, CAPITALS)?;
+        self.twice.append_to(text, TWICE)?;
+        self.unnamed.append_to(text, UNNAMED)?;
+        self.unmet.append_to(text, UNMET)
+    }
 }
