@@ -1,13 +1,15 @@
 //! What is told behind the end of a run.
 
-use crate::telling::{tell, tell_hint, tell_text};
-use desk_base::{MAX_RULE_FILE_SIZE, Memory, Text};
-use desk_disk::DiskFolders;
+use crate::looks::{front_of, paths_below};
+use crate::rules::{folder_notes, places_of, renames_below, run_notes};
+use crate::telling::{Told, tell, tell_again, tell_hint, tell_status, tell_text};
+use crate::words::rules_of;
+use desk_base::{Memory, Text};
 use desk_faults::{Fault, fault_line};
-use desk_folders::{Folders, is_full};
-use desk_hints::{release_line, words_hint};
-use desk_notes::{Notes, rule_notes, unshown};
+use desk_hints::{Listed, listed_by, release_line, words_hint};
+use desk_notes::{Names, Notes, closing_line, is_utf16, unshown};
 use desk_report::Status;
+use desk_rules::RuleFault;
 use desk_words::Roots;
 
 /// Writes the line of a fault that is remembered.
@@ -17,19 +19,18 @@ fn tell_fault(rt: &HostRuntime, fault: Option<&Fault>) {
     }
 }
 
-/// A path below a root.
-fn path_below(root: &Text, name: &[u8]) -> Result<Text, Memory> {
-    let mut path = root.clone()?;
-    path.push(b'/')?;
-    path.append(name)?;
-    Ok(path)
+/// What is known of the folder that was listed last.
+fn listed(fault: Option<&Fault>) -> Listed {
+    match fault {
+        Some(fault) => listed_by(fault),
+        None => Listed::Unknown,
+    }
 }
 
 /// The major version of the class at a path below the source, as it is shown.
 fn major_of(rt: &HostRuntime, from: &Text, shown: &Text) -> Option<u16> {
     let name = unshown(rt.alloc(), shown.as_bytes()).ok()?;
-    let path = path_below(from, name.as_bytes()).ok()?;
-    let head = DiskFolders::new(rt).read_part(&path, 0, 8).ok()?;
+    let head = front_of(rt, from, name.as_bytes(), 8)?;
     match head.as_bytes() {
         [_, _, _, _, _, _, high, low] => Some(u16::from_be_bytes([*high, *low])),
         _ => None,
@@ -47,52 +48,69 @@ fn tell_releases(rt: &HostRuntime, roots: &Roots, notes: &Notes) {
 
 /// How many files the target holds, at most 200,001.
 fn count_in(rt: &HostRuntime, to: &Text) -> usize {
-    if !is_full(to.as_bytes()) && to.as_bytes() != b".".as_slice() {
-        return usize::MAX;
-    }
-    match DiskFolders::new(rt).list(to, 200_000) {
-        Ok(paths) => paths.len(),
-        Err(_) => 0,
+    match paths_below(rt, to, 200_000) {
+        Some(paths) => paths.len(),
+        None => usize::MAX,
     }
 }
 
 const ON_TRUST: &[u8] =
-    b"migrate: files were kept because the ledger says so, but the target folder holds fewer than these\n         name another ledger to write them again\n";
+    b"migrate: files were kept because the ledger says so, but the target folder holds fewer than these\n         run again with `--verify`, which writes what isn't there, or name another ledger\n";
 
 /// Tells where files were kept that the target doesn't hold.
-fn tell_kept(rt: &HostRuntime, roots: &Roots, notes: &Notes) {
-    if notes.kept > 0 && count_in(rt, &roots.to) < notes.kept as usize {
-        tell(rt, ON_TRUST);
+fn tell_kept(roots: &Roots, notes: &Notes, told: &mut Told<'_>) {
+    if notes.kept > 0 && count_in(told.rt, &roots.to) < notes.kept as usize {
+        told.note(ON_TRUST);
     }
 }
 
-/// A rule file's bytes, at most 1,048,576.
-fn rule_file(rt: &HostRuntime, rules: &Text, name: &[u8]) -> Option<Text> {
-    let path = path_below(rules, name).ok()?;
-    DiskFolders::new(rt)
-        .read_part(&path, 0, MAX_RULE_FILE_SIZE as u32)
-        .ok()
-}
+const UTF16: &[u8] =
+    b"texts are in UTF-16, in which no text rule fits anything; store them in UTF-8, and run again:";
 
-/// Tells which keys of the renames look like a slip.
-fn tell_keys(rt: &HostRuntime, roots: &Roots) {
-    if let Some(file) = rule_file(rt, &roots.rules, b"renames.properties") {
-        tell_text(rt, &rule_notes(rt.alloc(), file.as_bytes()));
+/// Of the texts in which no text rule fits anything those that are in UTF-16.
+fn in_utf16(rt: &HostRuntime, from: &Text, notes: &Notes) -> Result<Names, Memory> {
+    let mut names = Names::new(rt.alloc());
+    for shown in notes.unchanged.as_slice() {
+        let path = unshown(rt.alloc(), shown.as_bytes())?;
+        match front_of(rt, from, path.as_bytes(), 2) {
+            Some(front) if is_utf16(front.as_bytes()) => {
+                names.take(rt.alloc(), shown.as_bytes())?;
+            }
+            _ => {}
+        }
     }
+    Ok(names)
 }
 
-/// What was noted of the report.
-fn noted(rt: &HostRuntime, notes: &Notes) -> Result<Text, Memory> {
+/// What is noted of texts in UTF-16.
+fn utf16_notes(rt: &HostRuntime, from: &Text, notes: &Notes) -> Result<Text, Memory> {
     let mut text = Text::empty(rt.alloc());
-    notes.append_to(&mut text)?;
+    in_utf16(rt, from, notes)?.append_to(&mut text, UTF16)?;
     Ok(text)
 }
 
-/// Tells what stands beside the report of a run.
-fn tell_report(rt: &HostRuntime, roots: &Roots, notes: &Notes) {
+const STAYED: &[u8] =
+    b"annotations of JSR 305 stay in javax.annotation, and so do those of JSR 250, as @PostConstruct, which servers then pass over; see docs/RULES.md:";
+
+/// What is noted of annotations of JSR 305 that stay, where the rules rename packages below theirs.
+fn stayed_notes(rt: &HostRuntime, rules: &Text, notes: &Notes) -> Result<Text, Memory> {
+    let mut text = Text::empty(rt.alloc());
+    if notes.stayed.count > 0 && renames_below(rt, rules, b"javax.annotation.")? {
+        notes.stayed.append_to(&mut text, STAYED)?;
+    }
+    Ok(text)
+}
+
+/// Tells what stands beside the report of a run that completed, and what is left to look at.
+fn tell_run(rt: &HostRuntime, roots: &Roots, notes: &Notes) {
+    let mut told = Told { rt, notes: 0 };
+    told.note_text(&notes.text());
     tell_releases(rt, roots, notes);
-    tell_kept(rt, roots, notes);
-    tell_keys(rt, roots);
+    tell_kept(roots, notes, &mut told);
+    told.note_text(&stayed_notes(rt, &roots.rules, notes));
+    told.note_text(&utf16_notes(rt, &roots.from, notes));
+    told.note_text(&run_notes(rt, roots));
+    tell_text(rt, &closing_line(rt.alloc(), &notes.closing(told.notes)));
 }
 
 /// Tells which word stands against words that ask for nothing.
@@ -119,22 +137,43 @@ pub struct Ending<'a> {
     pub notes: &'a Notes,
 }
 
-/// Tells what stands behind an end: which call failed, which word stands against the run, what the report's lines say beside
-/// what they are for, and the hint of the status.
-pub fn tell_end(rt: &HostRuntime, ending: &Ending<'_>) {
+/// Tells in which lines of the rule files stands what is against them.
+fn tell_places(rt: &HostRuntime, words: &[Text], fault: &RuleFault) {
+    if let Ok(Some(rules)) = rules_of(rt.alloc(), words) {
+        tell_text(rt, &places_of(rt, &rules, fault));
+    }
+}
+
+/// Tells what looks like a slip in the rules that stood against a run.
+fn tell_rules(rt: &HostRuntime, words: &[Text]) {
+    if let Ok(Some(rules)) = rules_of(rt.alloc(), words) {
+        tell_text(rt, &folder_notes(rt, &rules));
+    }
+}
+
+/// Tells what stands behind a status: which call failed, which word or which line stands against the run, and where two applications
+/// differ.
+fn tell_cause(rt: &HostRuntime, ending: &Ending<'_>) {
     match ending.status {
         Status::FolderFault { .. } => tell_fault(rt, ending.folders),
         Status::LedgerFault { .. } => tell_fault(rt, ending.ledger),
         Status::Usage => tell_words(rt, ending.words),
+        Status::BadRules(fault) => tell_places(rt, ending.words, fault),
+        Status::Differs { .. } => tell_again(rt, ending.notes.differs.as_bytes()),
         _ => {}
     }
-    tell_hint(rt, ending.status);
+}
+
+/// Tells what stands behind an end: the line of the status, its cause and its hint, and what the report's lines and the rules say
+/// beside what they are for.
+pub fn tell_end(rt: &HostRuntime, ending: &Ending<'_>) {
+    tell_status(rt, ending.status);
+    tell_cause(rt, ending);
+    tell_hint(rt, ending.status, listed(ending.folders));
     match (ending.status, ending.roots) {
-        (Status::Done | Status::Refusals, Some(roots)) => {
-            tell_text(rt, &noted(rt, ending.notes));
-            tell_report(rt, roots, ending.notes);
-        }
-        (Status::Done | Status::Refusals, None) => tell_text(rt, &noted(rt, ending.notes)),
+        (Status::Done | Status::Refusals, Some(roots)) => tell_run(rt, roots, ending.notes),
+        (Status::Done | Status::Refusals, None) => tell_text(rt, &ending.notes.text()),
+        (Status::BadRules(_), _) => tell_rules(rt, ending.words),
         _ => {}
     }
 }

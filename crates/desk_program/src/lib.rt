@@ -12,6 +12,8 @@
 
 mod after;
 mod before;
+mod looks;
+mod rules;
 mod streams;
 mod telling;
 mod words;

@@ -6,7 +6,7 @@ ghost use Rattle.desk_report.specs.Texts.{code_of};
 
 use desk_base::{Memory, Text};
 use desk_report::Status;
-use desk_words::{Order, Roots, RootsFault, read_order};
+use desk_words::{Order, Query, Roots, RootsFault, read_order};
 use std::alloc::Global;
 use std::io::ErrorKind;
 use std::process::ExitCode;
@@ -74,6 +74,33 @@ pub fn asked_of(alloc: Global, words: &[Text]) -> Result<Asked, Memory> {
         Ok(Order::GenerateSql { .. }) => Ok(Asked::Sql),
         Err(RootsFault::Memory) => Err(Memory),
         _ => Ok(Asked::Other),
+    }
+}
+
+/// The rule folder that an order names.
+fn rules_in(order: &Order) -> Option<&Text> {
+    match order {
+        Order::Run { roots, .. } => Some(&roots.rules),
+        Order::Query(Query::Compare { rules, .. }) => Some(rules),
+        Order::Query(Query::Invert { rules }) => Some(rules),
+        _ => None,
+    }
+}
+
+/// The rule folder that an order names, as a text of its own.
+fn own_rules(order: &Order) -> Result<Option<Text>, Memory> {
+    match rules_in(order) {
+        Some(rules) => Ok(Some(rules.clone()?)),
+        None => Ok(None),
+    }
+}
+
+/// The rule folder that words name; none where their task has none. The only error is want of memory.
+pub(crate) fn rules_of(alloc: Global, words: &[Text]) -> Result<Option<Text>, Memory> {
+    match read_order(alloc, words) {
+        Ok(order) => own_rules(&order),
+        Err(RootsFault::Memory) => Err(Memory),
+        _ => Ok(None),
     }
 }
 

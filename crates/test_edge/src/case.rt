@@ -2,9 +2,9 @@
 
 use crate::commands::{COMMANDS, Command};
 use crate::words::{named, word};
-use crate::{disk, faults, hints, names, places, reports, told};
+use crate::{disk, faults, hints, names, places, reports, rules, told};
 use desk_base::{Memory, Text};
-use desk_notes::{is_archive_file, is_signature, rule_notes, slip_of};
+use desk_notes::{count_notes, is_archive_file, is_signature, slip_of};
 use desk_report::ReportLine;
 use test_cases::Answers;
 
@@ -41,7 +41,8 @@ impl<'r> Case<'r> {
         let alloc = self.rt.alloc();
         match command {
             Command::Words => hints::said(alloc, words),
-            Command::RuleNotes => rule_notes(alloc, word(words, 0)),
+            Command::RuleNotes => rules::noted(alloc, word(words, 0), word(words, 1)),
+            Command::Unmet => rules::unmet(alloc, words),
             Command::Notes => reports::noted(alloc, word(words, 0)),
             _ => reports::overhear(self.rt, &self.lines, out),
         }
@@ -67,9 +68,12 @@ impl<'r> Case<'r> {
             Command::Copied => reports::put_copied(alloc, &mut self.lines, words),
             Command::Kept => reports::put_kept(alloc, &mut self.lines, words),
             Command::Unsettled => reports::put_unsettled(alloc, &mut self.lines, words),
-            Command::Words | Command::RuleNotes | Command::Notes | Command::Overhear => {
-                self.take(command, words, out)
-            }
+            Command::Words
+            | Command::RuleNotes
+            | Command::Unmet
+            | Command::Notes
+            | Command::Overhear => self.take(command, words, out),
+            Command::CountNotes => told::number(out, count_notes(self.taken.as_bytes()) as u64),
             Command::Holds => told::is_so(out, holds(self.taken.as_bytes(), word(words, 0))),
             _ => tell(self.rt, command, words, out),
         }
@@ -87,6 +91,11 @@ fn tell(
     match command {
         Command::Hints => hints::tell_hints(out),
         Command::Hint => hints::tell_hint(alloc, words, out),
+        Command::HintBehind => hints::tell_hint_behind(alloc, words, out),
+        Command::Listed => faults::tell_listed(alloc, words, out),
+        Command::Closing => reports::tell_closing(alloc, words, out),
+        Command::KeyLines => rules::tell_key_lines(alloc, word(words, 0), out),
+        Command::ByteLine => rules::tell_byte_line(words, out),
         Command::Release => hints::tell_release(words, out),
         Command::ReleaseLine => hints::tell_release_line(alloc, words, out),
         Command::Fault => faults::tell_fault(alloc, words, out),

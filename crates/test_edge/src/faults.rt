@@ -4,6 +4,7 @@ use crate::told;
 use crate::words::{named, number, word};
 use desk_base::{Memory, Text};
 use desk_faults::{Cause, Fault, Tried, fault_line};
+use desk_hints::listed_by;
 use std::alloc::Global;
 use std::io::Error;
 
@@ -34,15 +35,35 @@ fn cause_of(words: &[Text]) -> Option<Cause> {
     named(CAUSES, word(words, 0))
 }
 
+/// The fault that these words name: what was tried, the path, and the cause.
+fn fault_of(alloc: Global, words: &[Text]) -> Result<Option<Box<Fault>>, Memory> {
+    let [tried, path, cause @ ..] = words else {
+        return Ok(None);
+    };
+    match (named(TRIED, tried.as_bytes()), cause_of(cause)) {
+        (Some(tried), Some(cause)) => {
+            let fault = Fault::of(alloc, tried, path, cause)?;
+            Ok(Some(Box::new(alloc, fault)?))
+        }
+        _ => Ok(None),
+    }
+}
+
+/// Tells what stood where a folder was listed, by a fault.
+pub fn tell_listed(alloc: Global, words: &[Text], out: &mut String) -> Result<(), Memory> {
+    match fault_of(alloc, words)? {
+        Some(fault) => told::value(out, &Some(listed_by(&fault))),
+        None => told::text(out, "no such fault"),
+    }
+}
+
 /// Tells the line of a fault.
 pub fn tell_fault(alloc: Global, words: &[Text], out: &mut String) -> Result<(), Memory> {
-    let [tried, path, cause @ ..] = words else {
-        return told::text(out, "no fault");
-    };
-    let (Some(tried), Some(cause)) = (named(TRIED, tried.as_bytes()), cause_of(cause)) else {
-        return told::text(out, "no such fault");
-    };
-    let fault = Box::new(alloc, Fault::of(alloc, tried, path, cause)?)?;
-    let line = fault_line(alloc, &fault)?;
-    told::line(out, line.as_bytes())
+    match fault_of(alloc, words)? {
+        Some(fault) => {
+            let line = fault_line(alloc, &fault)?;
+            told::line(out, line.as_bytes())
+        }
+        None => told::text(out, "no such fault"),
+    }
 }

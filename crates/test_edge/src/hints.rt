@@ -4,7 +4,7 @@ use crate::statuses::{STATUSES, status_of};
 use crate::told;
 use crate::words::{named, number, word};
 use desk_base::{Memory, Text};
-use desk_hints::{HINTS, hint_of, release_line, release_of, words_hint};
+use desk_hints::{HINTS, Listed, hint_behind, hint_of, release_line, release_of, words_hint};
 use std::alloc::Global;
 use std::str;
 
@@ -60,6 +60,23 @@ pub fn tell_hint(alloc: Global, words: &[Text], out: &mut String) -> Result<(), 
         }
         None => told::text(out, "no such status"),
     }
+}
+
+/// What is known of a folder that was listed, by its name.
+const LISTED: &[(&[u8], Listed)] = &[
+    (b"file", Listed::File),
+    (b"nothing", Listed::Nothing),
+    (b"unknown", Listed::Unknown),
+];
+
+/// Tells the hint of a status, by what is known of the folder that was listed.
+pub fn tell_hint_behind(alloc: Global, words: &[Text], out: &mut String) -> Result<(), Memory> {
+    let (Some(listed), Some(name)) = (named(LISTED, word(words, 0)), named(STATUSES, word(words, 1)))
+    else {
+        return told::text(out, "no such status");
+    };
+    let status = status_of(alloc, name, words.get(2..).unwrap_or(&[]))?;
+    told::value(out, &hint_behind(&status, listed))
 }
 
 /// Tells the release of a major version.

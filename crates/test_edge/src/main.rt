@@ -6,6 +6,8 @@
 //! hints                                      how many hints there are, how many of them are two lines for people, and how
 //!                                            many have a text of their own
 //! hint STATUS WORD ..                        the hint of a status
+//! listed TRIED PATH CAUSE                    what stood where a folder was listed, by a fault
+//! hint-behind LISTED STATUS WORD ..          the hint of a status, by that
 //! release MAJOR                              the Java release of a major version
 //! release-line PATH MAJOR                    the line of a class that was refused for its version
 //! words WORD ..                              takes what is said of words that ask for nothing
@@ -15,12 +17,17 @@
 //! signature PATH                             whether it is the path of a signature
 //! slip KEY                                   why a key looks like a slip
 //! unshown SHOWN                              the text that is shown so
-//! rule-notes CONTENT                         takes what is noted of a file of renames
+//! rule-notes NAME CONTENT                    takes what is noted of a rule file
+//! unmet CONTENT PATH ..                      takes what is noted of a selection that may fit these paths
+//! key-lines CONTENT                          the keys of a rule file with their lines
+//! byte-line CONTENT AT                       the line in which a byte stands
 //! notes REPORT                               takes what is noted of a report
 //! copied TIMES PATH                          puts lines of copied files
 //! kept PATH                                  puts the line of a kept file
 //! unsettled PATH AT                          puts the line of a refused text
 //! overhear                                   writes the lines that were put, and takes what is noted of them
+//! count-notes                                how many notes what was taken holds
+//! closing FILES WRITTEN KEPT REFUSED NOTES   the last line of a run
 //! holds PART                                 whether what was taken holds this
 //! lies-in NODES REST NODES REST              whether a place lies in another
 //! folder PATH                                makes a folder
@@ -38,6 +45,7 @@ mod hints;
 mod names;
 mod places;
 mod reports;
+mod rules;
 mod statuses;
 mod told;
 mod words;

@@ -10,12 +10,18 @@ use test_cases::Shown;
 pub fn tell_said(line: &[u8], out: &mut String) -> Result<(), Memory> {
     match read_line(line) {
         Said::Copied(path) => Ok(writeln!(out, "  copied {}", Shown(path))?),
+        Said::Class { path, target } => {
+            Ok(writeln!(out, "  class {} {}", Shown(path), Shown(target))?)
+        }
+        Said::Unchanged(path) => Ok(writeln!(out, "  unchanged {}", Shown(path))?),
+        Said::Written => told::text(out, "written"),
         Said::Kept => told::text(out, "kept"),
         Said::Refused { path, reason, kind } => {
             let (path, reason, kind) = (Shown(path), Shown(reason), Shown(kind));
             Ok(writeln!(out, "  refused {path} {reason} {kind}")?)
         }
         Said::Site => told::text(out, "site"),
+        Said::Differs => told::text(out, "differs"),
         Said::Other => told::text(out, "other"),
     }
 }

@@ -1,8 +1,9 @@
 //! Lines of a report that are listened to.
 
+use crate::told;
 use crate::words::{number, word};
 use desk_base::{Memory, Text};
-use desk_notes::{Notes, Overheard};
+use desk_notes::{Closing, Notes, Overheard, closing_line};
 use desk_report::{Detail, MemorySink, Reason, ReportLine, Sink, write_line};
 use std::alloc::Global;
 
@@ -63,18 +64,24 @@ fn write_lines<O: Sink>(lines: &[ReportLine], out: &mut O) -> usize {
     written
 }
 
-/// What is noted, as it is told.
-fn text_of(alloc: Global, notes: &Notes) -> Result<Text, Memory> {
-    let mut text = Text::empty(alloc);
-    notes.append_to(&mut text)?;
-    Ok(text)
-}
-
 /// What is noted of a report, as it is told.
 pub fn noted(alloc: Global, report: &[u8]) -> Result<Text, Memory> {
     let mut notes = Box::new(alloc, Notes::new(alloc))?;
     notes.take(report);
-    text_of(alloc, &notes)
+    notes.text()
+}
+
+/// Tells the last line of a run with these counts: files, written, kept, refused, notes.
+pub fn tell_closing(alloc: Global, words: &[Text], out: &mut String) -> Result<(), Memory> {
+    let closing = Closing {
+        files: number(words, 0),
+        written: number(words, 1),
+        kept: number(words, 2),
+        refused: number(words, 3),
+        notes: number(words, 4),
+    };
+    let line = closing_line(alloc, &closing)?;
+    told::line(out, line.as_bytes())
 }
 
 /// Tells the counts of what was noted.
@@ -108,5 +115,7 @@ pub fn overhear(rt: &HostRuntime, lines: &[ReportLine], out: &mut String) -> Res
     let bytes = if is_same { "the same" } else { "other" };
     writeln!(out, "  {written} lines, {bytes} bytes as unheard")?;
     tell_counts(&heard.notes, out)?;
-    text_of(alloc, &heard.notes)
+    let closing = heard.notes.closing(0);
+    told::value(out, &Some(closing))?;
+    heard.notes.text()
 }

@@ -23,6 +23,11 @@ pub fn line(out: &mut String, line: &[u8]) -> Result<(), Memory> {
     }
 }
 
+/// Tells a number.
+pub fn number(out: &mut String, number: u64) -> Result<(), Memory> {
+    Ok(writeln!(out, "  {number}")?)
+}
+
 /// Tells whether something is so.
 pub fn is_so(out: &mut String, is_so: bool) -> Result<(), Memory> {
     text(out, if is_so { "yes" } else { "no" })
