@@ -10,6 +10,11 @@ cd "$place" || exit 1
 
 usage='migrate: 20 usage: migrate run --rules R --from A --to B --ledger L [--workers N] [--verify] or migrate generate --count N [--workers N] [--sql] or migrate calls --from A --package P or migrate compare --rules R --from A --other B or migrate invert --rules R'
 
+# repeated NAME: standard error begins with the line of the status, as it stands on standard output
+repeated() {
+  check "$1: the line of the status, again" "$(cat out)" "$(head -1 err)"
+}
+
 # ---- words
 
 # wrong NAME SAID WORD..: words that ask for nothing, and what is said of them
@@ -20,6 +25,7 @@ wrong() {
   ends "$name" 20 "$usage"
   has "$name: $said" "$said"
   has "$name: hint" 'these words ask for nothing that can be done'
+  repeated "$name"
 }
 
 wrong 'no words' 'no words are given'
@@ -67,18 +73,21 @@ total files=2 written=2 kept=0 refused=0 renamed=0 added=0'
 fresh
 migrate run --rules rules --from app --to to --ledger ledger
 ends 'a plain run' 0 "$report"
-check 'a plain run says nothing else' '' "$(cat err)"
+check 'a plain run says what came of it, and nothing else' 'migrate: 2 files, 2 written, 0 kept; nothing is left to look at' "$(cat err)"
+migrate run --rules rules --from app --to to --ledger ledger
+check 'a second run says the same of what it kept' 'migrate: 2 files, 0 written, 2 kept; nothing is left to look at' "$(cat err)"
 
 # ---- what failed
 
 folder_fault='migrate: 11 folder fault done=0'
 
-# fault NAME SAID: a run over the application ends with 11 and says this
+# fault NAME SAID [HINT]: a run over the application ends with 11 and says this
 fault() {
   migrate run --rules rules --from app --to to --ledger ledger
   ends "$1" 11 "$folder_fault"
   has "$1: $2" "$2"
-  has "$1: hint" 'the run stopped'
+  has "$1: hint" "${3:-the run stopped}"
+  repeated "$1"
 }
 
 fresh; ln -s readme.txt app/link
@@ -86,11 +95,19 @@ fault 'a symbolic link' 'migrate: listing app/link: it is a symbolic link'
 fresh; mkfifo app/WEB-INF/pipe
 fault 'a pipe' 'migrate: listing app/WEB-INF/pipe: it is neither a file nor a folder'
 fresh; rm -r app; printf 'PK' >app
-fault 'a source that is a WAR file' 'migrate: listing app: Not a directory'
+unpack='an archive is unpacked first: tools/unpack.py ARCHIVE FOLDER'
+fault 'a source that is a WAR file' 'migrate: listing app: Not a directory' "$unpack"
+hasnt 'a source that is a WAR file: nothing was begun' 'what was done is kept'
+fresh; rm -r rules; printf 'PK' >rules
+fault 'rules that are a file' 'migrate: listing rules: Not a directory' "$unpack"
+migrate calls --from rules --package javax.servlet
+check 'calls in a WAR file: status' 11 "$status"
+has 'calls in a WAR file: hint' "$unpack"
 fresh; rm -r app
-fault 'a missing source' 'migrate: listing app: No such file or directory'
+fault 'a missing source' 'migrate: listing app: No such file or directory' 'there is no such folder, so nothing was begun'
+hasnt 'a missing source: nothing was begun' 'what was done is kept'
 fresh; rm -r rules
-fault 'missing rules' 'migrate: listing rules: No such file or directory'
+fault 'missing rules' 'migrate: listing rules: No such file or directory' 'there is no such folder, so nothing was begun'
 fresh; printf 'x' >$'app/WEB-INF/\xff'
 fault 'a name that is no UTF-8' "migrate: listing app/WEB-INF: a name in it isn't UTF-8"
 fresh; printf 'x' >to
@@ -166,6 +183,7 @@ nested() {
   migrate run --rules "$4" --from "$5" --to "$6" --ledger "$7"
   ends "$1" 21 "migrate: 21 nested roots $2 $3"
   has "$1: hint" 'no root may lie where another would be changed'
+  repeated "$1"
   after=$(find . -not -name out -not -name err -type f | LC_ALL=C sort | xargs sha256sum)
   check "$1: nothing is changed" "$before" "$after"
 }
@@ -224,6 +242,8 @@ rm to/readme.txt
 migrate run --rules rules --from app --to to --ledger ledger
 check 'kept on trust: status' 0 "$status"
 has 'kept on trust' 'the target folder holds fewer than these'
+has 'kept on trust: the way on' 'run again with `--verify`'
+check 'kept on trust: the last line' 'migrate: 2 files, 0 written, 2 kept; 1 note above' "$(tail -1 err)"
 rm -r to
 migrate run --rules rules --from app --to to --ledger ledger
 check 'kept without a target: output' 'kept WEB-INF/web.xml WEB-INF/web.xml
@@ -245,11 +265,60 @@ check 'what was not looked into: status' 0 "$status"
 has 'archives' 'archives were copied unread'
 has 'the first archive' 'migrate:   lib/B.WAR'
 check 'at most ten archives' 10 "$(grep -c '^migrate:   lib/' err)"
+has 'the other archives' 'migrate:   and 3 more'
 has 'signatures' 'migrate:   META-INF/SIGNER.SF'
-has 'a byte order mark' 'begin with a byte order mark'
-has 'a key with a mark' 'migrate:   \ef\bb\bfjavax.servlet'
-has 'a key as of a class' 'migrate:   javax.ejb.EJB'
-hasnt 'a key as it should be' 'migrate:   javax.jms'
+has 'signatures: the way on' 'remove them from the target'
+has 'a byte order mark' 'have a byte order mark'
+has 'a key with a mark' 'migrate:   renames.properties:1 \ef\bb\bfjavax.servlet'
+has 'a key as of a class' 'migrate:   renames.properties:2 javax.ejb.EJB'
+hasnt 'a key as it should be' 'javax.jms'
+check 'what was not looked into: the last line' 'migrate: 17 files, 17 written, 0 kept; 4 notes above' "$(tail -1 err)"
+
+# ---- rules without effect
+
+fresh
+mkdir -p app/lib.jar
+printf 'x' >app/lib.jar/a
+printf 'javax.servlet=jakarta.servlet\njavax.jms=jakarta.jms\n\njavax.servlet=\\\n  jakarta.servlet\n' >rules/renames.properties
+printf '\xef\xbb\xbf*.txt=texts\nWEB-INF/web.xlm=texts\nWEB-INF/web.xml=texts\n' >rules/text.properties
+printf 'a=b\n' >rules/texts
+printf '# none\nlib.jra/*=!\nlib.jar/*=!\nMETA-INF/*=!\n*/META-INF/*=!\n' >rules/selection.properties
+printf 'a=b' >rules/selections.properties
+migrate run --rules rules --from app --to to --ledger ledger
+check 'rules without effect: status' 0 "$status"
+has 'a key that stands twice' 'migrate:   renames.properties:1 javax.servlet'
+hasnt 'the key that counts' 'renames.properties:4'
+has 'a mark in another rule file' 'migrate:   text.properties:1 \ef\bb\bf*.txt'
+has 'a file that nothing names' 'migrate:   selections.properties'
+hasnt 'a file that is named' 'migrate:   texts'
+has 'a pattern of a selection that fits nothing' 'migrate:   selection.properties:2 lib.jra/*'
+has 'a pattern of texts that fits nothing' 'migrate:   text.properties:2 WEB-INF/web.xlm'
+hasnt 'a pattern that fits' 'selection.properties:3'
+hasnt 'a pattern of texts that fits' 'text.properties:3'
+hasnt 'a pattern for any application' 'META-INF'
+check 'rules without effect: the last line' 'migrate: 3 files, 3 written, 0 kept; 4 notes above' "$(tail -1 err)"
+fresh
+for i in $(seq 12); do printf 'x' >"rules/file$i"; done
+migrate run --rules rules --from app --to to --ledger ledger
+check 'at most ten files' 10 "$(grep -c '^migrate:   file' err)"
+has 'the other files' 'migrate:   and 2 more'
+
+# ---- files that need a look
+
+fresh
+printf '\xff\xfea\0=\0b\0' >app/wide.properties
+printf '\xfe\xff\0a\0=\0b' >app/wider.properties
+printf 'a=b' >app/narrow.properties
+printf '\xff\xfea\0' >app/wide.txt
+printf '*.properties=texts\n' >rules/text.properties
+printf 'a=c\n' >rules/texts
+migrate run --rules rules --from app --to to --ledger ledger
+check 'texts in UTF-16: status' 0 "$status"
+has 'texts in UTF-16' 'texts are in UTF-16, in which no text rule fits anything'
+has 'a text in UTF-16' 'migrate:   wide.properties'
+has 'another text in UTF-16' 'migrate:   wider.properties'
+hasnt 'a text in UTF-8' 'migrate:   narrow.properties'
+hasnt 'a text without rules' 'wide.txt'
 
 # ---- refused files
 
@@ -261,24 +330,49 @@ check 'refused: status' 2 "$status"
 has 'the target is not ready' "the target isn't ready to be used"
 has 'counts by reason' "migrate: refused: 1 classes of a release that isn't read, 1 classes that aren't well-formed"
 has 'its release' 'migrate:   WEB-INF/classes/New.class is of Java 22'
+check 'refused: the last line' 'migrate: 4 files, 2 written, 0 kept; 2 refused: see their lines in the report' "$(tail -1 err)"
 
 # ---- rules
 
-# badrules NAME LINE SAID TEXT: rules of this text end with 22
+# badrules NAME LINE SAID TEXT [PLACE..]: rules of this text end with 22; each place stands on standard error
 badrules() {
+  local name=$1 line=$2 said=$3 place
   fresh
   printf "$4" >rules/renames.properties
   migrate run --rules rules --from app --to to --ledger ledger
-  ends "$1" 22 "$2"
-  has "$1: $3" "$3"
+  ends "$name" 22 "$line"
+  has "$name: $said" "$said"
+  repeated "$name"
+  shift 4
+  for place in "$@"; do has "$name: $place" "migrate:   $place"; done
 }
 
 badrules 'no renames' 'migrate: 22 no renames' 'has no `renames.properties`' ''
-badrules 'bytes' 'migrate: 22 properties renames.properties not-utf8 1' "isn't in UTF-8" 'a\xff=b\n'
-badrules 'an escape' 'migrate: 22 properties renames.properties escape 2' 'four hexadecimal digits' 'a=\\u12\n'
-badrules 'a key' 'migrate: 22 bad key renames.properties a..b' "a key of \`renames.properties\` isn't a package" 'a..b=c\n'
-badrules 'a value' 'migrate: 22 bad value renames.properties a' "a value of a rule file hasn't" 'a=b..c\n'
-badrules 'a chain' 'migrate: 22 chain 1 a b' 'the first rename gives a package that the second renames' 'a=b\nb=c\n'
+badrules 'bytes' 'migrate: 22 properties renames.properties not-utf8 1' "isn't in UTF-8" 'a\xff=b\n' 'renames.properties:1'
+badrules 'bytes below' 'migrate: 22 properties renames.properties not-utf8 5' "isn't in UTF-8" 'a=b\n\n\xff=b\n' 'renames.properties:3'
+badrules 'an escape' 'migrate: 22 properties renames.properties escape 2' 'four hexadecimal digits' 'a=\\u12\n' 'renames.properties:1'
+badrules 'a key' 'migrate: 22 bad key renames.properties a..b' "a key of \`renames.properties\` isn't a package" '# c\na..b=c\n' 'renames.properties:2 a..b'
+badrules 'a value' 'migrate: 22 bad value renames.properties a' "a value of a rule file hasn't" 'b=b\n\na=b..c\n' 'renames.properties:3 a'
+badrules 'a chain' 'migrate: 22 chain 1 a b' 'the first rename gives a package that the second renames' 'b=c\n a=b\n' 'renames.properties:2 a' 'renames.properties:1 b'
+badrules 'a byte order mark before a comment' 'migrate: 22 bad key renames.properties \ef\bb\bf#' 'have a byte order mark' '\xef\xbb\xbf# all\na=b\n' 'renames.properties:1 \ef\bb\bf#'
+fresh
+mv rules/renames.properties rules/rename.properties
+migrate run --rules rules --from app --to to --ledger ledger
+ends 'renames in a file of another name' 22 'migrate: 22 no renames'
+has 'renames in a file of another name: which' 'migrate:   rename.properties'
+fresh
+printf 'javax.servlet=javax.servlet.old\n' >rules/direct.properties
+migrate run --rules rules --from app --to to --ledger ledger
+check 'a direct rule in a chain: status' 22 "$status"
+repeated 'a direct rule in a chain'
+has 'a direct rule in a chain: its line' 'migrate:   direct.properties:1 javax.servlet'
+printf 'jakarta.servlet=c\n' >rules/renames.properties
+printf 'a=b\n' >>rules/renames.properties
+printf 'b=c\n' >>rules/renames.properties
+rm rules/direct.properties
+migrate invert --rules rules
+ends 'an inverse of a chain' 22 'migrate: 22 chain 1 a b'
+has 'an inverse of a chain: its line' 'migrate:   renames.properties:3 b'
 
 # ---- limits, clashes, another run
 
@@ -308,6 +402,24 @@ class() {
   printf "\\$(printf '%03o' "${#1}")%s" "$1"
   printf '\007\0\001\001\0\020java/lang/Object\007\0\003\0\041\0\002\0\004\0\0\0\0\0\0\0\0'
 }
+
+# nonnull RULES: an application with an annotation of JSR 305 is migrated by this rule
+nonnull() {
+  fresh
+  mkdir -p app/lib.jar/javax/annotation
+  class javax/annotation/Nonnull >app/lib.jar/javax/annotation/Nonnull.class
+  printf '%s\n' "$1" >rules/renames.properties
+  migrate run --rules rules --from app --to to --ledger ledger
+  check "JSR 305 under $1: status" 0 "$status"
+}
+nonnull 'javax.annotation=jakarta.annotation'
+has 'JSR 305 that moved' 'annotations of JSR 305 moved with the package javax.annotation'
+has 'JSR 305 that moved: which' 'migrate:   lib.jar/javax/annotation/Nonnull.class'
+nonnull 'javax.annotation.sql=jakarta.annotation.sql'
+has 'JSR 305 that stayed' 'annotations of JSR 305 stay in javax.annotation'
+check 'JSR 305 that stayed: the last line' 'migrate: 3 files, 3 written, 0 kept; 1 note above' "$(tail -1 err)"
+nonnull 'javax.servlet=jakarta.servlet'
+hasnt 'JSR 305 under other rules' 'JSR 305'
 
 fresh
 mkdir -p app/a.jar/javax/servlet app/b.jar/jakarta/servlet
@@ -406,6 +518,7 @@ fresh
 "$program" run --rules rules --from app --to to --ledger ledger >/dev/full 2>err
 check 'a full output: status' 13 "$?"
 has 'a full output' 'standard output took no more'
+check 'a full output: the line of the status' 'migrate: 13 output fault' "$(head -1 err)"
 "$program" run --rules rules --from app --to to --ledger ledger 2>/dev/full >out
 status=$?
 ends 'standard error that takes nothing' 0 'kept WEB-INF/web.xml WEB-INF/web.xml

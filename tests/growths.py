@@ -1,12 +1,13 @@
 #!/usr/bin/env python3
 """Refuses each growth of the memory of runs over a small application in turn, and looks at what is left.
 
-Usage: tests/growths.py. The program has to be built for x86-64 (examples/first/run.sh).
+Usage: tests/growths.py. The program has to be built (examples/first/run.sh).
 
-Growths are refused in two ways. In a copy of the program the two functions by which all its memory is taken, `rattle_alloc` and
-`rattle_realloc`, count their calls, and at the call of one number they ask the C library for more than there can be, so that it
-refuses; each number is tried until a run has no such call. And strace, where it is installed, refuses the system's calls `brk`,
-`mmap`, `mremap` and `mprotect`: one alone, and all from one on. Those that load the program, before it begins, aren't counted.
+Growths are refused in two ways. A small library, which gcc makes of the text below and which is loaded before the C library, has the
+four functions by which all memory of a program is taken (`malloc`, `calloc`, `realloc`, and `aligned_alloc` with its like). It counts
+their calls, and refuses that of one number; each number is tried until a run has no such call. And strace, where it is installed,
+refuses the system's calls `brk`, `mmap`, `mremap` and `mprotect`: one alone, and all from one on. Those that load the program,
+before it begins, aren't counted.
 
 A run must end with the status 10 and its line, or go on without that memory, as where a thread can't be started, and end as a run
 with ample memory does. Then each row of the ledger must be true, and a run to the end must make the target folder of a run with
@@ -18,7 +19,6 @@ and ends with 1 unless those of what must not be are 0.
 import os
 import re
 import shutil
-import struct
 import subprocess
 import sys
 import tempfile
@@ -29,82 +29,108 @@ from ledgers import tree, untrue
 # Whether a run starts from a whole run over older files, and by how many workers it goes.
 STARTS = ((False, 1), (True, 4))
 LINE = b"migrate: 10 out of memory\n"
-PAGE = 4096
-LOAD, NOTE = 1, 4
-SEGMENT = struct.Struct("<IIQQQQQQ")
-# How both functions begin, up to the size that is tested: `endbr64; push %rbp; test SIZE, SIZE`.
-FRONT = b"\xf3\x0f\x1e\xfa\x55\x48\x85"
-# By the function: what its front ends with, and `or $-1, SIZE`.
-SIZES = {"rattle_alloc": (b"\xff", b"\x48\x83\xcf\xff"), "rattle_realloc": (b"\xd2", b"\x48\x83\xca\xff")}
-# `int3` and three times `nop`: it ends the program by a signal.
-END = b"\xcc\x90\x90\x90"
 # How each call of the system by which memory grows says that it doesn't.
 GROWTHS = {"brk": "retval=0", "mmap": "error=ENOMEM", "mremap": "error=ENOMEM", "mprotect": "error=ENOMEM"}
+# The library. It is told by GROWTH_REFUSED which call is refused, and writes to GROWTH_COUNT how many there were. What loads the
+# program isn't counted.
+LIBRARY = r"""
+#include <errno.h>
+#include <fcntl.h>
+#include <stdatomic.h>
+#include <stddef.h>
+#include <stdio.h>
+#include <stdlib.h>
+#include <sys/syscall.h>
+#include <unistd.h>
+
+extern void *__libc_malloc(size_t size);
+extern void *__libc_calloc(size_t count, size_t size);
+extern void *__libc_realloc(void *block, size_t size);
+extern void *__libc_memalign(size_t alignment, size_t size);
+
+static atomic_long calls;
+static atomic_int is_counted;
+static long refused;
+
+static int is_refused(void) {
+    if (!is_counted || atomic_fetch_add(&calls, 1) + 1 != refused) {
+        return 0;
+    }
+    errno = ENOMEM;
+    return 1;
+}
+
+void *malloc(size_t size) {
+    return is_refused() ? NULL : __libc_malloc(size);
+}
+
+void *calloc(size_t count, size_t size) {
+    return is_refused() ? NULL : __libc_calloc(count, size);
+}
+
+void *realloc(void *block, size_t size) {
+    return size != 0 && is_refused() ? NULL : __libc_realloc(block, size);
+}
+
+void *aligned_alloc(size_t alignment, size_t size) {
+    return is_refused() ? NULL : __libc_memalign(alignment, size);
+}
+
+void *memalign(size_t alignment, size_t size) {
+    return is_refused() ? NULL : __libc_memalign(alignment, size);
+}
+
+int posix_memalign(void **block, size_t alignment, size_t size) {
+    if (is_refused()) {
+        return ENOMEM;
+    }
+    *block = __libc_memalign(alignment, size);
+    return *block == NULL ? ENOMEM : 0;
+}
+
+__attribute__((constructor)) static void begin(void) {
+    const char *number = getenv("GROWTH_REFUSED");
+    refused = number == NULL ? 0 : strtol(number, NULL, 10);
+    is_counted = 1;
+}
+
+/* By this call the program ends. */
+void _exit(int status) {
+    const char *path = getenv("GROWTH_COUNT");
+    int file = path == NULL ? -1 : open(path, O_WRONLY | O_CREAT | O_TRUNC, 0600);
+    if (file >= 0) {
+        dprintf(file, "%ld\n", (long)calls);
+        close(file);
+    }
+    for (;;) {
+        syscall(SYS_exit_group, status);
+    }
+}
+"""
 
 
-def addresses(names):
-    """The addresses of functions of the program."""
-    listed = subprocess.run(["nm", PROGRAM], stdout=subprocess.PIPE, check=True, text=True).stdout
-    lines = [line.split() for line in listed.splitlines()]
-    return {line[2]: int(line[0], 16) for line in lines if len(line) == 3 and line[2] in names}
+class Refusing:
+    """The library, made in this folder, and the count that it writes."""
 
+    def __init__(self):
+        self.library = os.path.abspath("refusing.so")
+        self.count = os.path.abspath("growths")
+        words = ["gcc", "-O1", "-shared", "-fPIC", "-x", "c", "-", "-o", self.library]
+        subprocess.run(words, input=LIBRARY, text=True, check=True)
 
-class Program:
-    """A copy of the program that counts the growths of its memory, and has one of them refused, or ends there."""
+    def environment(self, number):
+        """The environment of a run whose growth of this number is refused; of the number 0, none is."""
+        told = {"LD_PRELOAD": self.library, "GROWTH_REFUSED": str(number), "GROWTH_COUNT": self.count}
+        return {**os.environ, **told}
 
-    def __init__(self, name, is_ended):
-        self.path = os.path.abspath(name)
-        with open(PROGRAM, "rb") as file:
-            self.bytes = bytearray(file.read())
-        self.bytes += bytes(-len(self.bytes) % PAGE)
-        self.added = len(self.bytes)
-        self.address = self.add_segment()
-        self.bytes += bytes(8)
-        for function, start in addresses(SIZES).items():
-            front, refuse = SIZES[function]
-            self.redirect(start, FRONT + front, END if is_ended else refuse)
-        self.bytes += bytes(-len(self.bytes) % PAGE)
-        with open(self.path, "wb") as file:
-            file.write(self.bytes)
-        os.chmod(self.path, 0o755)
-
-    def segments(self):
-        """The headers of the program's segments, each behind its place."""
-        (start,) = struct.unpack_from("<Q", self.bytes, 32)
-        size, count = struct.unpack_from("<HH", self.bytes, 54)
-        return [(place, SEGMENT.unpack_from(self.bytes, place)) for place in range(start, start + size * count, size)]
-
-    def add_segment(self):
-        """Makes the segment of a note, which nothing reads, a page behind all others, and answers its address."""
-        end = max(address + size for _, (kind, _, _, address, _, _, size, _) in self.segments() if kind == LOAD)
-        start = end + -end % PAGE
-        place = [place for place, header in self.segments() if header[0] == NOTE][-1]
-        SEGMENT.pack_into(self.bytes, place, LOAD, 7, self.added, start, start, PAGE, PAGE, PAGE)
-        return start
-
-    def offset(self, address):
-        """Where in the file the byte at an address is."""
-        for _, (kind, _, offset, start, _, length, _, _) in self.segments():
-            if kind == LOAD and start <= address < start + length:
-                return address - start + offset
-        raise ValueError(address)
-
-    def redirect(self, start, front, refuse):
-        """Has a function count first, and do something else where the count ends."""
-        at = self.offset(start)
-        if self.bytes[at : at + len(front)] != front:
-            sys.exit("the functions by which the program takes its memory aren't those that are known here")
-        here = self.address + len(self.bytes) - self.added
-        # lock decq COUNT; jne over what is done; what is done; the front; jmp behind the front
-        code = b"\xf0\x48\xff\x0d" + struct.pack("<i", self.address - here - 8) + b"\x75\x04" + refuse + front
-        code += b"\xe9" + struct.pack("<i", start + len(front) - here - len(code) - 5)
-        self.bytes += code
-        self.bytes[at : at + 5] = b"\xe9" + struct.pack("<i", here - start - 5)
-
-    def count_to(self, number):
-        with open(self.path, "r+b") as file:
-            file.seek(self.added)
-            file.write(struct.pack("<q", number))
+    def growths(self):
+        """How many growths the last run had. One that didn't come to its end says nothing."""
+        if not os.path.exists(self.count):
+            sys.exit("a run whose memory was refused didn't come to its end")
+        with open(self.count, encoding="ascii") as file:
+            count = int(file.read())
+        os.remove(self.count)
+        return count
 
 
 class Counts:
@@ -147,9 +173,10 @@ class Counts:
         )
 
 
-def run(program, to, workers):
+def run(program, environment, to, workers):
     """A run that may end in any way; the program stands behind the words that start it."""
-    return subprocess.run([*program, *words(to, "ledger", workers)[1:]], stdout=subprocess.PIPE, stderr=subprocess.PIPE)
+    started = [*program, *words(to, "ledger", workers)[1:]]
+    return subprocess.run(started, env=environment, stdout=subprocess.PIPE, stderr=subprocess.PIPE)
 
 
 class Start:
@@ -159,14 +186,14 @@ class Start:
         self.is_old = is_old
         self.workers = workers
         self.images = images
-        self.report = self.run([PROGRAM]).stdout
+        self.report = self.run([PROGRAM], None).stdout
 
-    def run(self, program):
+    def run(self, program, environment):
         begin(self.is_old)
-        return run(program, "out", self.workers)
+        return run(program, environment, "out", self.workers)
 
-    def look_at(self, program, counts):
-        counts.look(self.run(program), self.images, self.report)
+    def look_at(self, program, environment, counts):
+        counts.look(self.run(program, environment), self.images, self.report)
 
 
 class Unbegun:
@@ -177,42 +204,29 @@ class Unbegun:
         shutil.copytree("app", "source")
         self.source = tree("source")
 
-    def run(self, program):
+    def run(self, program, environment):
         clear("app", "ledger")
         shutil.copytree("source", "app")
-        return run(program, "linked", 1)
+        return run(program, environment, "linked", 1)
 
-    def look_at(self, program, counts):
-        ended = self.run(program)
+    def look_at(self, program, environment, counts):
+        ended = self.run(program, environment)
         counts.look_at_unbegun(ended, tree("app") == self.source)
 
 
-def growths_of(start):
-    """How many growths of memory a run has: the greatest number at which the program can be ended."""
-    program = Program("ended", True)
-    least, most = 0, 1 << 20
-    while most - least > 1:
-        middle = (least + most) // 2
-        program.count_to(middle)
-        if start.run([program.path]).returncode < 0:
-            least = middle
-        else:
-            most = middle
-    return least
-
-
 def in_the_program(start, counts):
-    """Refuses each growth of the program's own."""
-    growths = growths_of(start)
-    program = Program("starved", False)
-    for number in range(1, growths + 1):
-        program.count_to(number)
-        start.look_at([program.path], counts)
+    """Refuses each growth of the program's own, until a run has none of that number."""
+    refusing = Refusing()
+    number, is_refused = 0, True
+    while is_refused:
+        number += 1
+        start.look_at([PROGRAM], refusing.environment(number), counts)
+        is_refused = refusing.growths() >= number
 
 
 def system_growths(start):
     """The calls of the system by which memory of the first thread grows, in their order, and how many of them load the program."""
-    start.run(["strace", "-f", "-qq", "-o", "trace", PROGRAM])
+    start.run(["strace", "-f", "-qq", "-o", "trace", PROGRAM], None)
     with open("trace", encoding="ascii", errors="replace") as file:
         found = re.findall(r"^([0-9]+) +([a-z_0-9]+)\(", file.read(), re.MULTILINE)
     calls = [call for thread, call in found if thread == found[0][0]]
@@ -221,7 +235,7 @@ def system_growths(start):
     return [call for call in calls if call in GROWTHS], sum(call in GROWTHS for call in calls[:loaded])
 
 
-def refusing(injected):
+def under_strace(injected):
     """The program under strace, which refuses these calls."""
     options = [option for call in injected for option in ("-e", f"inject={call}")]
     return ["strace", "-f", "-qq", "-o", "/dev/null", "-e", "trace=" + ",".join(GROWTHS), *options, PROGRAM]
@@ -232,8 +246,8 @@ def in_the_system(start, counts):
     calls, loading = system_growths(start)
     for at in range(loading, len(calls)):
         refusals = {call: f"{call}:{refusal}:when={calls[:at].count(call) + 1}" for call, refusal in GROWTHS.items()}
-        start.look_at(refusing([refusals[calls[at]]]), counts)
-        start.look_at(refusing([refusal + "+" for refusal in refusals.values()]), counts)
+        start.look_at(under_strace([refusals[calls[at]]]), None, counts)
+        start.look_at(under_strace([refusal + "+" for refusal in refusals.values()]), None, counts)
 
 
 def tried(name, refuse, starts):
@@ -252,8 +266,10 @@ def main():
         settle(place)
         images, _ = prepare(FEW, True)
         starts = [Start(is_old, workers, images) for is_old, workers in STARTS]
-        seen = [tried("growths in the program", in_the_program, starts)]
-        seen.append(tried("growths of a run that must not begin", in_the_program, [Unbegun()]))
+        seen = []
+        if shutil.which("gcc"):
+            seen.append(tried("growths in the program", in_the_program, starts))
+            seen.append(tried("growths of a run that must not begin", in_the_program, [Unbegun()]))
         if shutil.which("strace"):
             seen.append(tried("growths in the system", in_the_system, starts))
         os.chdir("/")
