@@ -1,6 +1,6 @@
 //! Files that have a short name while they are opened.
 
-ghost use Rattle.std.specs.Prelude.{◌≡◌, string_bytes, IfOk};
+ghost use Rattle.std.specs.Prelude.{◌≡◌, ◌↔◌, false, string_bytes, IfOk, IsTrue};
 
 use crate::databases::{fault_of, may_be_database};
 use desk_faults::{Cause, Refusal};
@@ -143,6 +143,13 @@ impl Paths {
     }
 }
 
+/// Whether a killed process left a file under its short name: it had that alone, and wasn't made by this run.
+fn was_left(had_short: bool, is_new: bool) -> bool
+    ensures { IsTrue result ↔ (IsTrue had_short × (is_new ≡ false)) }
+{
+    had_short && !is_new
+}
+
 /// A file of a long name that has its short name, and is locked against other runs that open it so, until it is dropped.
 /// Contracts see the path of its short name.
 #[derive(Drop)]
@@ -179,7 +186,7 @@ impl Shortened {
             Ok(had_short) => Ok(Shortened {
                 paths,
                 file,
-                was_left: had_short && !is_new,
+                was_left: was_left(had_short, is_new),
             }),
             Err(refusal) => {
                 if is_new {
