@@ -120,7 +120,10 @@ pub fn key_lines(alloc: Global, file: &[u8]) -> Result<Vec<KeyLine>, Memory> {
 
 /// The line of a key: of several the last, whose value counts.
 pub fn line_of_key(entries: &[KeyLine], key: &[u8]) -> Option<u32> {
-    let last = entries.iter().rev().find(|entry| entry.key.as_bytes() == key)?;
+    let last = entries
+        .iter()
+        .rev()
+        .find(|entry| entry.key.as_bytes() == key)?;
     Some(last.line)
 }
 

@@ -10,7 +10,6 @@
 
 mod closing;
 mod entries;
-
 mod keys;
 mod lines;
 mod names;

@@ -37,12 +37,7 @@ pub enum Said<'a> {
 }
 
 /// What the line of a file that was written says, by its path, its target, the word behind them, and the one behind that.
-fn written<'a>(
-    path: &'a [u8],
-    target: &'a [u8],
-    kind: &[u8],
-    count: Option<&[u8]>,
-) -> Said<'a> {
+fn written<'a>(path: &'a [u8], target: &'a [u8], kind: &[u8], count: Option<&[u8]>) -> Said<'a> {
     match (kind, count) {
         (b"copy", _) => Said::Copied(path),
         (b"class", _) => Said::Class { path, target },

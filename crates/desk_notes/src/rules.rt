@@ -19,7 +19,8 @@ const TWICE: &[u8] = b"keys stand in one rule file again, so that these lines ha
 const UNNAMED: &[u8] =
     b"files of the rule folder that nothing reads; mend their names, or take them away:";
 
-const UNMET: &[u8] = b"patterns that fit no file of the source, so that these lines have no effect:";
+const UNMET: &[u8] =
+    b"patterns that fit no file of the source, so that these lines have no effect:";
 
 /// The file of the renames.
 const RENAMES: &[u8] = b"renames.properties";

@@ -13,10 +13,15 @@ use desk_rules::{ChainKind, RuleFault};
 use desk_words::Roots;
 
 const RENAMES: &[u8] = b"renames.properties";
+
 const BUNDLES: &[u8] = b"bundles.properties";
+
 const DIRECT: &[u8] = b"direct.properties";
+
 const SELECTION: &[u8] = b"selection.properties";
+
 const TEXT: &[u8] = b"text.properties";
+
 const VERSIONS: &[u8] = b"versions.properties";
 
 /// The rule files that are read by their names.
@@ -137,7 +142,11 @@ pub(crate) fn run_notes(rt: &HostRuntime, roots: &Roots) -> Result<Text, Memory>
 /// Whether a rename has a key that begins so.
 pub(crate) fn renames_below(rt: &HostRuntime, rules: &Text, front: &[u8]) -> Result<bool, Memory> {
     let renames = entries_in(rt, rules, RENAMES)?;
-    Ok(renames.iter().any(|entry| entry.key.as_bytes().starts_with(front)))
+    Ok(
+        renames
+            .iter()
+            .any(|entry| entry.key.as_bytes().starts_with(front)),
+    )
 }
 
 /// The rule file of the first rule of a chain.
@@ -150,9 +159,8 @@ fn first_file(kind: ChainKind) -> &'static [u8]
         | ChainKind::PackageThenName
         | ChainKind::NameThenPackage
         | ChainKind::PackageThenDirect => RENAMES,
-        ChainKind::DirectThenDirect
-        | ChainKind::DirectThenRename
-        | ChainKind::DirectThenPackage => DIRECT,
+        ChainKind::DirectThenDirect | ChainKind::DirectThenRename | ChainKind::DirectThenPackage =>
+            DIRECT,
         ChainKind::BundleThenBundle => BUNDLES,
     }
 }
@@ -167,9 +175,8 @@ fn second_file(kind: ChainKind) -> &'static [u8]
         | ChainKind::PackageThenName
         | ChainKind::NameThenPackage
         | ChainKind::DirectThenPackage => RENAMES,
-        ChainKind::RenameThenDirect
-        | ChainKind::DirectThenDirect
-        | ChainKind::PackageThenDirect => DIRECT,
+        ChainKind::RenameThenDirect | ChainKind::DirectThenDirect | ChainKind::PackageThenDirect =>
+            DIRECT,
         ChainKind::BundleThenBundle => BUNDLES,
     }
 }
@@ -234,7 +241,11 @@ pub(crate) fn places_of(rt: &HostRuntime, rules: &Text, fault: &RuleFault) -> Re
         RuleFault::MissingText { key, .. } => {
             append_key(rt, rules, TEXT, key.as_bytes(), &mut text)?;
         }
-        RuleFault::Chain { kind, first, second } => {
+        RuleFault::Chain {
+            kind,
+            first,
+            second,
+        } => {
             append_key(rt, rules, first_file(*kind), first.as_bytes(), &mut text)?;
             append_key(rt, rules, second_file(*kind), second.as_bytes(), &mut text)?;
         }

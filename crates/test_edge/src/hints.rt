@@ -71,8 +71,10 @@ const LISTED: &[(&[u8], Listed)] = &[
 
 /// Tells the hint of a status, by what is known of the folder that was listed.
 pub fn tell_hint_behind(alloc: Global, words: &[Text], out: &mut String) -> Result<(), Memory> {
-    let (Some(listed), Some(name)) = (named(LISTED, word(words, 0)), named(STATUSES, word(words, 1)))
-    else {
+    let (Some(listed), Some(name)) = (
+        named(LISTED, word(words, 0)),
+        named(STATUSES, word(words, 1)),
+    ) else {
         return told::text(out, "no such status");
     };
     let status = status_of(alloc, name, words.get(2..).unwrap_or(&[]))?;
