@@ -31,14 +31,14 @@ use Rattle.desk_intake.proofs.There.{AllThere, IsThere, there_at, files_there}
 use Rattle.desk_run.proofs.Truths.{true_after, true_broken}
 
 -- the row by which a file is kept
-record IsKeptBy (finds : Held → Bool) (o : Option Held) (path digest : Text) : Type 0 where
-  row : Held
-  is : o ≡ Some row
-  source : row.source ≡ path
-  digest_is : row.digest.0 ≡ digest
-  found : finds row ≡ true
+pub record IsKeptBy (finds : Held → Bool) (o : Option Held) (path digest : Text) : Type 0 where
+  pub row : Held
+  pub is : o ≡ Some row
+  pub source : row.source ≡ path
+  pub digest_is : row.digest.0 ≡ digest
+  pub found : finds row ≡ true
 
-kept_row : (finds : Held → Bool) (o : Option Held) (path digest : Text) → is_kept finds o path digest ≡ true → IsKeptBy finds o path digest
+pub kept_row : (finds : Held → Bool) (o : Option Held) (path digest : Text) → is_kept finds o path digest ≡ true → IsKeptBy finds o path digest
 kept_row finds None path digest e = cc
 kept_row finds (Some row) path digest e =
     let found = and_parts (is_candidate row path digest) (finds row) e in
@@ -146,7 +146,7 @@ same_hash image output bytes e h = ap (λ (d : Digest). d.0) (subst (λ o. IfSom
 record Verified (run : Run) (m : Contents) (rows : Rows) : Type 0 where
   verify : run.verify ≡ true
   sound : SoundRows run m rows
-  targets : TargetsTell run m
+  targets : TargetsTell run m rows
 
 -- a kept file's target holds its image, where the run verifies over sound rows
 verified_image : (run : Run) (m : Contents) (rows : Rows) (a b : List File) (file : File) (image : Image) → FindsIn run m → Verified run m rows → files_below run.from m ≡ a ++ file ∷ b → IsThere run.from m file
@@ -160,7 +160,7 @@ verified_image run m rows a b file image finds v split there is kept =
     let same : ◌≡◌ {A = Result Image Reason} (Ok sound.image) (Ok image) = sym sound.is ∙ ap (λ p. run.image p file.bytes) by.source ∙ is in
     let at : sound.image ≡ image = cc in
     let hash : sha256 held.bytes ≡ sha256 image.bytes = same_hash sound.image.bytes by.row.output held.bytes held.of_row sound.output ∙ ap (λ (y : Image). sha256 y.bytes) at in
-    held.there ∙ ap Some (v.targets a b file image held.bytes split is held.there hash)
+    held.there ∙ ap Some (v.targets a b file image held.bytes split kept is held.there hash)
 
 -- what is known of a file that may be kept
 abbrev Trust : Run → Contents → Rows → File → Type 0

@@ -10,7 +10,7 @@ use Rattle.desk_ledger.specs.declared.keeper.Held.{Held}
 use Rattle.desk_ledger.specs.Digests.{digest}
 use Rattle.desk_ledger.specs.Ledger.{Ledger, Rows}
 use Rattle.desk_file.specs.declared.images.Image.{Image}
-use Rattle.desk_run.specs.Runs.{Run}
+use Rattle.desk_run.specs.Runs.{Run, is_kept_file}
 
 -- no header, or this run's
 abbrev pub IsOurs : Header → Option Header → Type 0
@@ -47,16 +47,16 @@ TrueLedger run m l = IsOurs run.header l.header → TrueRows run m l.rows
 abbrev pub SoundLedger : Run → Contents → Ledger → Type 0
 SoundLedger run m l = IsOurs run.header l.header → SoundRows run m l.rows
 
--- no target holds other bytes than the image of its file that have the image's digest
-abbrev pub TargetsTell : Run → Contents → Type 0
-TargetsTell run m = (before rest : List File) (file : File) (image : Image) (bytes : Text) → files_below run.from m ≡ before ++ file ∷ rest
+-- no target of a file that the run keeps holds other bytes than the image of its file that have the image's digest
+abbrev pub TargetsTell : Run → Contents → Rows → Type 0
+TargetsTell run m rows = (before rest : List File) (file : File) (image : Image) (bytes : Text) → files_below run.from m ≡ before ++ file ∷ rest → is_kept_file run rows file ≡ true
     → run.image file.path file.bytes ≡ Ok image → fin.get m (full run.to (run.target file.path)) ≡ Some bytes → sha256 bytes ≡ sha256 image.bytes → bytes ≡ image.bytes
 
 -- a run that verifies, over a sound ledger and such targets
 pub record IsVerified (run : Run) (m : Contents) (l : Ledger) : Type 0 where
   pub verify : run.verify ≡ true
   pub sound : SoundLedger run m l
-  pub targets : TargetsTell run m
+  pub targets : TargetsTell run m l.rows
 
 -- what is to be known of ledger and folders, for kept files to hold their images: the ledger is true; or the run verifies
 abbrev pub IsTrusted : Run → Contents → Ledger → Type 0

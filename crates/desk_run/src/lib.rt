@@ -92,7 +92,8 @@ fn follow<R: Threads + Sync, F: Folders, K: Keeper, O: Sink, G: Gate + Sync>(
 /// reads each file again that isn't kept from an earlier run and writes its image, if it has one, commits the rows, and writes
 /// the report; or the line of what stands against it. Digests, scans and images are made by as many workers as the words ask
 /// for; `gate` is told of each item that a worker begins and ends. Of words with `--verify` it reads the target of each file
-/// that it would keep, and keeps the file only where the target has the digest of what was written.
+/// that it would keep, and keeps the file only where the target has the digest of what was written. (That files are read twice
+/// and the readings compared, and that the gate is told, no clause says; tests do.)
 ///
 /// Of the words `generate` it makes an application of its own in memory, runs over it, and writes the line of
 /// the totals alone: the folders and the keeper stay as they are, and the status is `Done`, `OutputFault` or
@@ -114,9 +115,9 @@ fn follow<R: Threads + Sync, F: Folders, K: Keeper, O: Sink, G: Gate + Sync>(
 /// contents; `Memory` may come at any step. Rows that wait are written outside before the report: where
 /// that fails, the run ends as `LedgerFault` with all files done, and no report is written.
 ///
-/// Whatever the status, source and rule folder stay as they were. A run over a true ledger that was stopped by want of memory
-/// or a fault of the outside goes on where it stood: run again over unchanged source and rules until it completes, it leaves
-/// the folders of one run that was never stopped.
+/// Whatever the status, source and rule folder stay as they were. A run that was stopped by want of memory or a fault of the
+/// outside goes on where it stood, however often: where the ledger was true before the first of these runs, or they verify over
+/// a sound one, the run that completes leaves the folders of one run that was never stopped.
 pub fn desk<R: Threads + Sync, F: Folders, K: Keeper, O: Sink, G: Gate + Sync>(
     rt: &R,
     alloc: Global,
