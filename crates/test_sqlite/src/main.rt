@@ -49,6 +49,13 @@ fn main(rt: HostRuntime) -> io::Result<()> {
         database: Database::new(rt.alloc()),
     };
     let done = answer_all(&rt, &mut cases);
-    cases.folder.remove();
+    let Cases {
+        folder,
+        keepers,
+        database,
+    } = cases;
+    folder.remove();
+    drop(keepers);
+    drop(database);
     done
 }
