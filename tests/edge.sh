@@ -306,12 +306,12 @@ has 'the other files' 'migrate:   and 2 more'
 # ---- files that need a look
 
 fresh
-printf '\xff\xfea\0=\0b\0' >app/wide.properties
-printf '\xfe\xff\0a\0=\0b' >app/wider.properties
-printf 'a=b' >app/narrow.properties
-printf '\xff\xfea\0' >app/wide.txt
+printf '\xff\xfea\0b\0' >app/wide.properties
+printf '\xfe\xff\0a\0b' >app/wider.properties
+printf 'ab' >app/narrow.properties
+printf '\xff\xfea\0b\0' >app/wide.txt
 printf '*.properties=texts\n' >rules/text.properties
-printf 'a=c\n' >rules/texts
+printf 'ab=c\n' >rules/texts
 migrate run --rules rules --from app --to to --ledger ledger
 check 'texts in UTF-16: status' 0 "$status"
 has 'texts in UTF-16' 'texts are in UTF-16, in which no text rule fits anything'
