@@ -1,5 +1,5 @@
 mod Table
-mod OneByOne
+pub mod OneByOne
 pub mod Nexts
 pub mod Within
 mod Rows

@@ -16,6 +16,6 @@ mod reader;
 mod steps;
 
 pub use desk_base::CodeFault;
-pub use opcodes::{Operand, Shape, shape_of};
+pub use opcodes::{Operand, Shape, is_named, shape_of};
 pub use places::{CodeAt, codes};
 pub use reader::{CodeReader, Instruction};

@@ -43,8 +43,8 @@ pub enum Shape {
     Wide,
 }
 
-/// Whether an index that names an entry of a tag, or none, is an operand.
-pub(crate) fn is_named(operand: Operand, tag: Option<Tag>) -> bool
+/// Whether an index that names an entry of a tag, or none, is an operand (JVMS 6.5). It takes no memory.
+pub fn is_named(operand: Operand, tag: Option<Tag>) -> bool
     ensures { result ≡ is_named operand tag }
 {
     let tag = match tag {

@@ -22,27 +22,3 @@ level_of (suc n) left right i j h = let e : suc n - 1 ≡ n = omega arith in rw 
 pub level_by : (n : ℕ) (left right : Pool) (i j : ℕ) (f g : EntryParts) → 0 < n → f ≡ parts_at left i → g ≡ parts_at right j
     → same_within n left right i j ≡ (same_parts f g && (same_within (n - 1) left right f.first g.first && same_within (n - 1) left right f.second g.second))
 level_by n left right i j f g h p q = rw (p, q) (level_of n left right i j h)
-
-out_parts : (w a b c : Bool) → w ≡ (a && (b && c)) → false ≡ a → false ≡ w
-out_parts w false b c h e = sym h
-out_parts w true b c h e = absurd cc
-
-out_first : (w a b c : Bool) → w ≡ (a && (b && c)) → true ≡ a → false ≡ b → false ≡ w
-out_first w true false c h e f = sym h
-out_first w false b c h e f = absurd cc
-out_first w true true c h e f = absurd cc
-
-out_second : (w a b c r : Bool) → w ≡ (a && (b && c)) → true ≡ a → true ≡ b → r ≡ c → r ≡ w
-out_second w true true c r h e f g = g ∙ sym h
-out_second w false b c r h e f g = absurd cc
-out_second w true false c r h e f g = absurd cc
-
-module _ (n : ℕ) (left right : Pool) (i j : ℕ) (f g : EntryParts) (h : 0 < n) (p : f ≡ parts_at left i) (q : g ≡ parts_at right j) where
-  pub at_parts : false ≡ same_parts f g → false ≡ same_within n left right i j
-  at_parts e = out_parts _ (same_parts f g) (same_within (n - 1) left right f.first g.first) (same_within (n - 1) left right f.second g.second) (level_by n left right i j f g h p q) e
-
-  pub at_first : true ≡ same_parts f g → false ≡ same_within (n - 1) left right f.first g.first → false ≡ same_within n left right i j
-  at_first e k = out_first _ (same_parts f g) (same_within (n - 1) left right f.first g.first) (same_within (n - 1) left right f.second g.second) (level_by n left right i j f g h p q) e k
-
-  pub at_second : (r : Bool) → true ≡ same_parts f g → true ≡ same_within (n - 1) left right f.first g.first → r ≡ same_within (n - 1) left right f.second g.second → r ≡ same_within n left right i j
-  at_second r e k m = out_second _ (same_parts f g) (same_within (n - 1) left right f.first g.first) (same_within (n - 1) left right f.second g.second) r (level_by n left right i j f g h p q) e k m

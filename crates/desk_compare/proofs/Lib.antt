@@ -9,7 +9,6 @@ mod Agreements
 mod KnownValues
 mod Places
 mod SameCodes
-mod OneByOne
 mod SameSteps
 mod SameClasses
 pub mod Deciding

@@ -10,7 +10,7 @@ use Rattle.desk_code.specs.declared.opcodes.Shape.TheVariants as shapes
 use Rattle.desk_code.specs.declared.reader.Instruction.{Instruction}
 use Rattle.desk_code.specs.Opcodes.{is_named, shape_of, index_size}
 use Rattle.desk_code.specs.Instructions.{Instructions, Reading, instruction, within, checked, shaped, instruction_at, instructions_from, instructions_of, plain_bytes}
-use Rattle.desk_compare.proofs.OneByOne.{at_step, at_end}
+use Rattle.desk_code.proofs.OneByOne.{at_step, at_end}
 use Rattle.desk_compare.specs.Values.{same_value, tag_number}
 use Rattle.desk_compare.specs.Codes.{same_index, same_instruction, same_instructions, reads, by_reading, same_code, read_alike, IsOperand, IsStep}
 use Rattle.desk_compare.proofs.Agreements.{of_tags, tags_same}

@@ -194,10 +194,6 @@ module _ (left right : Pool) where
   pub at_nothing : (n : ℕ) → same_within n left right 0 0 ≡ true
   at_nothing n = within_from n 0 0 (sym (at_none n left) ∙ at_none n right)
 
-  -- index 0 leads to nothing
-  pub both_nothing : (n i j : ℕ) → i ≡ 0 → j ≡ 0 → true ≡ same_within n left right i j
-  both_nothing n i j h k = rw (h, k) (sym (at_nothing n))
-
 -- ---- by use kind
 
 not_zero : (i : ℕ) → nat_eq (suc i) 0 ≡ false

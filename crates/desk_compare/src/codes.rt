@@ -115,8 +115,8 @@ fn same_readings(known: &mut KnownPairs<'_, '_, '_>, left_code: &[u8], right_cod
     }
 }
 
-/// Whether two code arrays are found to read to their ends with the same instructions, one step along both at a time. No instruction
-/// is made a value of.
+/// Whether two code arrays are found to read to their ends with the same instructions, one step along both at a time, without a list of
+/// them.
 #[tactic(auto, using(crate::proofs::SameSteps::start, crate::proofs::SameSteps::further, crate::proofs::SameSteps::done))]
 fn same_steps(known: &mut KnownPairs<'_, '_, '_>, left_code: &[u8], right_code: &[u8]) -> bool
     ensures same { IsTrue result → same_code known.old.left known.old.right left_code.now right_code.now ≡ true }

@@ -2,43 +2,12 @@
 
 ghost use Rattle.std.specs.Prelude.{◌≡◌, ◌≤◌, ◌+◌, ◌∷◌, length, take, drop, true, IsTrue, IfSome};
 ghost use Rattle.std.specs.Int.{w8, w16, from_be_bytes};
-ghost use Rattle.desk_code.specs.Opcodes.{is_named};
 ghost use Rattle.desk_compare.specs.Codes.{IsOperand, IsStep};
 
 use crate::known::KnownPairs;
 use crate::values::same_value;
 use byteorder::{BigEndian, ByteOrder};
-use desk_base::Tag;
-use desk_code::{Operand, Shape, shape_of};
-
-/// Whether an index that names an entry of a tag, or none, is an operand (JVMS 6.5).
-fn is_named(operand: Operand, tag: Option<Tag>) -> bool
-    ensures { result ≡ is_named operand tag }
-{
-    let tag = match tag {
-        Some(tag) => tag,
-        None => return false,
-    };
-    match operand {
-        Operand::Loadable => matches!(
-            tag,
-            Tag::Integer
-                | Tag::Float
-                | Tag::String
-                | Tag::Class
-                | Tag::MethodHandle
-                | Tag::MethodType
-                | Tag::Dynamic
-        ),
-        Operand::WideLoadable => matches!(tag, Tag::Long | Tag::Double | Tag::Dynamic),
-        Operand::Field => matches!(tag, Tag::Fieldref),
-        Operand::Method => matches!(tag, Tag::Methodref),
-        Operand::InterfaceMethod => matches!(tag, Tag::InterfaceMethodref),
-        Operand::CallSite => matches!(tag, Tag::InvokeDynamic),
-        Operand::Class => matches!(tag, Tag::Class),
-        Operand::AnyMethod => matches!(tag, Tag::Methodref | Tag::InterfaceMethodref),
-    }
-}
+use desk_code::{Operand, Shape, is_named, shape_of};
 
 /// Whether two indices name an operand of the same value.
 fn same_operand(known: &mut KnownPairs<'_, '_, '_>, operand: Operand, i: u16, j: u16) -> bool
