@@ -1,0 +1,45 @@
+//! What words that are followed print, and how they end.
+
+use desk_base::{Memory, Text};
+use desk_outside::{Followed, follow_words};
+use desk_report::MemorySink;
+use std::str;
+
+/// How many bytes a report has at most.
+const ROOM: u32 = 8_388_608;
+
+/// Follows words.
+fn followed(rt: &HostRuntime, words: &[Text]) -> Result<Followed<MemorySink>, Memory> {
+    let out = MemorySink::with_room(rt.alloc(), ROOM)?;
+    Ok(follow_words(rt, rt, words, out))
+}
+
+/// Appends a line of a report.
+fn append_line(line: &[u8], out: &mut String) -> Result<(), Memory> {
+    Ok(writeln!(out, "  {}", str::from_utf8(line).unwrap_or("no text"))?)
+}
+
+/// Follows words, and appends the lines of the report and the status.
+pub fn answer_lines(rt: &HostRuntime, words: &[Text], out: &mut String) -> Result<(), Memory> {
+    let ended = followed(rt, words)?;
+    for line in ended.out.written().split(|byte| *byte == b'\n') {
+        if !line.is_empty() {
+            append_line(line, out)?;
+        }
+    }
+    Ok(writeln!(out, "  status {}", ended.status.code())?)
+}
+
+/// Follows words, and appends how many lines the report has, the last one, and the status.
+pub fn answer_count(rt: &HostRuntime, words: &[Text], out: &mut String) -> Result<(), Memory> {
+    let ended = followed(rt, words)?;
+    let report = ended.out.written();
+    let lines = report.iter().filter(|byte| **byte == b'\n').count();
+    writeln!(out, "  lines {lines}")?;
+    let last = report
+        .split(|byte| *byte == b'\n')
+        .filter(|line| !line.is_empty())
+        .last();
+    append_line(last.unwrap_or(b""), out)?;
+    Ok(writeln!(out, "  status {}", ended.status.code())?)
+}
