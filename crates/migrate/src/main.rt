@@ -5,16 +5,17 @@ use desk_outside::{end_unread, follow_words};
 use desk_program::{Streams, exit_of, read_words};
 use desk_report::{Status, StdSink};
 use std::process::ExitCode;
+use std::thread::Threads;
 
 /// Follows the words behind the program's name.
-fn run(rt: &HostRuntime) -> Status {
+fn run<R: Threads + Sync>(rt: &HostRuntime, threads: &R) -> Status {
     match read_words(rt) {
-        Ok(words) => follow_words(rt, rt, &words, StdSink::new(rt)).status,
+        Ok(words) => follow_words(rt, threads, &words, StdSink::new(rt)).status,
         Err(error) => end_unread(rt, error.kind(), StdSink::new(rt)).status,
     }
 }
 
 fn main(rt: HostRuntime) -> ExitCode {
     let _streams = Streams::take_places(&rt);
-    exit_of(&run(&rt))
+    exit_of(&run(&rt, &rt))
 }

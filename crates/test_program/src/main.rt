@@ -12,18 +12,20 @@
 mod reports;
 
 use desk_base::{Memory, Text};
+use std::thread::Threads;
 use std::{fs, io, str};
 use test_cases::{Answers, answer_all};
 use test_commands::{OwnFolder, append_unknown, number_of};
 
 /// The folder of a case.
 #[derive(Drop)]
-struct Cases<'r> {
+struct Cases<'r, R> {
     rt: &'r HostRuntime,
+    threads: &'r R,
     folder: OwnFolder<'r>,
 }
 
-impl Cases<'_> {
+impl<R> Cases<'_, R> {
     /// Makes empty files in a folder, so many.
     fn make_files(&self, folder: &Text, count: u64) -> Result<(), Memory> {
         for number in 0..count {
@@ -37,7 +39,7 @@ impl Cases<'_> {
     }
 }
 
-impl Answers for Cases<'_> {
+impl<R: Threads + Sync> Answers for Cases<'_, R> {
     fn begin(&mut self) -> Result<(), Memory> {
         let _ = self.folder.make_anew();
         Ok(())
@@ -50,8 +52,8 @@ impl Answers for Cases<'_> {
         match (subject.as_bytes(), words) {
             (b"file", words) => self.folder.answer(words, out),
             (b"files", [folder, count]) => self.make_files(folder, number_of(count.as_bytes())),
-            (b"follow", words) => reports::answer_lines(self.rt, words, out),
-            (b"count", words) => reports::answer_count(self.rt, words, out),
+            (b"follow", words) => reports::answer_lines(self.rt, self.threads, words, out),
+            (b"count", words) => reports::answer_count(self.rt, self.threads, words, out),
             _ => append_unknown(out),
         }
     }
@@ -59,7 +61,11 @@ impl Answers for Cases<'_> {
 
 fn main(rt: HostRuntime) -> io::Result<()> {
     let folder = OwnFolder::new(&rt, "test_program")?;
-    let mut cases = Cases { rt: &rt, folder };
+    let mut cases = Cases {
+        rt: &rt,
+        threads: &rt,
+        folder,
+    };
     let done = answer_all(&rt, &mut cases);
     cases.folder.remove();
     done

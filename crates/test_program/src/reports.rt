@@ -4,14 +4,19 @@ use desk_base::{Memory, Text};
 use desk_outside::{Followed, follow_words};
 use desk_report::MemorySink;
 use std::str;
+use std::thread::Threads;
 
 /// How many bytes a report has at most.
 const ROOM: u32 = 8_388_608;
 
 /// Follows words.
-fn followed(rt: &HostRuntime, words: &[Text]) -> Result<Followed<MemorySink>, Memory> {
+fn followed<R: Threads + Sync>(
+    rt: &HostRuntime,
+    threads: &R,
+    words: &[Text],
+) -> Result<Followed<MemorySink>, Memory> {
     let out = MemorySink::with_room(rt.alloc(), ROOM)?;
-    Ok(follow_words(rt, rt, words, out))
+    Ok(follow_words(rt, threads, words, out))
 }
 
 /// Appends a line of a report.
@@ -20,8 +25,13 @@ fn append_line(line: &[u8], out: &mut String) -> Result<(), Memory> {
 }
 
 /// Follows words, and appends the lines of the report and the status.
-pub fn answer_lines(rt: &HostRuntime, words: &[Text], out: &mut String) -> Result<(), Memory> {
-    let ended = followed(rt, words)?;
+pub fn answer_lines<R: Threads + Sync>(
+    rt: &HostRuntime,
+    threads: &R,
+    words: &[Text],
+    out: &mut String,
+) -> Result<(), Memory> {
+    let ended = followed(rt, threads, words)?;
     for line in ended.out.written().split(|byte| *byte == b'\n') {
         if !line.is_empty() {
             append_line(line, out)?;
@@ -31,8 +41,13 @@ pub fn answer_lines(rt: &HostRuntime, words: &[Text], out: &mut String) -> Resul
 }
 
 /// Follows words, and appends how many lines the report has, the last one, and the status.
-pub fn answer_count(rt: &HostRuntime, words: &[Text], out: &mut String) -> Result<(), Memory> {
-    let ended = followed(rt, words)?;
+pub fn answer_count<R: Threads + Sync>(
+    rt: &HostRuntime,
+    threads: &R,
+    words: &[Text],
+    out: &mut String,
+) -> Result<(), Memory> {
+    let ended = followed(rt, threads, words)?;
     let report = ended.out.written();
     let lines = report.iter().filter(|byte| **byte == b'\n').count();
     writeln!(out, "  lines {lines}")?;
