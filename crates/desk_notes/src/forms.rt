@@ -95,14 +95,20 @@ impl Forms {
         Ok(())
     }
 
+    /// The place of the longest other form that the one at a place begins with. Those in front of it have theirs.
+    fn shorter_of(&self, place: usize) -> Option<usize> {
+        let form = self.forms.get(place)?;
+        longest_in(&self.forms, place.checked_sub(1), form.text.as_bytes())
+    }
+
     /// Puts the texts in order. It is called when all are added, and before one is looked for.
     pub(crate) fn settle(&mut self) -> Result<(), Memory> {
         self.forms
             .sort_by(|first, second| first.text.cmp(&second.text))?;
         for place in 1..self.forms.len() {
-            let (front, behind) = self.forms.split_at_mut(place);
-            if let Some(form) = behind.first_mut() {
-                form.shorter = longest_in(front, place.checked_sub(1), form.text.as_bytes());
+            let shorter = self.shorter_of(place);
+            if let Some(form) = self.forms.get_mut(place) {
+                form.shorter = shorter;
             }
         }
         Ok(())

@@ -34,7 +34,10 @@ impl Search<'_, '_> {
         let path = path_below(self.root, name).ok()?;
         let mut at = 0;
         sought.begin(name);
-        while at < MAX_FILE_SIZE as u64 && !sought.is_done() {
+        for _ in 0..MAX_FILE_SIZE {
+            if at >= MAX_FILE_SIZE as u64 || sought.is_done() {
+                return Some(());
+            }
             let part = self.part(&path, at)?;
             if part.as_bytes().is_empty() {
                 return Some(());
