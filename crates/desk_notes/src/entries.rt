@@ -192,14 +192,22 @@ fn between(file: &[u8], from: usize, to: usize) -> &[u8] {
     file.get(from..to).unwrap_or(b"")
 }
 
+/// For each entry, from the last on, whether its key stands in a later line again.
+fn repeated(alloc: Global, entries: &[KeyLine<'_>]) -> Result<Vec<bool>, Memory> {
+    let mut later: HashSet<&[u8]> = HashSet::new(alloc);
+    let mut repeated = Vec::new(alloc);
+    for entry in entries.iter().rev() {
+        let is_new = later.insert(entry.key.as_bytes())?;
+        repeated.push(!is_new)?;
+    }
+    Ok(repeated)
+}
+
 /// Marks each entry whose key stands in a later line again.
 fn mark_repeated(alloc: Global, entries: &mut [KeyLine<'_>]) -> Result<(), Memory> {
-    let mut later: HashSet<&[u8]> = HashSet::new(alloc);
-    for entry in entries.iter_mut().rev() {
-        let KeyLine {
-            key, is_repeated, ..
-        } = entry;
-        *is_repeated = !later.insert(key.as_bytes())?;
+    let repeated = repeated(alloc, entries)?;
+    for (entry, is_repeated) in entries.iter_mut().rev().zip(repeated) {
+        entry.is_repeated = is_repeated;
     }
     Ok(())
 }

@@ -135,11 +135,11 @@ fn slashed_byte(byte: u8) -> u8
 }
 
 /// A package written with `/`.
-fn slashed(alloc: Global, package: &[u8]) -> Result<Text, Memory>
-    ensures { IfOk result (λ text. text ≡ map slashed_byte package.now) }
+fn slashed(alloc: Global, name: &[u8]) -> Result<Text, Memory>
+    ensures { IfOk result (λ text. text ≡ map slashed_byte name.now) }
 {
     let mut text = Text::empty(alloc);
-    for byte in package {
+    for byte in name {
         text.push(slashed_byte(*byte))?;
     }
     Ok(text)
