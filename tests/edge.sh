@@ -6,6 +6,7 @@ cd "$(dirname "$0")/.."
 . tests/common.sh
 trap 'chmod -R u+rwX "$place"; rm -rf "$place"' EXIT
 chmod 755 "$place"
+top=$PWD
 cd "$place" || exit 1
 
 usage='migrate: 20 usage: migrate run --rules R --from A --to B --ledger L [--workers N] [--verify] or migrate generate --count N [--workers N] [--sql] or migrate calls --from A --package P or migrate compare --rules R --from A --other B or migrate invert --rules R'
@@ -62,7 +63,7 @@ fresh() {
   rm -rf rules app to to2 ledger* work other sub
   mkdir -p rules app/WEB-INF/classes
   printf 'javax.servlet.*=jakarta.servlet\n' >rules/renames.properties
-  printf 'hello' >app/readme.txt
+  printf 'hello, javax.servlet' >app/readme.txt
   printf '<a/>' >app/WEB-INF/web.xml
 }
 
@@ -259,6 +260,7 @@ for i in $(seq -w 12); do printf 'PK' >"app/lib/a$i.jar"; done
 printf 'PK' >app/lib/B.WAR
 printf 'x' >app/META-INF/SIGNER.SF
 printf 'x' >app/META-INF/SIGNER.RSA
+printf '\xef\xbb\xbfjavax.servlet javax.ejb.EJB javax.jms' >app/readme.txt
 printf '\xef\xbb\xbfjavax.servlet=jakarta.servlet\njavax.ejb.EJB=jakarta.ejb.EJB\njavax.jms=jakarta.jms\n' >rules/renames.properties
 migrate run --rules rules --from app --to to --ledger ledger
 check 'what was not looked into: status' 0 "$status"
@@ -296,12 +298,138 @@ has 'a pattern of texts that fits nothing' 'migrate:   text.properties:2 WEB-INF
 hasnt 'a pattern that fits' 'selection.properties:3'
 hasnt 'a pattern of texts that fits' 'text.properties:3'
 hasnt 'a pattern for any application' 'META-INF'
-check 'rules without effect: the last line' 'migrate: 3 files, 3 written, 0 kept; 4 notes above' "$(tail -1 err)"
+has 'a rename that nothing meets' 'migrate:   renames.properties:2 javax.jms'
+check 'rules without effect: the last line' 'migrate: 3 files, 3 written, 0 kept; 5 notes above' "$(tail -1 err)"
 fresh
 for i in $(seq 12); do printf 'x' >"rules/file$i"; done
 migrate run --rules rules --from app --to to --ledger ledger
 check 'at most ten files' 10 "$(grep -c '^migrate:   file' err)"
 has 'the other files' 'migrate:   and 2 more'
+
+# ---- rules that nothing meets
+
+# class NAME: the bytes of a class of this name
+class() {
+  printf '\312\376\272\276\0\0\0\064\0\005\001\0'
+  printf "\\$(printf '%03o' "${#1}")%s" "$1"
+  printf '\007\0\001\001\0\020java/lang/Object\007\0\003\0\041\0\002\0\004\0\0\0\0\0\0\0\0'
+}
+
+renames='renames whose package stands in no file of the source, nor in the path of one, so that these lines have no effect'
+direct='direct rules whose old text stands in no file of the source, so that these lines have no effect'
+versions='versions of packages that stand in no file of the target, so that these lines have no effect'
+bundles='bundles whose old name stands in no file of the source, so that these lines have no effect'
+
+# folded TEXT: a manifest with this text in a header, each byte on a line of its own
+folded() {
+  printf 'Manifest-Version: 1.0\r\nX: '
+  printf '%s' "$1" | sed 's/./\r\n &/g'
+  printf '\r\n'
+}
+
+# each kind of rule, of which some are met and some aren't, and the lines that are told of those
+fresh
+mkdir -p app/x.jar/META-INF app/x.jar/org/path
+printf 'x' >app/x.jar/org/path/file
+folded 'Bundle-SymbolicName: old.folded' >app/x.jar/META-INF/MANIFEST.MF
+printf '\0org/slashes/C\0org.dots\0a key\0old.named\0twice.it\0' >app/binary
+cat >rules/renames.properties <<'end'
+# of packages
+org.slashes=new.slashes
+org.nowhere.*=new.nowhere
+org.dots.*=new.dots
+org.path=new.path
+org.kept=org.kept
+org.kept.too.*=org.kept.too
+org.none=new.none
+twice.none=new.first
+twice.none=new.second
+end
+printf 'a\\ key=a new key\nno\\ key=another\norg/none=org/other\nkept=kept\n' >rules/direct.properties
+printf 'new.none=[1,2)\nnew.files=[2,3)\nnew.folded=[3,4)\n' >rules/versions.properties
+printf 'old.named=new.named;2\nold.folded=new.folded\nold.none=new.none;1\nold.kept=old.kept\n' >rules/bundles.properties
+printf 'new/files' >app/a
+folded 'Import-Package: new.folded' >app/b
+mkdir -p app/y.jar/META-INF
+mv app/b app/y.jar/META-INF/MANIFEST.MF
+migrate run --rules rules --from app --to to --ledger ledger
+check 'rules that nothing meets: status' 0 "$status"
+check 'rules that nothing meets' "migrate: keys stand in one rule file again, so that these lines have no effect:
+migrate:   renames.properties:9 twice.none
+migrate: $renames:
+migrate:   renames.properties:3 org.nowhere.*
+migrate:   renames.properties:8 org.none
+migrate:   renames.properties:10 twice.none
+migrate: $direct:
+migrate:   direct.properties:2 no\\20key
+migrate:   direct.properties:3 org/none
+migrate: $versions:
+migrate:   versions.properties:1 new.none
+migrate: $bundles:
+migrate:   bundles.properties:3 old.none
+migrate: 7 files, 7 written, 0 kept; 5 notes above" "$(cat err)"
+
+# the same rules in files that are for any application
+for file in renames direct versions bundles; do
+  printf '# for any application\r\n' | cat - "rules/$file.properties" >rules/new
+  mv rules/new "rules/$file.properties"
+done
+migrate run --rules rules --from app --to to2 --ledger ledger2
+check 'rules for any application' 'migrate: keys stand in one rule file again, so that these lines have no effect:
+migrate:   renames.properties:10 twice.none
+migrate: 7 files, 7 written, 0 kept; 1 note above' "$(cat err)"
+
+# a class that uses a package
+fresh
+class javax/servlet/N >app/WEB-INF/classes/N.class
+printf 'hello' >app/readme.txt
+migrate run --rules rules --from app --to to --ledger ledger
+hasnt 'a rename that a class meets' "$renames"
+
+# a text on both sides of the end of a part of 1,048,576 bytes, and behind the first 67,108,864 bytes of a file, which no rule reads
+for place in 1048570 1048576 2097140 67108850; do
+  fresh
+  { head -c "$place" /dev/zero; printf 'javax.servlet'; } >app/readme.txt
+  migrate run --rules rules --from app --to to --ledger ledger
+  hasnt "a text at $place" "$renames"
+done
+fresh
+{ head -c 67108864 /dev/zero; printf 'javax.servlet'; } >app/readme.txt
+migrate run --rules rules --from app --to to --ledger ledger
+has 'a text behind what is looked at' 'migrate:   renames.properties:1 javax.servlet.*'
+
+# texts of which one begins with another, which stand one behind another, and that begin as they go on
+fresh
+printf 'aaa.b.c abab.d ab.ab' >app/readme.txt
+printf 'aa.b=x1\na.b=x2\na.b.c.*=x3\na.b.c.d=x4\nab.d=x5\nabab=x6\nababa=x7\nb.c=x8\n' >rules/renames.properties
+migrate run --rules rules --from app --to to --ledger ledger
+check 'texts within texts' "migrate: $renames:
+migrate:   renames.properties:4 a.b.c.d
+migrate:   renames.properties:7 ababa
+migrate: 2 files, 2 written, 0 kept; 1 note above" "$(cat err)"
+
+# at most ten of a kind, and of those that begin in more than 64 ways the first
+fresh
+for i in $(seq -w 70); do printf 'p%sx.a=q%s\n' "$i" "$i"; done >rules/renames.properties
+migrate run --rules rules --from app --to to --ledger ledger
+check 'at most ten renames' 10 "$(grep -c '^migrate:   renames.properties:' err)"
+has 'the first of them' 'migrate:   renames.properties:1 p01x.a'
+has 'the other renames' 'migrate:   and 54 more'
+
+# more bytes than are looked at
+fresh
+printf 'org.none=org.new\n' >rules/renames.properties
+for i in $(seq 17); do truncate -s 64M "app/large$i"; done
+migrate run --rules rules --from app --to to --ledger ledger
+check 'a large application: status' 0 "$status"
+check 'a large application: nothing is told' 'migrate: 19 files, 19 written, 0 kept; nothing is left to look at' "$(cat err)"
+
+# the ready rules, most of which nothing meets
+for ready in jakarta-ee-9 jakarta-ee-9-jsr305 jakarta-ee-10; do
+  fresh
+  migrate run --rules "$top/rules/$ready" --from app --to to --ledger ledger
+  check "nothing is told of $ready" 'migrate: 2 files, 2 written, 0 kept; nothing is left to look at' "$(cat err)"
+done
 
 # ---- files that need a look
 
@@ -396,13 +524,6 @@ migrate run --rules rules --from app --to to --ledger ledger
 ends 'a clash' 24 'migrate: 24 path clash x.jar/jakarta/servlet/n x.jar/javax/servlet/n'
 has 'a clash: hint' 'would get one target'
 
-# class NAME: the bytes of a class of this name
-class() {
-  printf '\312\376\272\276\0\0\0\064\0\005\001\0'
-  printf "\\$(printf '%03o' "${#1}")%s" "$1"
-  printf '\007\0\001\001\0\020java/lang/Object\007\0\003\0\041\0\002\0\004\0\0\0\0\0\0\0\0'
-}
-
 # nonnull RULES: an application with an annotation of JSR 305 is migrated by this rule
 nonnull() {
   fresh
@@ -417,7 +538,8 @@ has 'JSR 305 that moved' 'annotations of JSR 305 moved with the package javax.an
 has 'JSR 305 that moved: which' 'migrate:   lib.jar/javax/annotation/Nonnull.class'
 nonnull 'javax.annotation.sql=jakarta.annotation.sql'
 has 'JSR 305 that stayed' 'annotations of JSR 305 stay in javax.annotation'
-check 'JSR 305 that stayed: the last line' 'migrate: 3 files, 3 written, 0 kept; 1 note above' "$(tail -1 err)"
+has 'a rename of no package of the application' 'migrate:   renames.properties:1 javax.annotation.sql'
+check 'JSR 305 that stayed: the last line' 'migrate: 3 files, 3 written, 0 kept; 2 notes above' "$(tail -1 err)"
 nonnull 'javax.servlet=jakarta.servlet'
 hasnt 'JSR 305 under other rules' 'JSR 305'
 

@@ -299,6 +299,9 @@ KNOWN = ("facelets", "jaxb")
 # How many bytes a rule file may have.
 MOST = 1048576
 
+# The line by which a rule file says that most of its rules may well meet nothing in one application.
+FOR_ANY = "# for any application"
+
 # What may stand behind the name of a package in a text.
 BEHIND = (".", ",", ";", '"', "'", "<")
 
@@ -538,6 +541,11 @@ def selection():
     ]
 
 
+def for_any(lines):
+    """A rule file for any application: of those that meet nothing in one none is told."""
+    return [FOR_ANY] + lines
+
+
 def write(folder, name, lines):
     text = "\n".join(lines) + "\n"
     if len(text.encode("utf-8")) > MOST:
@@ -549,10 +557,10 @@ def write(folder, name, lines):
 def write_set(to, ready):
     folder = os.path.join(to, ready.folder)
     os.makedirs(folder, exist_ok=True)
-    write(folder, "renames.properties", renames(ready))
-    write(folder, "versions.properties", versions(ready))
-    write(folder, "bundles.properties", bundles(ready))
-    write(folder, "direct.properties", direct(ready))
+    write(folder, "renames.properties", for_any(renames(ready)))
+    write(folder, "versions.properties", for_any(versions(ready)))
+    write(folder, "bundles.properties", for_any(bundles(ready)))
+    write(folder, "direct.properties", for_any(direct(ready)))
     write(folder, "selection.properties", selection())
     write(folder, "text.properties", texts())
     write(folder, "text-packages.properties", ["# Pages, settings, sources and other descriptors."] + packages(ready))

@@ -31,7 +31,7 @@ fn last_segment(key: &[u8]) -> &[u8] {
 }
 
 /// The key without `.*` at its end.
-fn package_of(key: &[u8]) -> &[u8] {
+pub(crate) fn package_of(key: &[u8]) -> &[u8] {
     match key {
         [package @ .., b'.', b'*'] => package,
         _ => key,

@@ -1,5 +1,6 @@
 //! What the lines of a report and the keys of rule files say beside what they are for: archives that were copied unread,
-//! signatures that no longer fit, files by the reason of their refusal, and keys that look like a slip.
+//! signatures that no longer fit, files by the reason of their refusal, keys that look like a slip, and rules that nothing in an
+//! application meets.
 //!
 //! ```text
 //! let mut notes = Notes::new(alloc);
@@ -10,6 +11,7 @@
 
 mod closing;
 mod entries;
+mod forms;
 mod keys;
 mod lines;
 mod names;
@@ -17,9 +19,10 @@ mod notes;
 mod overheard;
 mod patterns;
 mod rules;
+mod sought;
 
 pub use closing::{Closing, closing_line, count_notes};
-pub use entries::{KeyLine, key_lines, line_of_byte, line_of_key};
+pub use entries::{KeyLine, Piece, key_lines, line_of_byte, line_of_key};
 pub use keys::{Slip, slip_of};
 pub use lines::{Said, is_archive_file, is_jsr305, is_signature, is_utf16, read_line, unshown};
 pub use names::Names;
@@ -27,3 +30,4 @@ pub use notes::{Notes, Refusals};
 pub use overheard::Overheard;
 pub use patterns::special_patterns;
 pub use rules::{RuleNotes, place_text};
+pub use sought::{RuleKind, Sought, SoughtRule, is_for_any, without_blanks};

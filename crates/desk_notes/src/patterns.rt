@@ -19,7 +19,7 @@ fn is_behind_star(general: &[u8], pattern: &[u8]) -> bool {
 }
 
 /// Whether a pattern that doesn't begin with `*` stands in its file behind `*` or `*/`, too.
-fn has_general(pattern: &[u8], entries: &[KeyLine]) -> bool {
+fn has_general(pattern: &[u8], entries: &[KeyLine<'_>]) -> bool {
     entries
         .iter()
         .any(|entry| is_behind_star(entry.key.as_bytes(), pattern))
@@ -27,15 +27,15 @@ fn has_general(pattern: &[u8], entries: &[KeyLine]) -> bool {
 
 /// Whether a pattern speaks of one application: it doesn't begin with `*`, and doesn't stand in its file behind `*` or `*/` either.
 /// Another one speaks of any, so that it may well fit nothing in one.
-fn is_special(pattern: &[u8], entries: &[KeyLine]) -> bool {
+fn is_special(pattern: &[u8], entries: &[KeyLine<'_>]) -> bool {
     !pattern.starts_with(b"*") && !has_general(pattern, entries)
 }
 
 /// The patterns of a rule file that speak of one application, as far as they are among the first 256 that don't begin with `*`.
-pub fn special_patterns<'e>(
+pub fn special_patterns<'e, 'f>(
     alloc: Global,
-    entries: &'e [KeyLine],
-) -> Result<Vec<&'e KeyLine>, Memory> {
+    entries: &'e [KeyLine<'f>],
+) -> Result<Vec<&'e KeyLine<'f>>, Memory> {
     let mut special = Vec::new(alloc);
     let plain = entries
         .iter()
@@ -58,7 +58,7 @@ impl RuleNotes {
     pub fn take_patterns(
         &mut self,
         name: &[u8],
-        patterns: &[&KeyLine],
+        patterns: &[&KeyLine<'_>],
         paths: &[&[Text]],
     ) -> Result<(), Memory> {
         for entry in patterns {

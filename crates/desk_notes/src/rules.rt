@@ -3,10 +3,10 @@
 use crate::entries::KeyLine;
 use crate::keys::{MARK, Slip, slip_of};
 use crate::names::Names;
+use crate::sought::{RuleKind, Sought, SoughtRule};
 use desk_base::{Memory, Text, show_byte};
 use itoa::Buffer;
 use std::alloc::Global;
-use std::collections::BTreeMap;
 
 const MARKS: &[u8] =
     b"rule files have a byte order mark, which belongs to the key behind it; store them without one:";
@@ -21,6 +21,18 @@ const UNNAMED: &[u8] =
 
 const UNMET: &[u8] =
     b"patterns that fit no file of the source, so that these lines have no effect:";
+
+const UNMET_RENAMES: &[u8] =
+    b"renames whose package stands in no file of the source, nor in the path of one, so that these lines have no effect:";
+
+const UNMET_DIRECT: &[u8] =
+    b"direct rules whose old text stands in no file of the source, so that these lines have no effect:";
+
+const UNMET_VERSIONS: &[u8] =
+    b"versions of packages that stand in no file of the target, so that these lines have no effect:";
+
+const UNMET_BUNDLES: &[u8] =
+    b"bundles whose old name stands in no file of the source, so that these lines have no effect:";
 
 /// The file of the renames.
 const RENAMES: &[u8] = b"renames.properties";
@@ -55,6 +67,10 @@ pub struct RuleNotes {
     twice: Names,
     unnamed: Names,
     unmet: Names,
+    renames: Names,
+    direct: Names,
+    versions: Names,
+    bundles: Names,
 }
 
 impl RuleNotes {
@@ -67,11 +83,15 @@ impl RuleNotes {
             twice: Names::new(alloc),
             unnamed: Names::new(alloc),
             unmet: Names::new(alloc),
+            renames: Names::new(alloc),
+            direct: Names::new(alloc),
+            versions: Names::new(alloc),
+            bundles: Names::new(alloc),
         }
     }
 
     /// Notes a key of the renames that looks like a slip.
-    fn take_rename(&mut self, entry: &KeyLine) -> Result<(), Memory> {
+    fn take_rename(&mut self, entry: &KeyLine<'_>) -> Result<(), Memory> {
         let key = entry.key.as_bytes();
         match slip_of(key) {
             Some(Slip::Mark) => {
@@ -87,20 +107,16 @@ impl RuleNotes {
     }
 
     /// Notes each key that stands in a later line again.
-    fn take_twice(&mut self, name: &[u8], entries: &[KeyLine]) -> Result<(), Memory> {
-        let mut lines: BTreeMap<Text, u32> = BTreeMap::new(self.alloc);
-        for entry in entries {
-            if let Some(line) = lines.get(&entry.key) {
-                let place = place_text(self.alloc, name, *line, entry.key.as_bytes())?;
-                self.twice.take(self.alloc, place.as_bytes())?;
-            }
-            lines.insert(entry.key.clone()?, entry.line)?;
+    fn take_twice(&mut self, name: &[u8], entries: &[KeyLine<'_>]) -> Result<(), Memory> {
+        for entry in entries.iter().filter(|entry| entry.is_repeated) {
+            let place = place_text(self.alloc, name, entry.line, entry.key.as_bytes())?;
+            self.twice.take(self.alloc, place.as_bytes())?;
         }
         Ok(())
     }
 
     /// Notes a rule file: its name, its bytes, and its entries.
-    pub fn take(&mut self, name: &[u8], file: &[u8], entries: &[KeyLine]) -> Result<(), Memory> {
+    pub fn take(&mut self, name: &[u8], file: &[u8], entries: &[KeyLine<'_>]) -> Result<(), Memory> {
         self.take_twice(name, entries)?;
         if name == RENAMES {
             for entry in entries {
@@ -125,9 +141,34 @@ impl RuleNotes {
     }
 
     /// Notes a pattern of a rule file that fits no file.
-    pub fn take_unmet(&mut self, name: &[u8], entry: &KeyLine) -> Result<(), Memory> {
+    pub fn take_unmet(&mut self, name: &[u8], entry: &KeyLine<'_>) -> Result<(), Memory> {
         let place = place_text(self.alloc, name, entry.line, entry.key.as_bytes())?;
         self.unmet.take(self.alloc, place.as_bytes())
+    }
+
+    /// The names of the rules of a kind that nothing meets.
+    fn unmet_of(&mut self, kind: RuleKind) -> &mut Names {
+        match kind {
+            RuleKind::Rename => &mut self.renames,
+            RuleKind::Direct => &mut self.direct,
+            RuleKind::Version => &mut self.versions,
+            RuleKind::Bundle => &mut self.bundles,
+        }
+    }
+
+    /// Notes a rule that nothing meets.
+    fn take_rule(&mut self, rule: &SoughtRule) -> Result<(), Memory> {
+        let alloc = self.alloc;
+        let place = place_text(alloc, rule.kind.file(), rule.line, rule.key.as_bytes())?;
+        self.unmet_of(rule.kind).take(alloc, place.as_bytes())
+    }
+
+    /// Notes the rules that were looked for and that nothing meets.
+    pub fn take_sought(&mut self, sought: &Sought) -> Result<(), Memory> {
+        for rule in &sought.unmet()? {
+            self.take_rule(*rule)?;
+        }
+        Ok(())
     }
 
     /// Adds what was noted, in lines that begin with `migrate: `. The only error is want of memory.
@@ -136,6 +177,10 @@ impl RuleNotes {
         self.capitals.append_to(text, CAPITALS)?;
         self.twice.append_to(text, TWICE)?;
         self.unnamed.append_to(text, UNNAMED)?;
-        self.unmet.append_to(text, UNMET)
+        self.unmet.append_to(text, UNMET)?;
+        self.renames.append_to(text, UNMET_RENAMES)?;
+        self.direct.append_to(text, UNMET_DIRECT)?;
+        self.versions.append_to(text, UNMET_VERSIONS)?;
+        self.bundles.append_to(text, UNMET_BUNDLES)
     }
 }

@@ -1,6 +1,6 @@
 //! What is told behind the end of a run.
 
-use crate::looks::{front_of, paths_below};
+use crate::looks::{MOST_PATHS, front_of, paths_below};
 use crate::rules::{folder_notes, places_of, renames_below, run_notes};
 use crate::telling::{Told, tell, tell_again, tell_hint, tell_status, tell_text};
 use crate::words::rules_of;
@@ -48,7 +48,7 @@ fn tell_releases(rt: &HostRuntime, roots: &Roots, notes: &Notes) {
 
 /// How many files the target holds, at most 200,001.
 fn count_in(rt: &HostRuntime, to: &Text) -> usize {
-    match paths_below(rt, to, 200_000) {
+    match paths_below(rt, to, MOST_PATHS) {
         Some(paths) => paths.len(),
         None => usize::MAX,
     }

@@ -14,6 +14,7 @@ mod after;
 mod before;
 mod looks;
 mod rules;
+mod search;
 mod streams;
 mod telling;
 mod words;

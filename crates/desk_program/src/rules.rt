@@ -3,14 +3,17 @@
 ghost use Rattle.std.specs.Prelude.{◌≡◌};
 ghost use Rattle.desk_program.specs.ChainFiles.{first_file, second_file};
 
-use crate::looks::{front_of, paths_below};
+use crate::looks::{MOST_PATHS, front_of, paths_below};
+use crate::search::search;
 use desk_base::{MAX_RULE_FILE_SIZE, Memory, Text};
 use desk_notes::{
-    KeyLine, RuleNotes, key_lines, line_of_byte, line_of_key, place_text, special_patterns,
+    KeyLine, RuleKind, RuleNotes, Sought, is_for_any, key_lines, line_of_byte, line_of_key,
+    place_text, special_patterns, without_blanks,
 };
 use desk_properties::PropFault;
 use desk_rules::{ChainKind, RuleFault};
 use desk_words::Roots;
+use std::alloc::Global;
 
 const RENAMES: &[u8] = b"renames.properties";
 
@@ -30,92 +33,100 @@ const FILES: [&[u8]; 6] = [RENAMES, VERSIONS, BUNDLES, DIRECT, SELECTION, TEXT];
 /// How many files a rule folder has at most.
 const MOST_FILES: u32 = 1_000;
 
-/// How many files of the source are looked at.
-const MOST_PATHS: u32 = 200_000;
-
 /// The bytes of a rule file, at most 1,048,576.
 fn rule_file(rt: &HostRuntime, rules: &Text, name: &[u8]) -> Option<Text> {
     front_of(rt, rules, name, MAX_RULE_FILE_SIZE as u32)
 }
 
-/// The entries of a rule file; none of one that isn't there.
-fn entries_in(rt: &HostRuntime, rules: &Text, name: &[u8]) -> Result<Vec<KeyLine>, Memory> {
+/// The bytes of a rule file; none of one that isn't there.
+fn bytes_in(rt: &HostRuntime, rules: &Text, name: &[u8]) -> Text {
     match rule_file(rt, rules, name) {
-        Some(file) => key_lines(rt.alloc(), file.as_bytes()),
-        None => Ok(Vec::new(rt.alloc())),
-    }
-}
-
-/// A value without blanks at its end.
-fn without_blanks(value: &[u8]) -> &[u8] {
-    let last = value
-        .iter()
-        .rposition(|byte| !matches!(*byte, b' ' | b'\t' | 0x0C));
-    match last {
-        Some(last) => &value[..last + 1],
-        None => b"",
+        Some(file) => file,
+        None => Text::empty(rt.alloc()),
     }
 }
 
 /// Whether a file of the rule folder is read: by its name, or since `text.properties` names it.
-fn is_read(name: &[u8], texts: &[KeyLine]) -> bool {
+fn is_read(name: &[u8], texts: &[KeyLine<'_>]) -> bool {
     FILES.iter().any(|file| *file == name)
         || texts
             .iter()
             .any(|entry| without_blanks(entry.value.as_bytes()) == name)
 }
 
-/// Notes a file of the rule folder.
-fn note_file(
-    rt: &HostRuntime,
-    rules: &Text,
-    name: &[u8],
-    notes: &mut RuleNotes,
-) -> Result<(), Memory> {
-    match rule_file(rt, rules, name) {
-        Some(file) => {
-            let entries = key_lines(rt.alloc(), file.as_bytes())?;
-            notes.take(name, file.as_bytes(), &entries)
+/// What a second look at a rule folder finds.
+#[derive(Drop)]
+struct Looked {
+    notes: RuleNotes,
+    /// The rules that are looked for in the source.
+    source: Sought,
+    /// Those that are looked for in the target.
+    target: Sought,
+}
+
+impl Looked {
+    /// The rules that are looked for where those of this kind are.
+    fn sought(&mut self, kind: RuleKind) -> &mut Sought {
+        match kind {
+            RuleKind::Rename | RuleKind::Direct | RuleKind::Bundle => &mut self.source,
+            RuleKind::Version => &mut self.target,
         }
-        None => Ok(()),
+    }
+
+    /// Takes a rule file.
+    fn take(&mut self, alloc: Global, name: &[u8], file: &[u8]) -> Result<(), Memory> {
+        let entries = key_lines(alloc, file)?;
+        self.notes.take(name, file, &entries)?;
+        match RuleKind::of_file(name) {
+            Some(kind) if !is_for_any(file) => self.sought(kind).add(kind, &entries),
+            _ => Ok(()),
+        }
     }
 }
 
-/// Notes each file of the rule folder.
-fn note_files(rt: &HostRuntime, rules: &Text, notes: &mut RuleNotes) -> Result<(), Memory> {
-    let texts = entries_in(rt, rules, TEXT)?;
+/// Takes each file of the rule folder.
+fn take_files(rt: &HostRuntime, rules: &Text, looked: &mut Looked) -> Result<(), Memory> {
+    let texts = bytes_in(rt, rules, TEXT);
+    let texts = key_lines(rt.alloc(), texts.as_bytes())?;
     let Some(names) = paths_below(rt, rules, MOST_FILES) else {
         return Ok(());
     };
     for name in names.as_slice() {
-        if is_read(name.as_bytes(), &texts) {
-            note_file(rt, rules, name.as_bytes(), notes)?;
-        } else {
-            notes.take_unnamed(name.as_bytes())?;
+        let name = name.as_bytes();
+        if !is_read(name, &texts) {
+            looked.notes.take_unnamed(name)?;
+        } else if let Some(file) = rule_file(rt, rules, name) {
+            looked.take(rt.alloc(), name, file.as_bytes())?;
         }
     }
     Ok(())
 }
 
-/// What is noted of a rule folder.
-fn rules_noted(rt: &HostRuntime, rules: &Text) -> Result<RuleNotes, Memory> {
-    let mut notes = RuleNotes::new(rt.alloc());
-    note_files(rt, rules, &mut notes)?;
-    Ok(notes)
+/// What a second look at a rule folder finds.
+fn look_at(rt: &HostRuntime, rules: &Text) -> Result<Looked, Memory> {
+    let mut looked = Looked {
+        notes: RuleNotes::new(rt.alloc()),
+        source: Sought::new(rt.alloc()),
+        target: Sought::new(rt.alloc()),
+    };
+    take_files(rt, rules, &mut looked)?;
+    Ok(looked)
 }
 
 /// What is noted of a rule folder behind a run that it stood against.
 pub(crate) fn folder_notes(rt: &HostRuntime, rules: &Text) -> Result<Text, Memory> {
     let mut text = Text::empty(rt.alloc());
-    rules_noted(rt, rules)?.append_to(&mut text)?;
+    look_at(rt, rules)?.notes.append_to(&mut text)?;
     Ok(text)
 }
 
 /// Notes the patterns that speak of this application and fit nothing in it: those of a selection no path of the source, and those of
 /// texts none of the target either.
 fn note_patterns(rt: &HostRuntime, roots: &Roots, notes: &mut RuleNotes) -> Result<(), Memory> {
-    let selection = entries_in(rt, &roots.rules, SELECTION)?;
-    let texts = entries_in(rt, &roots.rules, TEXT)?;
+    let selection = bytes_in(rt, &roots.rules, SELECTION);
+    let texts = bytes_in(rt, &roots.rules, TEXT);
+    let selection = key_lines(rt.alloc(), selection.as_bytes())?;
+    let texts = key_lines(rt.alloc(), texts.as_bytes())?;
     let selection = special_patterns(rt.alloc(), &selection)?;
     let texts = special_patterns(rt.alloc(), &texts)?;
     if selection.is_empty() && texts.is_empty() {
@@ -130,18 +141,31 @@ fn note_patterns(rt: &HostRuntime, roots: &Roots, notes: &mut RuleNotes) -> Resu
     notes.take_patterns(TEXT, &texts, &[paths.as_slice(), targets.as_slice()])
 }
 
+/// Notes the rules that nothing in the source meets, or in the target. Of an application that can't be looked through nothing is noted.
+fn note_unmet(rt: &HostRuntime, roots: &Roots, looked: &mut Looked) -> Result<(), Memory> {
+    if let Some(()) = search(rt, &roots.from, &mut looked.source) {
+        looked.notes.take_sought(&looked.source)?;
+    }
+    if let Some(()) = search(rt, &roots.to, &mut looked.target) {
+        looked.notes.take_sought(&looked.target)?;
+    }
+    Ok(())
+}
+
 /// What is noted of the rules of a run that completed.
 pub(crate) fn run_notes(rt: &HostRuntime, roots: &Roots) -> Result<Text, Memory> {
     let mut text = Text::empty(rt.alloc());
-    let mut notes = rules_noted(rt, &roots.rules)?;
-    note_patterns(rt, roots, &mut notes)?;
-    notes.append_to(&mut text)?;
+    let mut looked = look_at(rt, &roots.rules)?;
+    note_patterns(rt, roots, &mut looked.notes)?;
+    note_unmet(rt, roots, &mut looked)?;
+    looked.notes.append_to(&mut text)?;
     Ok(text)
 }
 
 /// Whether a rename has a key that begins so.
 pub(crate) fn renames_below(rt: &HostRuntime, rules: &Text, front: &[u8]) -> Result<bool, Memory> {
-    let renames = entries_in(rt, rules, RENAMES)?;
+    let renames = bytes_in(rt, rules, RENAMES);
+    let renames = key_lines(rt.alloc(), renames.as_bytes())?;
     Ok(
         renames
             .iter()
@@ -181,43 +205,50 @@ fn second_file(kind: ChainKind) -> &'static [u8]
     }
 }
 
-/// Adds the line of a place in a rule file.
-fn append_place(text: &mut Text, place: &Text) -> Result<(), Memory> {
-    text.append(b"migrate:   ")?;
-    text.append(place.as_bytes())?;
-    text.append(b"\n")
+/// Where in a rule file something stands.
+#[derive(Clone, Copy)]
+enum Position<'a> {
+    /// At a key.
+    Key(&'a [u8]),
+    /// At a byte, by its offset.
+    Byte(u32),
 }
 
-/// Adds the place of a key in a rule file, where it is found.
-fn append_key(
-    rt: &HostRuntime,
-    rules: &Text,
-    file: &[u8],
-    key: &[u8],
-    text: &mut Text,
-) -> Result<(), Memory> {
-    let entries = entries_in(rt, rules, file)?;
-    match line_of_key(&entries, key) {
-        Some(line) => append_place(text, &place_text(rt.alloc(), file, line, key)?),
-        None => Ok(()),
-    }
-}
-
-/// Adds the line of a byte of a rule file.
-fn append_byte(
-    rt: &HostRuntime,
-    rules: &Text,
-    file: &[u8],
-    at: u32,
-    text: &mut Text,
-) -> Result<(), Memory> {
-    match rule_file(rt, rules, file) {
-        Some(found) => {
-            let line = line_of_byte(found.as_bytes(), at as usize);
-            append_place(text, &place_text(rt.alloc(), file, line, b"")?)
+impl<'a> Position<'a> {
+    /// The number of its line; none of a key that isn't there.
+    fn line_in(self, alloc: Global, file: &[u8]) -> Result<Option<u32>, Memory> {
+        match self {
+            Position::Key(key) => Ok(line_of_key(&key_lines(alloc, file)?, key)),
+            Position::Byte(at) => Ok(Some(line_of_byte(file, at as usize))),
         }
-        None => Ok(()),
     }
+
+    /// The key that is told of it.
+    fn key(self) -> &'a [u8] {
+        match self {
+            Position::Key(key) => key,
+            Position::Byte(_) => b"",
+        }
+    }
+}
+
+/// Adds the place of a position in a rule file, where it is found.
+fn append_place(
+    rt: &HostRuntime,
+    rules: &Text,
+    file: &[u8],
+    position: Position<'_>,
+    text: &mut Text,
+) -> Result<(), Memory> {
+    let Some(found) = rule_file(rt, rules, file) else {
+        return Ok(());
+    };
+    let Some(line) = position.line_in(rt.alloc(), found.as_bytes())? else {
+        return Ok(());
+    };
+    text.append(b"migrate:   ")?;
+    text.append(place_text(rt.alloc(), file, line, position.key())?.as_bytes())?;
+    text.append(b"\n")
 }
 
 /// At which byte a file isn't one of properties.
@@ -233,21 +264,25 @@ pub(crate) fn places_of(rt: &HostRuntime, rules: &Text, fault: &RuleFault) -> Re
     match fault {
         RuleFault::NoRenames => {}
         RuleFault::Properties { file, fault } => {
-            append_byte(rt, rules, file.as_bytes(), byte_of(*fault), &mut text)?;
+            let position = Position::Byte(byte_of(*fault));
+            append_place(rt, rules, file.as_bytes(), position, &mut text)?;
         }
         RuleFault::BadKey { file, key } | RuleFault::BadValue { file, key } => {
-            append_key(rt, rules, file.as_bytes(), key.as_bytes(), &mut text)?;
+            let position = Position::Key(key.as_bytes());
+            append_place(rt, rules, file.as_bytes(), position, &mut text)?;
         }
         RuleFault::MissingText { key, .. } => {
-            append_key(rt, rules, TEXT, key.as_bytes(), &mut text)?;
+            append_place(rt, rules, TEXT, Position::Key(key.as_bytes()), &mut text)?;
         }
         RuleFault::Chain {
             kind,
             first,
             second,
         } => {
-            append_key(rt, rules, first_file(*kind), first.as_bytes(), &mut text)?;
-            append_key(rt, rules, second_file(*kind), second.as_bytes(), &mut text)?;
+            let position = Position::Key(first.as_bytes());
+            append_place(rt, rules, first_file(*kind), position, &mut text)?;
+            let position = Position::Key(second.as_bytes());
+            append_place(rt, rules, second_file(*kind), position, &mut text)?;
         }
     }
     Ok(text)

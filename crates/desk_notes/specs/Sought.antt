@@ -1,0 +1,16 @@
+-- Rules that are looked for.
+use Rattle.std.specs.Prelude.{ℕ, codes, ◌==◌, if◌then◌else◌}
+use Rattle.desk_base.specs.Names.{Text}
+use Rattle.desk_notes.specs.declared.sought.RuleKind.{RuleKind}
+use Rattle.desk_notes.specs.declared.sought.RuleKind.TheVariants as kind
+
+-- the rule file of a kind of rules
+abbrev pub file_of : RuleKind → Text
+file_of kind.Rename = codes "renames.properties"
+file_of kind.Direct = codes "direct.properties"
+file_of kind.Version = codes "versions.properties"
+file_of kind.Bundle = codes "bundles.properties"
+
+-- a byte with `/` for `.`
+abbrev pub slashed_byte : ℕ → ℕ
+slashed_byte b = if b == 46 then 47 else b
