@@ -1,6 +1,6 @@
 //! Files under another name than that of their path: a disk may take upper and lower case for the same.
 
-ghost use Rattle.std.specs.Prelude.{◌≡◌, ◌≢◌, ◌+◌, ◌-◌, ◌≤◌, ◌<◌, ◌↔◌, ◌⊎◌, Some, None, IsTrue};
+ghost use Rattle.std.specs.Prelude.{◌≡◌, ◌+◌, ◌-◌, ◌≤◌, ◌<◌, ◌↔◌, ◌⊎◌, Some, None, IsTrue};
 
 use crate::guard::start_of;
 use crate::open::fault_of;
