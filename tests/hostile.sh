@@ -5,7 +5,7 @@
 # cause is gone a run brings the target to that of a run that never met it. The expected lines are written by hand.
 #
 # Usage: tests/hostile.sh [COUNT], where COUNT is how many empty files the largest source has: 100,000 where it isn't given, none for
-# 0. It needs python3; what else a case needs (the root user, strace) is told where the case is skipped.
+# 0. It needs python3; what else a case needs (the root user, strace, gcc) is told where the case is skipped.
 set -u
 if [ "$(id -u)" = 0 ] && [ -z "${own_mounts:-}" ] && unshare -m true 2>/dev/null; then
   # What is mounted here goes with this script.
@@ -37,7 +37,7 @@ clear_place() {
 # fresh: rules, an application, and nothing else but the target that a run makes of them
 fresh() {
   clear_place
-  find . -mindepth 1 -maxdepth 1 ! -name wanted -exec rm -rf {} +
+  find . -mindepth 1 -maxdepth 1 ! -name wanted ! -name wanted.so -exec rm -rf {} +
   cp -r "$examples/rules" "$examples/app" .
   seq 60000 >app/large.txt
   ledger=ledger expected=
@@ -336,6 +336,101 @@ for kind in 'a link to nowhere' 'a link to itself' 'a pipe' 'a socket' 'a charac
   gone "$kind as the target"
 done
 
+# ---- a disk that takes upper and lower case for the same
+
+# A library that is loaded before the C library makes `to` one: each part of a path below it is taken for the entry that it equals but
+# for case.
+cat >folding.c <<'C'
+#define _GNU_SOURCE
+#include <dirent.h>
+#include <dlfcn.h>
+#include <fcntl.h>
+#include <stdarg.h>
+#include <string.h>
+#include <strings.h>
+#include <sys/stat.h>
+
+static const char *found(const char *path, char *out) {
+    if (strncmp(path, "to/", 3) != 0) {
+        return path;
+    }
+    strcpy(out, "to");
+    for (const char *part = path + 3; *part != 0; part += *part == '/') {
+        char name[4096];
+        size_t length = strcspn(part, "/");
+        memcpy(name, part, length);
+        name[length] = 0;
+        DIR *folder = opendir(out);
+        struct dirent *entry = NULL;
+        while (folder != NULL && (entry = readdir(folder)) != NULL && strcasecmp(entry->d_name, name) != 0) {
+        }
+        strcat(strcat(out, "/"), entry != NULL ? entry->d_name : name);
+        if (folder != NULL) {
+            closedir(folder);
+        }
+        part += length;
+    }
+    return out;
+}
+
+int openat(int fd, const char *path, int flags, ...) {
+    char out[8192];
+    va_list rest;
+    va_start(rest, flags);
+    int mode = va_arg(rest, int);
+    va_end(rest);
+    int (*next)(int, const char *, int, ...) = dlsym(RTLD_NEXT, "openat");
+    return next(fd, found(path, out), flags, mode);
+}
+
+int open(const char *path, int flags, ...) {
+    va_list rest;
+    va_start(rest, flags);
+    int mode = va_arg(rest, int);
+    va_end(rest);
+    return openat(AT_FDCWD, path, flags, mode);
+}
+
+int statx(int fd, const char *path, int flags, unsigned mask, struct statx *to) {
+    char out[8192];
+    int (*next)(int, const char *, int, unsigned, struct statx *) = dlsym(RTLD_NEXT, "statx");
+    return next(fd, found(path, out), flags, mask, to);
+}
+
+int mkdir(const char *path, mode_t mode) {
+    char out[8192];
+    int (*next)(const char *, mode_t) = dlsym(RTLD_NEXT, "mkdir");
+    return next(found(path, out), mode);
+}
+
+int unlink(const char *path) {
+    char out[8192];
+    int (*next)(const char *) = dlsym(RTLD_NEXT, "unlink");
+    return next(found(path, out));
+}
+C
+if gcc -shared -fPIC -o /dev/null folding.c -ldl 2>/dev/null; then
+  gcc -shared -fPIC -o wanted.so folding.c -ldl
+  for pair in 'One.txt one.txt' 'One/same.txt one/same.txt' 'x/One/1 x/one/1'; do
+    read -r first second <<<"$pair"
+    fresh; named "$first"; named "$second"
+    as="env LD_PRELOAD=$place/wanted.so"
+    for time in 'first' 'second'; do
+      over
+      check "$second beside $first on a disk that folds, $time run: status" 11 "$status"
+      has "$second beside $first on a disk that folds, $time run" "migrate: making to/$second: the disk takes it for a file of another name that is there"
+      check "$second beside $first on a disk that folds, $time run: the first stays" "$first" "$(cat "to/$first")"
+    done
+    rm "app/$second"; rm ledger
+    over
+    check "$first alone on a disk that folds: it is made anew" 0 "$status"
+    check "$first alone on a disk that folds: with its content" "$first" "$(cat "to/$first")"
+    as=
+  done
+else
+  skip 'a disk that takes upper and lower case for the same' 'it needs gcc'
+fi
+
 # ---- disks
 
 mkdir disk
@@ -616,6 +711,22 @@ if command -v strace >/dev/null; then
     'rm -r app/META-INF; printf x >app/META-INF'
   changing 'a source that is removed' 11 "$fault" 'migrate: reading app/META-INF/MANIFEST.MF: No such file or directory' 'rm -r app'
 
+  # Between the look at a file and its opening, at the first reading and at the second. The first look is that of the listing.
+  for number in 2 3; do
+    for kind in 'a character device' 'another file'; do
+      fresh; printf 'more' >odd
+      [ "$kind" = 'another file' ] || { rm odd; odd "$kind" odd; } || continue
+      paused statx "$number" app/readme.txt || continue
+      mv app/readme.txt old; mv odd app/readme.txt
+      resumed
+      check "$kind behind look $number: status" 11 "$status"
+      has "$kind behind look $number" 'migrate: reading app/readme.txt: another file took its place while it was opened'
+      check "$kind behind look $number: a true ledger, and images" '' "$(seen | grep -v '^other readme.txt$')"
+      mv old app/readme.txt
+      gone "$kind behind look $number"
+    done
+  done
+
   # While a file of several parts is read: at its first reading, and at its second, from which its target is written.
   for change in 'printf more >>app/large.txt' 'truncate -s 1500000 app/large.txt' \
     'printf J | dd of=app/large.txt bs=1 seek=3000000 conv=notrunc status=none'; do
@@ -679,6 +790,11 @@ fresh; ln -s nowhere app/link; "$program" $words >&- 2>err; status=$?
 check 'a fault without output' 11 "$status"
 has 'a fault without output: which' "migrate: listing app/link: $link"
 
+fresh; migrate run --rules rules --from app --to to --ledger ledger "--verify=$(printf '\033')[2J"
+check 'a word with an escape: status' 20 "$status"
+has 'a word with an escape: it is told as paths are' '\1b[2J'
+check 'a word with an escape: none is written' 0 "$(LC_ALL=C grep -c "$(printf '\033')" err)"
+
 # ---- little memory, and few files at once
 
 # bounded NAME: a run in bounds ended well, or with the line of a status by name, and leaves a true ledger
@@ -714,6 +830,22 @@ for files in $(seq 3 12); do
   # With so few the system can't load it.
   [ "$status" = 127 ] || bounded "$files open files"
 done
+
+# With little memory the workers are fewer: where one is enough, 64 are.
+fresh
+for i in $(seq 3000); do mkdir -p "app/l$i.jar/web"; cp app/WEB-INF/classes/web/Hello.class "app/l$i.jar/web"; done
+mv wanted old; over; mv to wanted
+for kib in 100000 200000 400000; do
+  ends=
+  for i in $(seq 20); do
+    rm -rf to ledger
+    (ulimit -v $kib; exec "$program" $words --workers 64) >out 2>err
+    ends+="$? "
+  done
+  check "64 workers in $kib KiB: each of 20 runs" "$(printf '0 %.0s' $(seq 20))" "$ends"
+  check "64 workers in $kib KiB: the same target" '' "$(diff -r wanted to 2>&1)"
+done
+rm -rf wanted; mv old wanted
 
 # ---- many files
 

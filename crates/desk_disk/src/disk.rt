@@ -33,9 +33,10 @@ pub struct Faults {
 ///
 /// The file that is read, and the one that is written, stay open until another path is read or written, so that the next
 /// part needs no look-up; both are closed where a file is created. What stands at a path that is read must be a file: a pipe there, or a device, is a fault and is not
-/// waited for. What stands at a path that is created is taken away and the file is made anew: a link, a
-/// pipe or a device there is replaced, and never written through. A folder there is a fault, and so is a link in
-/// place of a folder below the target that `keep_within` names.
+/// waited for, and what is open must be the file that was found there. What stands at a path that is created is taken away and the file
+/// is made anew: a link, a pipe or a device there is replaced, and never written through. A folder there is a fault, and so is a link in
+/// place of a folder below the target that `keep_within` names, and below it a file that has another name on the disk, as on one that
+/// takes upper and lower case for the same.
 #[derive(Drop)]
 pub struct DiskFolders<'r> {
     rt: &'r HostRuntime,
@@ -215,7 +216,7 @@ impl<'r> DiskFolders<'r> {
         self.reading = None;
         self.writing = None;
         self.look(path)?;
-        let file = Writing::create(self.rt, path)?;
+        let file = Writing::create(self.rt, &self.target, path)?;
         self.progress.note_made(self.rt);
         self.writing = Some(file);
         Ok(())

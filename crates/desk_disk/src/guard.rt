@@ -9,7 +9,7 @@ use desk_faults::{Cause, Refusal};
 use std::fs;
 
 /// Where the paths below a root begin to be looked at: behind the root.
-fn start_of(root: &str) -> usize {
+pub(crate) fn start_of(root: &str) -> usize {
     if root == "." || root == "/" {
         0
     } else {

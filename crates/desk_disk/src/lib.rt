@@ -13,6 +13,7 @@
 
 mod disk;
 mod guard;
+mod naming;
 mod open;
 mod progress;
 mod walk;

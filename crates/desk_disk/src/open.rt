@@ -7,16 +7,17 @@ ghost use Rattle.std.specs.Fs.{IsDir, IsFile, IsSymlink, file_type, metadata_len
 ghost use Rattle.std.specs.Str.{IsUtf8};
 ghost use Rattle.desk_faults.specs.declared.causes.Cause.TheVariants as cause;
 
+use crate::naming::is_of_another_name;
 use desk_base::Text;
 use desk_faults::{Cause, Refusal, refusal_of};
+use desk_places::Node;
 use std::alloc::Global;
 use std::fs::{self, File, FileType, Metadata, OpenOptions};
 use std::io::{self, ErrorKind, Read, Seek, SeekFrom, Write};
 use std::path::Path;
 use std::str;
 
-/// A file that is open to be read: its path, how many bytes it had just before it was opened, and the byte that is
-/// read next.
+/// A file that is open to be read: its path, how many bytes it had as it was opened, and the byte that is read next.
 #[derive(Drop)]
 pub(crate) struct Reading {
     path: Text,
@@ -145,16 +146,31 @@ pub(crate) fn size_of(rt: &HostRuntime, path: &Text) -> Result<Option<u64>, Refu
     size_in(fs::symlink_metadata(rt, text_of(path)?))
 }
 
-/// Opens a file, to be read from a byte on, and answers how many bytes it had just before. What stands at the path is looked at
-/// first, since opening a pipe waits for its other end.
+/// Why what is open isn't read: it must be the file that was found at its path just before.
+fn same_file(found: Node, opened: Node, kind: FileType) -> Result<(), Cause>
+    ensures same { found ≡ opened → IsFile kind → result ≡ Ok tt }
+    ensures another { found ≢ opened → result ≡ Err cause.Exchanged }
+    ensures no_file { ¬ IsFile kind → result ≡ Err cause.Exchanged }
+{
+    if found == opened && kind.is_file() {
+        Ok(())
+    } else {
+        Err(Cause::Exchanged)
+    }
+}
+
+/// Opens a file, to be read from a byte on, and answers how many bytes it has. What stands at the path is looked at first, since
+/// opening a pipe waits for its other end; what is open then is compared with it.
 fn open_at(rt: &HostRuntime, path: &str, at: u64) -> Result<(File, u64), Refusal> {
     let found = fs::symlink_metadata(rt, path).map_err(fault_of)?;
     file_in(found.file_type())?;
     let mut file = File::open(rt, path).map_err(fault_of)?;
+    let opened = file.metadata().map_err(fault_of)?;
+    same_file(Node::of(&found), Node::of(&opened), opened.file_type())?;
     if at > 0 {
         file.seek(SeekFrom::Start(at)).map_err(fault_of)?;
     }
-    Ok((file, found.len()))
+    Ok((file, opened.len()))
 }
 
 impl Reading {
@@ -203,14 +219,33 @@ fn make_parents(rt: &HostRuntime, path: &str) -> io::Result<()> {
     }
 }
 
-/// Makes a file that wasn't there. Where something is, or a folder on the way isn't, the first try fails.
-fn create_anew(rt: &HostRuntime, path: &str) -> io::Result<File> {
-    match File::create_new(rt, path) {
-        Err(error) if error.kind() == ErrorKind::AlreadyExists => fs::remove_file(rt, path)?,
-        Err(error) if error.kind() == ErrorKind::NotFound => make_parents(rt, path)?,
-        made => return made,
+/// Takes away what stands where a file is made, unless it has another name there.
+fn take_away(rt: &HostRuntime, root: Option<&str>, path: &str) -> Result<(), Refusal> {
+    match root {
+        Some(root) if is_of_another_name(rt, root, path)? => Err(Refusal::Failed(Cause::OtherName)),
+        _ => fs::remove_file(rt, path).map_err(fault_of),
     }
-    File::create_new(rt, path)
+}
+
+/// Makes a file that wasn't there. Where something is, or a folder on the way isn't, the first try fails.
+fn create_anew(rt: &HostRuntime, root: Option<&str>, path: &str) -> Result<File, Refusal> {
+    match File::create_new(rt, path) {
+        Ok(file) => return Ok(file),
+        Err(error) if error.kind() == ErrorKind::AlreadyExists => take_away(rt, root, path)?,
+        Err(error) if error.kind() == ErrorKind::NotFound => {
+            make_parents(rt, path).map_err(fault_of)?;
+        }
+        Err(error) => return Err(fault_of(error)),
+    }
+    File::create_new(rt, path).map_err(fault_of)
+}
+
+/// A root as the system takes it, where there is one.
+fn root_text(root: &Option<Text>) -> Result<Option<&str>, Refusal> {
+    match root {
+        Some(root) => Ok(Some(text_of(root)?)),
+        None => Ok(None),
+    }
 }
 
 impl Writing {
@@ -226,11 +261,16 @@ impl Writing {
         Ok(Writing { path, file })
     }
 
-    /// Makes the file at a path anew, in place of what stands there, and the folders on the way.
-    pub(crate) fn create(rt: &HostRuntime, path: &Text) -> Result<Writing, Refusal>
+    /// Makes the file at a path anew, in place of what stands there, and the folders on the way. Below this root what has another name
+    /// there stays, and no file is made.
+    pub(crate) fn create(
+        rt: &HostRuntime,
+        root: &Option<Text>,
+        path: &Text,
+    ) -> Result<Writing, Refusal>
         ensures { IfOk result (λ file. file.path ≡ path.now) }
     {
-        let file = create_anew(rt, text_of(path)?).map_err(fault_of)?;
+        let file = create_anew(rt, root_text(root)?, text_of(path)?)?;
         let path = path.clone()?;
         Ok(Writing { path, file })
     }

@@ -18,6 +18,10 @@ pub enum Cause {
     Folder,
     /// What stands there is neither a file nor a folder: a pipe, a device or a socket.
     Special,
+    /// Another file stands at the path than the one that was found there just before it was opened.
+    Exchanged,
+    /// A file that the disk takes for one of another name, as one that differs in upper and lower case alone.
+    OtherName,
     /// A path that isn't UTF-8.
     NotText,
     /// A folder that holds more than 1,000,000 entries, folders included.
@@ -38,6 +42,8 @@ pub enum Cause {
     Unopened,
     /// A statement that the database refused.
     Statement,
+    /// A ledger that standard output or standard error is written into.
+    Stream,
 }
 
 impl Cause {
@@ -48,6 +54,8 @@ impl Cause {
             Cause::Link => b"it is a symbolic link, which isn't followed",
             Cause::Folder => b"it is a folder",
             Cause::Special => b"it is neither a file nor a folder",
+            Cause::Exchanged => b"another file took its place while it was opened",
+            Cause::OtherName => b"the disk takes it for a file of another name that is there",
             Cause::NotText => b"the path isn't UTF-8",
             Cause::Entries => b"it holds more than 1,000,000 entries",
             Cause::Twice => b"it was found twice, or its name is no name of a file",
@@ -58,6 +66,7 @@ impl Cause {
             Cause::Full => b"No space left on device",
             Cause::Unopened => b"it can't be opened or made",
             Cause::Statement => b"the database refused it",
+            Cause::Stream => b"standard output or standard error is written into it",
         }
     }
 

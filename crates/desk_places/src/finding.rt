@@ -9,10 +9,13 @@ use std::os::unix::fs::MetadataExt;
 use std::path::{Path, PathBuf};
 use std::str;
 
-fn node_of(found: &Metadata) -> Node {
-    Node {
-        device: found.dev(),
-        inode: found.ino(),
+impl Node {
+    /// The node of what was found.
+    pub fn of(found: &Metadata) -> Node {
+        Node {
+            device: found.dev(),
+            inode: found.ino(),
+        }
     }
 }
 
@@ -32,7 +35,7 @@ fn found_at(rt: &HostRuntime, path: &str) -> io::Result<Option<Metadata>> {
 fn nodes_above(rt: &HostRuntime, path: &PathBuf) -> io::Result<Vec<Node>> {
     let mut above = Vec::new(rt.alloc());
     for folder in Path::new(path.as_str()).ancestors().skip(1) {
-        above.push(node_of(&fs::metadata(rt, folder)?))?;
+        above.push(Node::of(&fs::metadata(rt, folder)?))?;
     }
     Ok(above)
 }
@@ -59,7 +62,7 @@ fn place_behind(
     let above = nodes_above(rt, &real)?;
     match segments_behind(rt.alloc(), behind.as_bytes()) {
         Ok(rest) => Ok(Some(Place {
-            nearest: node_of(found),
+            nearest: Node::of(found),
             above,
             rest,
         })),
