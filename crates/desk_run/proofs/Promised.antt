@@ -121,6 +121,8 @@ renames_classes asked m0 l0 m l d =
     record {
       roots = d.runs.roots;
       ruled = d.runs.ruled;
+      asks = d.runs.asks;
+      rules = d.runs.rules;
       is = d.ready.is ∙ ap Ok d.runs.is;
       classes = λ before rest file image e selected is truth.
           class_of_run d.runs.ruled.rules file image _ d.runs.are.settled (all_among before rest file (subst (All (λ (f : File). IsBytes f.bytes)) e bytes)) selected

@@ -22,6 +22,7 @@ use Rattle.desk_batches.specs.declared.noted.Noted.{Noted}
 use Rattle.desk_batches.specs.declared.noted.Outcome.{Outcome}
 use Rattle.desk_batches.specs.declared.stops.Stop.TheVariants as stop
 use Rattle.desk_words.specs.declared.roots.Roots.{Roots}
+use Rattle.desk_intake.specs.Rulings.{ruled as ruled_of}
 use Rattle.desk_intake.specs.declared.rules.Ruled.{Ruled}
 use Rattle.desk_intake.specs.declared.halts.Halt.{Halt}
 use Rattle.desk_intake.specs.declared.halts.Halt.TheVariants as halt
@@ -68,6 +69,7 @@ pub record AreRead (rules : Rules) (from : Text) (m : Contents) (files : List Me
 
 -- what was gathered where the folders tell this
 pub record GatheredFrom (names : Roots) (m : Contents) (gathered : Gathered) : Type 0 where
+  pub rules : ruled_of names.rules (files_below names.rules m) ≡ Ok gathered.ruled.value
   pub run : run_of_asked (asked_roots names) m ≡ Ok (run_of names gathered.ruled.value m)
   pub files : AreRead gathered.ruled.value.rules names.from m gathered.notes.files.items gathered.notes.scanned.items
 
@@ -80,10 +82,12 @@ pub record HasGathered (names : Roots) (told : Option Contents) (gathered : Gath
   pub few_classes : length gathered.notes.scanned.items < 2 ^ 32
   pub told_of : IfSome told (λ m. GatheredFrom names m gathered)
 
--- a run by a rule set, whose files are bytes
-pub record RunsOn (run : Run) (m : Contents) : Type 0 where
+-- the run that was asked for, by the rule set of the files below its rule root; its files are bytes
+pub record RunsOn (asked : Asked) (run : Run) (m : Contents) : Type 0 where
   pub roots : Roots
   pub ruled : Ruled
+  pub asks : asked ≡ Ok roots
+  pub rules : ruled_of roots.rules (files_below roots.rules m) ≡ Ok ruled
   pub is : run ≡ run_of roots ruled m
   pub are : AreRules ruled.rules
   pub bytes : All (λ (file : File). IsBytes file.bytes) (files_below run.from m)
@@ -92,7 +96,7 @@ pub record RunsOn (run : Run) (m : Contents) : Type 0 where
 pub record Planned (asked : Asked) (m : Contents) (l : Ledger) (to : Text) (header : Header) (works : List Work) : Type 0 where
   pub run : Run
   pub ready : IsReady asked m run
-  pub runs : RunsOn run m
+  pub runs : RunsOn asked run m
   pub to_is : to ≡ run.to
   pub header_is : header ≡ run.header
   pub other : other_run run.header l.header ≡ None
@@ -189,7 +193,7 @@ pub record StandsSomewhere (asked : Asked) (m0 : Contents) (l0 : Ledger) (m : Co
 pub record IsDone (asked : Asked) (m0 : Contents) (l0 : Ledger) (m : Contents) (l : Ledger) : Type 0 where
   pub run : Run
   pub ready : IsReady asked m0 run
-  pub runs : RunsOn run m0
+  pub runs : RunsOn asked run m0
   pub stands : Between run m0 l0 m l (length (files_below run.from m0))
 
 -- what became of each file of a run whose files are all done
