@@ -1,5 +1,5 @@
 -- The file at which a run stops while it writes.
-use Rattle.std.proofs.Common.{◌≡◌, ℕ, zero, suc, ◌+◌, ◌-◌, ◌<◌, ◌⊎◌, inl, inr, List, [], ◌∷◌, ◌++◌, Option, refl, sym, ap, ◌∙◌, subst, take, drop, length, length-append, zero-add, get_or, arith}
+use Rattle.std.proofs.Common.{◌≡◌, ℕ, zero, suc, ◌+◌, ◌-◌, ◌<◌, ◌⊎◌, inl, inr, List, [], ◌∷◌, Option, refl, sym, ap, ◌∙◌, subst, take, drop, length, length-append, zero-add, get_or, arith}
 use Rattle.std.specs.Prelude.{All, IfErr, IfSome, IsSomeAnd, OnErr, Result, Ok, Err, slice_get, cond}
 use Rattle.std.specs.List.{IsSplitAt, slice_range}
 use Rattle.std.proofs.lemmas.List.{take-append-drop}
