@@ -33,7 +33,7 @@ use Rattle.desk_run.specs.Reports.{ending_by, report, report_by, summary_by, sum
 use Rattle.desk_run.specs.Notes.{IsRead, measured_of}
 use Rattle.desk_run.specs.declared.gather.Gathered.{Gathered}
 use Rattle.desk_run.specs.Stops.{StopsAt, status_of_halt}
-use Rattle.desk_run.specs.Stands.{Unchanged, Between, Within}
+use Rattle.desk_run.specs.Stands.{Unchanged, Between, NextIsFresh, Within}
 use Rattle.desk_run.specs.Asked.{Asked, asked_roots}
 use Rattle.desk_run.specs.Meaning.{header_of, run_of, run_of_asked}
 use Rattle.desk_intake.specs.Standing.{names_answer}
@@ -185,6 +185,15 @@ pub record HasBegun (asked : Asked) (m0 : Contents) (l0 : Ledger) (m : Contents)
 abbrev pub StandsAt : Asked → Contents → Ledger → Contents → Ledger → ℕ → Type 0
 StandsAt asked m0 l0 m l done = Unchanged m0 l0 m l done ⊎ HasBegun asked m0 l0 m l done
 
+-- no file is done, or the next one isn't kept
+abbrev pub ComesAtFresh : Asked → Contents → Ledger → ℕ → Type 0
+ComesAtFresh asked m0 l0 done = (done ≡ 0) ⊎ IsOkAnd (run_of_asked asked m0) (λ run. NextIsFresh run m0 l0 done)
+
+-- where a run stands that the folders stopped
+pub record StandsAtFresh (asked : Asked) (m0 : Contents) (l0 : Ledger) (m : Contents) (l : Ledger) (done : ℕ) : Type 0 where
+  pub stands : StandsAt asked m0 l0 m l done
+  pub fresh : ComesAtFresh asked m0 l0 done
+
 pub record StandsSomewhere (asked : Asked) (m0 : Contents) (l0 : Ledger) (m : Contents) (l : Ledger) : Type 0 where
   pub done : ℕ
   pub stands : StandsAt asked m0 l0 m l done
@@ -210,7 +219,7 @@ StandsAfter asked m0 l0 m l Refusals = IsDone asked m0 l0 m l
 StandsAfter asked m0 l0 m l OutputFault = IsDone asked m0 l0 m l
 StandsAfter asked m0 l0 m l Memory = StandsSomewhere asked m0 l0 m l
 StandsAfter asked m0 l0 m l (Moved path first second) = StandsSomewhere asked m0 l0 m l
-StandsAfter asked m0 l0 m l (FolderFault done) = StandsAt asked m0 l0 m l done
+StandsAfter asked m0 l0 m l (FolderFault done) = StandsAtFresh asked m0 l0 m l done
 StandsAfter asked m0 l0 m l (LedgerFault done) = StandsAt asked m0 l0 m l done
 StandsAfter asked m0 l0 m l _ = Unchanged m0 l0 m l 0
 
