@@ -30,7 +30,7 @@ migrated_parts : (xs front back : List Noted) (n : ℕ) → IsSplitAt xs n front
 migrated_parts xs front back n split =
     ap migrated (sym (take-append-drop n xs)) ∙ migrated_append (take n xs) (drop n xs) ∙ ap (λ ys. migrated ys ++ migrated (drop n xs)) (sym split.1) ∙ ap (λ ys. migrated front ++ migrated ys) (sym split.2)
 
-count_parts : (xs front back : List Noted) (n : ℕ) → IsSplitAt xs n front back → length (migrated xs) ≡ length (migrated front) + length (migrated back)
+pub count_parts : (xs front back : List Noted) (n : ℕ) → IsSplitAt xs n front back → length (migrated xs) ≡ length (migrated front) + length (migrated back)
 count_parts xs front back n split = ap length (migrated_parts xs front back n split) ∙ length-append (migrated front) (migrated back)
 
 -- ---- images of files from here on, of which the first slice was read

@@ -1,4 +1,5 @@
 pub mod Works
 pub mod Notes
 pub mod Stops
+pub mod Fresh
 pub mod Turns

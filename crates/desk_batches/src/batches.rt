@@ -1,12 +1,13 @@
 //! Takes the files in batches, each of which is read once more, migrated and written.
 
-ghost use Rattle.std.specs.Prelude.{All, ◌≡◌, ◌≢◌, ◌⊎◌, ◌≤◌, ◌<◌, ◌^◌, ◌+◌, ◌++◌, ◌∷◌, [], true, vec_len, vec_capacity, option_map, Some, None, Ok, Err, OnOk, OnErr, IfOk, IfErr, IfSome, IsSome, IsTrue, drop, length, map, take};
+ghost use Rattle.std.specs.Prelude.{All, ◌≡◌, ◌≢◌, ◌⊎◌, ◌≤◌, ◌<◌, ◌^◌, ◌+◌, ◌++◌, ◌∷◌, [], true, vec_len, vec_capacity, slice_get, option_map, Some, None, Ok, Err, OnOk, OnErr, IfOk, IfErr, IfSome, IsSome, IsTrue, drop, length, map, take};
 ghost use Rattle.std.specs.List.{slice_range, sum_by};
 ghost use Rattle.desk_base.specs.Limits.{file_size};
 ghost use Rattle.desk_file.specs.Linked.{image_in};
 ghost use Rattle.desk_file.specs.Routes.{IsRouteBy};
 ghost use Rattle.desk_batches.specs.Notes.{IsNoteOf, IsSound};
 ghost use Rattle.desk_batches.specs.Stops.{HasCause, StoppedAt};
+ghost use Rattle.desk_batches.specs.Fresh.{IsNotKept, StopsAtFresh};
 ghost use Rattle.desk_batches.specs.Turns.{SourceStays, fitting, image_here, migrated, outcome_of, weight_of, works_in};
 ghost use Rattle.desk_batches.specs.Works.{files_after, ledger_after};
 ghost use Rattle.desk_words.specs.Roots.{IsPathRoot, RootsApart};
@@ -54,6 +55,7 @@ fn kept_at_head(batch: &[Noted]) -> usize
     requires { 0 < length batch.now }
     ensures inside { result < length batch.now }
     ensures kept { All (λ noted. noted.way ≡ Way.Keep) (take result batch.now) }
+    ensures next { result + 1 < length batch.now → IfSome (slice_get batch.now result) IsNotKept }
 {
     let mut kept = 0;
     while kept + 1 < batch.len() && batch[kept].way == Way::Keep {
@@ -96,6 +98,7 @@ fn write_batch<R: Threads + Sync, F: Folders, K: Keeper, G: Gate + Sync>(
     ensures capacity { vec_capacity outcomes.new ≡ vec_capacity outcomes.old }
     ensures err { IfErr result (λ stopped. IfSome (F.told folders.old) (λ m. StoppedAt to.now (works_in (image_in rules.now graph.now.defined) from.now m batch.now) stopped.done (F.told folders.old) (F.told folders.new) (K.told keeper.old) (K.told keeper.new))) }
     ensures within { IfErr result (λ stopped. stopped.done < length batch.now) }
+    ensures fresh { IfErr result (λ stopped. StopsAtFresh batch.now stopped.done stopped.why) }
     ensures stays { SourceStays from.now (F.told folders.old) (F.told folders.new) }
     ensures attached { K.attached keeper.new ≡ K.attached keeper.old }
     ensures counts_f { F.faults folders.old ≤ F.faults folders.new }
@@ -162,6 +165,7 @@ pub fn write_all<R: Threads + Sync, F: Folders, K: Keeper, G: Gate + Sync>(
     ensures outcomes { IfOk result (λ outcomes. IfSome (F.told folders.old) (λ m. outcomes.items ≡ map outcome_of (works_in (image_in rules.now graph.now.defined) from.now m noted.now))) }
     ensures length { IfOk result (λ outcomes. length outcomes.items ≡ length noted.now) }
     ensures within { IfErr result (λ stopped. stopped.done ≤ length noted.now) }
+    ensures fresh { IfErr result (λ stopped. StopsAtFresh noted.now stopped.done stopped.why) }
     ensures err { IfErr result (λ stopped. IfSome (F.told folders.old) (λ m. StoppedAt to.now (works_in (image_in rules.now graph.now.defined) from.now m noted.now) stopped.done (F.told folders.old) (F.told folders.new) (K.told keeper.old) (K.told keeper.new))) }
     ensures stays { SourceStays from.now (F.told folders.old) (F.told folders.new) }
     ensures attached { K.attached keeper.new ≡ K.attached keeper.old }

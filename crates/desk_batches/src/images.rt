@@ -52,6 +52,7 @@ pub(crate) fn images_of_batch<R: Threads + Sync, F: Folders, G: Gate + Sync>(
     ensures images { IfOk result (λ images. IfSome (F.told folders.old) (λ m. images.items ≡ map (image_here (image_in job.now.rules.now job.now.graph.now.defined) from.now m) (migrated batch.now))) }
     ensures count { IfOk result (λ images. length images.items ≡ length (migrated batch.now)) }
     ensures counts { F.faults folders.old ≤ F.faults folders.new }
+    ensures some { IfErr result (λ why. (why ≡ stop.Memory) ⊎ (0 < length (migrated batch.now))) }
     ensures cause { IfErr result (λ stop. HasCause (F.told folders.old) stop (F.faults folders.old) (F.faults folders.new) 0 0) }
 {
     let mut images = Vec::new(job.alloc);

@@ -1,6 +1,6 @@
 //! Migrates files that were read whole, on the workers.
 
-ghost use Rattle.std.specs.Prelude.{All, ◌≡◌, ◌≢◌, ◌≤◌, ◌<◌, ◌^◌, IfErr, IfOk, IfSome, length, map};
+ghost use Rattle.std.specs.Prelude.{All, ◌≡◌, ◌≢◌, ◌≤◌, ◌<◌, ◌^◌, IfErr, IfOk, IfSome, OnErr, length, map};
 ghost use Rattle.std.specs.Coded.{Coded-set, coded_list};
 ghost use Rattle.desk_file.specs.Routes.{image_along};
 ghost use Rattle.desk_ledger.specs.Digests.{digest as digest_by};
@@ -201,6 +201,7 @@ pub(crate) fn migrate_and_read<R: Threads + Sync, F: Folders, G: Gate + Sync>(
     ensures inputs { IfOk result.1 (λ inputs. IfSome (F.told folders.old) (λ m. inputs.items ≡ map (input_in from.now m) (migrated next.now))) }
     ensures routes { IfOk result.1 (λ inputs. map (λ input. input.route) inputs.items ≡ map (λ noted. noted.route) (migrated next.now)) }
     ensures counts { F.faults folders.old ≤ F.faults folders.new }
+    ensures some { OnErr result.1 (0 < length (migrated next.now)) }
     ensures cause { IfErr result.1 (λ stop. HasCause (F.told folders.old) stop (F.faults folders.old) (F.faults folders.new) 0 0) }
 {
     let alloc = job.alloc;
@@ -217,6 +218,7 @@ pub(crate) fn migrate_and_read<R: Threads + Sync, F: Folders, G: Gate + Sync>(
                 × IfOk result (λ inputs. IfSome (F.told folders.entry.now) (λ m. inputs.items ≡ map (input_in from.entry.now m) (migrated next.entry.now)))
                 × IfOk result (λ inputs. map (λ input. input.route) inputs.items ≡ map (λ noted. noted.route) (migrated next.entry.now))
                 × (F.faults folders.entry.now ≤ F.faults folders.exit.now)
+                × OnErr result (0 < length (migrated next.entry.now))
                 × IfErr result (λ stop. HasCause (F.told folders.entry.now) stop (F.faults folders.entry.now) (F.faults folders.exit.now) 0 0) }
         { read_batch(alloc, folders, from, next) },
     );

@@ -1,4 +1,5 @@
 pub mod Classes
+pub mod NewClasses
 pub mod Images
 pub mod Linked
 pub mod ClassScans

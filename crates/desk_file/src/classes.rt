@@ -4,6 +4,7 @@ ghost use Rattle.std.specs.Prelude.{◌≡◌, ◌≤◌, Ok, IfOk, IfErr, lengt
 ghost use Rattle.desk_base.specs.Limits.{file_size};
 ghost use Rattle.desk_file.specs.Faults.{IsFaultOf};
 ghost use Rattle.desk_file.specs.Linked.{linked_class};
+ghost use Rattle.desk_file.specs.NewClasses.{IsNewClassOf};
 ghost use Rattle.desk_graph.specs.Graphs.{links_of};
 
 use crate::images::{FileFault, Image};
@@ -70,6 +71,7 @@ pub(crate) fn class_image(
     requires size { length bytes.now ≤ file_size }
     requires graph { graph.now.renames ≡ rules.now.renames }
     ensures ok { IfOk result (λ found. linked_class rules.now graph.now.defined bytes.now ≡ Ok found) }
+    ensures class { IfOk result (λ found. IsNewClassOf rules.now bytes.now found.bytes) }
     ensures err { IfErr result (IsFaultOf (linked_class rules.now graph.now.defined bytes.now)) }
 {
     let view = ClassView::read(alloc, bytes)?;

@@ -1,9 +1,10 @@
 //! The image of a file.
 
-ghost use Rattle.std.specs.Prelude.{◌≡◌, ◌≤◌, Ok, IfOk, IfErr, length, unwrap_or};
+ghost use Rattle.std.specs.Prelude.{◌≡◌, ◌≤◌, Ok, IfOk, IfErr, IsSomeAnd, length, unwrap_or};
 ghost use Rattle.desk_base.specs.Limits.{file_size};
 ghost use Rattle.desk_file.specs.Faults.{IsFaultOf, IsFileFault, IsManifestFault, IsServiceFault};
 ghost use Rattle.desk_file.specs.Linked.{image_in};
+ghost use Rattle.desk_file.specs.NewClasses.{IsNewClassOf};
 ghost use Rattle.desk_file.specs.Images.{copied, manifest_image, service_image, texts_image};
 ghost use Rattle.desk_file.specs.Routes.{IsRouteBy, image_along};
 ghost use Rattle.desk_patterns.specs.PatternTexts.{texts_for};
@@ -149,6 +150,7 @@ fn image_along(
     requires size { length bytes.now ≤ file_size }
     requires graph { graph.now.renames ≡ rules.now.renames }
     ensures ok { IfOk result (λ found. image_along rules.now graph.now.defined route.now bytes.now ≡ Ok (unwrap_or found (copied bytes.now))) }
+    ensures class { IfOk result (λ found. route.now.treatment ≡ Treatment.Class → IsSomeAnd found (λ image. IsNewClassOf rules.now bytes.now image.bytes)) }
     ensures err { IfErr result (IsFaultOf (image_along rules.now graph.now.defined route.now bytes.now)) }
 {
     match route.treatment {
@@ -171,6 +173,7 @@ fn made_along(
     requires size { length bytes.now ≤ file_size }
     requires graph { graph.now.renames ≡ rules.now.renames }
     ensures ok { IfOk result (λ found. image_along rules.now graph.now.defined route.now bytes.now ≡ Ok found) }
+    ensures class { IfOk result (λ found. route.now.treatment ≡ Treatment.Class → IsNewClassOf rules.now bytes.now found.bytes) }
     ensures err { IfErr result (IsFaultOf (image_along rules.now graph.now.defined route.now bytes.now)) }
 {
     match image_along(alloc, rules, graph, route, bytes)? {
@@ -184,6 +187,8 @@ fn made_along(
 
 /// The image of a file of at most 67,108,864 bytes along its route, in the application of a graph that was built under the same
 /// rules. Along the route that these rules give its path, this is the image of the file. A file that is copied keeps its bytes.
+/// A selected class has its new class for its image, which is well-formed and has the renamed tree: it holds the images of the class
+/// names that the class holds, and renaming it again changes nothing.
 /// `Refused` comes exactly where the file has no image: `Malformed`, `Overlong`, `PoolFull` or `Twins` for a selected class;
 /// `BadLine` for a selected service file with a provider that holds a blank, or a selected manifest with a line that is none of
 /// a manifest, with the offset of the first byte of the first such line; `Unsettled` for a selected file of another kind whose
@@ -200,6 +205,7 @@ pub fn migrate_file(
     requires size { length bytes.now ≤ file_size }
     requires graph { graph.now.renames ≡ rules.now.renames }
     ensures ok { IfOk result (λ found. image_along rules.now graph.now.defined route.now bytes.now ≡ Ok found) }
+    ensures class { IfOk result (λ found. route.now.treatment ≡ Treatment.Class → IsNewClassOf rules.now bytes.now found.bytes) }
     ensures err { IfErr result (IsFaultOf (image_along rules.now graph.now.defined route.now bytes.now)) }
     ensures image { IfOk result (λ found. IsRouteBy rules.now route.now → image_in rules.now graph.now.defined route.now.path bytes.now ≡ Ok found) }
     ensures refused { IfErr result (λ fault. IsRouteBy rules.now route.now → IsFileFault rules.now graph.now.defined route.now.path bytes.now fault) }

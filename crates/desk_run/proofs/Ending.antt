@@ -26,6 +26,7 @@ use Rattle.desk_report.specs.declared.status.Status.TheVariants.{Done, Refusals,
 use Rattle.desk_report.specs.Texts.{summary_text}
 use Rattle.desk_report.specs.Written.{WritesFront, writing}
 use Rattle.desk_rules.specs.Rules.{Rules}
+use Rattle.desk_run.proofs.NextFiles.{next_fresh}
 use Rattle.desk_run.proofs.Splits.{Mapped, mapped}
 use Rattle.desk_intake.specs.Standing.{names_answer}
 use Rattle.desk_run.specs.Answers.{other_run, or_else, answer_of_run, first_answer, is_answer}
@@ -154,6 +155,9 @@ stops_stands : (asked : Asked) (m0 : Contents) (l0 : Ledger) (to : Text) (header
 stops_stands asked m0 l0 to header works done f' k' p (inl s) = stopped_stands asked m0 l0 to header works done f' k' p s
 stops_stands asked m0 l0 to header works done f' k' p (inr s) = behind_stands asked m0 l0 to header works done f' k' p s
 
+ok_and : {T E : Type 0} (r : Result T E) (x : T) (P : T → Type 0) → r ≡ Ok x → P x → IsOkAnd r P
+ok_and r x P e p = subst (λ r. IsOkAnd r P) (sym e) p
+
 -- where a run stands after the writing
 pub finish_stands : (asked : Asked) (m0 : Contents) (l0 : Ledger) (to : Text) (header : Header) (works : List Work) (f' : Option Contents) (k' : Option Ledger) (status : Status) → Planned asked m0 l0 to header works
     → Finishes to works (Some m0) f' (Some (with_header header l0)) k' status → Tells f' k' (λ m l. StandsAfter asked m0 l0 m l status)
@@ -168,7 +172,9 @@ finish_stands asked m0 l0 to header works f' k' (Moved path one other) p a =
     record { m = s.m; l = s.l; folders = s.folders; ledger = s.ledger; holds = record { done = a.done; stands = s.holds } }
 finish_stands asked m0 l0 to header works f' k' (NotInvertible fault) p a = absurd a
 finish_stands asked m0 l0 to header works f' k' (Differs path) p a = absurd a
-finish_stands asked m0 l0 to header works f' k' (FolderFault done) p a = stopped_stands asked m0 l0 to header works done f' k' p a
+finish_stands asked m0 l0 to header works f' k' (FolderFault done) p a =
+    let s = stopped_stands asked m0 l0 to header works done f' k' p a.stopped in
+    record { m = s.m; l = s.l; folders = s.folders; ledger = s.ledger; holds = record { stands = s.holds; fresh = inr (ok_and (run_of_asked asked m0) p.run _ p.ready.is (next_fresh p.run m0 l0 works done p.are a.fresh)) } }
 finish_stands asked m0 l0 to header works f' k' (LedgerFault done) p a = stops_stands asked m0 l0 to header works done f' k' p a
 finish_stands asked m0 l0 to header works f' k' Usage p a = absurd a
 finish_stands asked m0 l0 to header works f' k' (NestedRoots first second) p a = absurd a
@@ -231,7 +237,8 @@ pub early_stands : (asked : Asked) (m0 : Contents) (l0 : Ledger) (f' : Option Co
     → HaltsEarly asked (Some m0) (Some l0) k' a b c d h → Tells f' k' (λ m l. StandsAfter asked m0 l0 m l (status_of_halt h))
 early_stands asked m0 l0 f' k' a b c d halt.Memory f s =
     let e = early asked m0 l0 f' k' f s in record { m = e.m; l = e.l; folders = e.folders; ledger = e.ledger; holds = record { done = 0; stands = e.holds } }
-early_stands asked m0 l0 f' k' a b c d halt.Folders f s = early asked m0 l0 f' k' f s.0
+early_stands asked m0 l0 f' k' a b c d halt.Folders f s =
+    let e = early asked m0 l0 f' k' f s.0 in record { m = e.m; l = e.l; folders = e.folders; ledger = e.ledger; holds = record { stands = e.holds; fresh = inl refl } }
 early_stands asked m0 l0 f' k' a b c d halt.Ledger f s = early asked m0 l0 f' k' f s.0
 early_stands asked m0 l0 f' k' a b c d (halt.Answer status) f s =
     let u = unchanged asked m0 l0 f' k' f s.0 in
@@ -336,9 +343,6 @@ is_written_all asked m0 l0 to header works rules noted outcomes f' k' p goes a e
         ends = ap ending_by are ∙ ap (λ b. if b then Refusals else Done) (refused_any p.run l0.rows files) ∙ planned_first asked m0 l0 to header works p;
       };
     }
-
-ok_and : {T E : Type 0} (r : Result T E) (x : T) (P : T → Type 0) → r ≡ Ok x → P x → IsOkAnd r P
-ok_and r x P e p = subst (λ r. IsOkAnd r P) (sym e) p
 
 -- what is told behind a run that is written
 pub told_reported : (asked : Asked) (f0 f' : Option Contents) (k0 k' : Option Ledger) (noted : List Noted) (outcomes : List Outcome) (o o' : Option Text) (status : Status)

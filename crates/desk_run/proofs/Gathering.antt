@@ -167,6 +167,7 @@ ok_gathered names told (Ok g) header rules are files read few few_classes = reco
   few = few;
   few_classes = few_classes;
   told_of = if_some _ told (λ m t. record {
+    rules = at_some (λ m. ruled names.rules (files_below names.rules m) ≡ Ok g.ruled.value) told m t rules;
     run = at_some (λ m. run_of_asked (asked_roots names) m ≡ Ok (run_of names g.ruled.value m)) told m t (run_read (asked_roots names) names g.ruled.value told refl rules);
     files = at_some (λ m. AreRead g.ruled.value.rules names.from m g.notes.files.items g.notes.scanned.items) told m t files;
   });

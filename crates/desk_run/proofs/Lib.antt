@@ -1,3 +1,4 @@
+pub mod NextFiles
 pub mod Splits
 pub mod After
 pub mod Truths

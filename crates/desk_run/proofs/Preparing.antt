@@ -111,7 +111,7 @@ planned names m l g noted sound h clear e ours other =
     record {
       run = run;
       ready = ready names m g sound from h.read clear;
-      runs = record { roots = names; ruled = r; is = refl; are = h.are; bytes = from.files.bytes };
+      runs = record { roots = names; ruled = r; asks = refl; rules = from.rules; is = refl; are = h.are; bytes = from.files.bytes };
       to_is = refl;
       header_is = h.header;
       other = subst (λ h. other_run h l.header ≡ None) h.header other;

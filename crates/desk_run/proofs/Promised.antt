@@ -121,6 +121,8 @@ renames_classes asked m0 l0 m l d =
     record {
       roots = d.runs.roots;
       ruled = d.runs.ruled;
+      asks = d.runs.asks;
+      rules = d.runs.rules;
       is = d.ready.is ∙ ap Ok d.runs.is;
       classes = λ before rest file image e selected is truth.
           class_of_run d.runs.ruled.rules file image _ d.runs.are.settled (all_among before rest file (subst (All (λ (f : File). IsBytes f.bytes)) e bytes)) selected
@@ -174,7 +176,7 @@ keeps_ledger asked m0 l0 m l status s = record {
     by Refusals s = all s
     by OutputFault s = all s
     by Memory s = begun s.done s.stands
-    by (FolderFault done) s = begun done s
+    by (FolderFault done) s = begun done s.stands
     by (LedgerFault done) s = begun done s
     by Usage s = untouched s
     by (NestedRoots first second) s = untouched s
@@ -253,7 +255,7 @@ remains_clause asked m0 l0 f k status t = record { m = t.m; l = t.l; folders = t
   by Refusals s = tt
   by OutputFault s = ok_and (run_of_asked asked m0) s.run (λ run. HoldsFiles run m0 l0 t.m × HoldsRows run m0 l0 t.l) s.ready.is (holds_files s.run m0 l0 t.m t.l s.stands, holds_rows s.run m0 l0 t.m t.l s.stands)
   by Memory s = record { done = s.done; remains = remains_at asked m0 l0 t.m t.l s.done s.stands }
-  by (FolderFault done) s = remains_at asked m0 l0 t.m t.l done s
+  by (FolderFault done) s = record { remains = remains_at asked m0 l0 t.m t.l done s.stands; fresh = s.fresh }
   by (LedgerFault done) s = remains_at asked m0 l0 t.m t.l done s
   by Usage s = (s.folder, s.ledger)
   by (NestedRoots first second) s = (s.folder, s.ledger)

@@ -79,6 +79,8 @@ done_follows asked m0 l0 m l d =
     record {
       roots = roots;
       ruled = r;
+      asks = d.runs.asks;
+      rules = d.runs.rules;
       is = d.ready.is ∙ ap Ok e;
       over = follow_over roots r m0 d.runs.are (subst (λ (s : Run). All (λ (f : File). IsBytes f.bytes) (files_below s.from m0)) e d.runs.bytes)
           (subst (λ (s : Run). files_answer s.from s.target s.whole m0 ≡ None) e d.ready.built) (subst (λ (s : Run). names_answer s.name s.classes ≡ None) e d.ready.names);

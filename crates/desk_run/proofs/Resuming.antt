@@ -118,7 +118,7 @@ spares_stopped : (asked : Asked) (m0 : Contents) (l0 : Ledger) (m : Contents) (l
 spares_stopped asked m0 l0 m l run e w = by w.status w.stopped w.remains where
   by : (status : Status) → is_stop status ≡ true → Left asked m0 l0 m l status → Spares run m0 l0 m l
   by Memory s r = spares_at asked m0 l0 m l r.done run e r.remains
-  by (FolderFault done) s r = spares_at asked m0 l0 m l done run e r
+  by (FolderFault done) s r = spares_at asked m0 l0 m l done run e r.remains
   by (LedgerFault done) s r = spares_at asked m0 l0 m l done run e r
   by OutputFault s r =
       let both = subst (λ (x : Meant). IsOkAnd x (λ run. HoldsFiles run m0 l0 m × HoldsRows run m0 l0 l)) e r in
@@ -349,7 +349,7 @@ trusted_on asked m0 l0 m1 l1 run s e w (inr v) = by w.status w.stopped w.remains
 
   by : (status : Status) → is_stop status ≡ true → Left asked m0 l0 m1 l1 status → KeepsLedger asked m0 l0 m1 l1 status → IsTrusted (showing s.roots m1 run) m1 l1
   by Memory t r k = at r.done r.remains (sound Memory k)
-  by (FolderFault done) t r k = at done r (sound (FolderFault done) k)
+  by (FolderFault done) t r k = at done r.remains (sound (FolderFault done) k)
   by (LedgerFault done) t r k = at done r (sound (LedgerFault done) k)
   by OutputFault t r k = inl (showing_true run s.roots m1 l1 (subst (λ (x : Meant). IsOkAnd x (λ run. IsVerified run m0 l0 → TrueLedger run m1 l1)) e k.verified v))
   by Done t r k = cc

@@ -20,6 +20,7 @@ use Rattle.desk_follow.specs.Follow.{HasImagesOfNames}
 use Rattle.desk_file.specs.ClassScans.{is_class_kind}
 use Rattle.desk_words.specs.declared.roots.Roots.{Roots}
 use Rattle.desk_run.specs.Asked.{Asked}
+use Rattle.desk_intake.specs.Rulings.{ruled as ruled_of}
 use Rattle.desk_intake.specs.declared.rules.Ruled.{Ruled}
 use Rattle.desk_run.specs.Meaning.{run_of, run_of_asked}
 use Rattle.desk_run.specs.Runs.{Run, is_kept_file}
@@ -48,9 +49,12 @@ HoldsClasses run rules m0 l0 m = (before rest : List File) (file : File) (image 
     → is_selected_class rules file.path ≡ true → run.image file.path file.bytes ≡ Ok image → IsTrusted run m0 l0 ⊎ (is_kept_file run l0.rows file ≡ false)
     → HoldsNewClass rules file.bytes (fin.get m (full run.to (run.target file.path)))
 
+-- by the rules that the files below the rule root of the run that was asked for are, the targets hold the new classes
 pub record RenamesClasses (asked : Asked) (m0 : Contents) (l0 : Ledger) (m : Contents) : Type 0 where
   pub roots : Roots
   pub ruled : Ruled
+  pub asks : asked ≡ Ok roots
+  pub rules : ruled_of roots.rules (files_below roots.rules m0) ≡ Ok ruled
   pub is : run_of_asked asked m0 ≡ Ok (run_of roots ruled m0)
   pub classes : HoldsClasses (run_of roots ruled m0) ruled.rules m0 l0 m
 

@@ -17,7 +17,7 @@ use Rattle.desk_run.specs.Truth.{IsTrusted, IsVerified, SoundLedger, TrueLedger}
 use Rattle.desk_run.specs.Stands.{Unchanged, Remains}
 use Rattle.desk_run.specs.Reports.{report}
 use Rattle.desk_run.specs.Meaning.{run_of_asked}
-use Rattle.desk_run.specs.Endings.{WhereTold, Tells, Named, is_final}
+use Rattle.desk_run.specs.Endings.{ComesAtFresh, WhereTold, Tells, Named, is_final}
 
 -- the targets of accepted files hold their images, of a kept file where the ledger was true, or the run verifies; every path
 -- that is no target of a file that was written holds what it held
@@ -90,6 +90,11 @@ pub record Exact (first status : Status) (f f' k k' o o' : ℕ) : Type 0 where
 abbrev pub RemainsAt : Asked → Contents → Ledger → Contents → Ledger → ℕ → Type 0
 RemainsAt asked m0 l0 m l done = MatchResult (run_of_asked asked m0) (λ run. Remains run m0 l0 m l done) (λ _. Unchanged m0 l0 m l done)
 
+-- and after a fault of the folders, which comes before the first file is written, or at one that isn't kept
+pub record RemainsAtFresh (asked : Asked) (m0 : Contents) (l0 : Ledger) (m : Contents) (l : Ledger) (done : ℕ) : Type 0 where
+  pub remains : RemainsAt asked m0 l0 m l done
+  pub fresh : ComesAtFresh asked m0 l0 done
+
 pub record RemainsSomewhere (asked : Asked) (m0 : Contents) (l0 : Ledger) (m : Contents) (l : Ledger) : Type 0 where
   pub done : ℕ
   pub remains : RemainsAt asked m0 l0 m l done
@@ -101,6 +106,6 @@ Left asked m0 l0 m l Refusals = Unit {0}
 Left asked m0 l0 m l OutputFault = IsOkAnd (run_of_asked asked m0) (λ run. HoldsFiles run m0 l0 m × HoldsRows run m0 l0 l)
 Left asked m0 l0 m l Memory = RemainsSomewhere asked m0 l0 m l
 Left asked m0 l0 m l (Moved path first second) = RemainsSomewhere asked m0 l0 m l
-Left asked m0 l0 m l (FolderFault done) = RemainsAt asked m0 l0 m l done
+Left asked m0 l0 m l (FolderFault done) = RemainsAtFresh asked m0 l0 m l done
 Left asked m0 l0 m l (LedgerFault done) = RemainsAt asked m0 l0 m l done
 Left asked m0 l0 m l _ = (m ≡ m0) × (l ≡ l0)

@@ -22,6 +22,7 @@ use Rattle.desk_batches.specs.declared.noted.Noted.{Noted}
 use Rattle.desk_batches.specs.declared.noted.Outcome.{Outcome}
 use Rattle.desk_batches.specs.declared.stops.Stop.TheVariants as stop
 use Rattle.desk_words.specs.declared.roots.Roots.{Roots}
+use Rattle.desk_intake.specs.Rulings.{ruled as ruled_of}
 use Rattle.desk_intake.specs.declared.rules.Ruled.{Ruled}
 use Rattle.desk_intake.specs.declared.halts.Halt.{Halt}
 use Rattle.desk_intake.specs.declared.halts.Halt.TheVariants as halt
@@ -32,7 +33,7 @@ use Rattle.desk_run.specs.Reports.{ending_by, report, report_by, summary_by, sum
 use Rattle.desk_run.specs.Notes.{IsRead, measured_of}
 use Rattle.desk_run.specs.declared.gather.Gathered.{Gathered}
 use Rattle.desk_run.specs.Stops.{StopsAt, status_of_halt}
-use Rattle.desk_run.specs.Stands.{Unchanged, Between, Within}
+use Rattle.desk_run.specs.Stands.{Unchanged, Between, NextIsFresh, Within}
 use Rattle.desk_run.specs.Asked.{Asked, asked_roots}
 use Rattle.desk_run.specs.Meaning.{header_of, run_of, run_of_asked}
 use Rattle.desk_intake.specs.Standing.{names_answer}
@@ -68,6 +69,7 @@ pub record AreRead (rules : Rules) (from : Text) (m : Contents) (files : List Me
 
 -- what was gathered where the folders tell this
 pub record GatheredFrom (names : Roots) (m : Contents) (gathered : Gathered) : Type 0 where
+  pub rules : ruled_of names.rules (files_below names.rules m) ≡ Ok gathered.ruled.value
   pub run : run_of_asked (asked_roots names) m ≡ Ok (run_of names gathered.ruled.value m)
   pub files : AreRead gathered.ruled.value.rules names.from m gathered.notes.files.items gathered.notes.scanned.items
 
@@ -80,10 +82,12 @@ pub record HasGathered (names : Roots) (told : Option Contents) (gathered : Gath
   pub few_classes : length gathered.notes.scanned.items < 2 ^ 32
   pub told_of : IfSome told (λ m. GatheredFrom names m gathered)
 
--- a run by a rule set, whose files are bytes
-pub record RunsOn (run : Run) (m : Contents) : Type 0 where
+-- the run that was asked for, by the rule set of the files below its rule root; its files are bytes
+pub record RunsOn (asked : Asked) (run : Run) (m : Contents) : Type 0 where
   pub roots : Roots
   pub ruled : Ruled
+  pub asks : asked ≡ Ok roots
+  pub rules : ruled_of roots.rules (files_below roots.rules m) ≡ Ok ruled
   pub is : run ≡ run_of roots ruled m
   pub are : AreRules ruled.rules
   pub bytes : All (λ (file : File). IsBytes file.bytes) (files_below run.from m)
@@ -92,7 +96,7 @@ pub record RunsOn (run : Run) (m : Contents) : Type 0 where
 pub record Planned (asked : Asked) (m : Contents) (l : Ledger) (to : Text) (header : Header) (works : List Work) : Type 0 where
   pub run : Run
   pub ready : IsReady asked m run
-  pub runs : RunsOn run m
+  pub runs : RunsOn asked run m
   pub to_is : to ≡ run.to
   pub header_is : header ≡ run.header
   pub other : other_run run.header l.header ≡ None
@@ -181,6 +185,15 @@ pub record HasBegun (asked : Asked) (m0 : Contents) (l0 : Ledger) (m : Contents)
 abbrev pub StandsAt : Asked → Contents → Ledger → Contents → Ledger → ℕ → Type 0
 StandsAt asked m0 l0 m l done = Unchanged m0 l0 m l done ⊎ HasBegun asked m0 l0 m l done
 
+-- no file is done, or the next one isn't kept
+abbrev pub ComesAtFresh : Asked → Contents → Ledger → ℕ → Type 0
+ComesAtFresh asked m0 l0 done = (done ≡ 0) ⊎ IsOkAnd (run_of_asked asked m0) (λ run. NextIsFresh run m0 l0 done)
+
+-- where a run stands that the folders stopped
+pub record StandsAtFresh (asked : Asked) (m0 : Contents) (l0 : Ledger) (m : Contents) (l : Ledger) (done : ℕ) : Type 0 where
+  pub stands : StandsAt asked m0 l0 m l done
+  pub fresh : ComesAtFresh asked m0 l0 done
+
 pub record StandsSomewhere (asked : Asked) (m0 : Contents) (l0 : Ledger) (m : Contents) (l : Ledger) : Type 0 where
   pub done : ℕ
   pub stands : StandsAt asked m0 l0 m l done
@@ -189,7 +202,7 @@ pub record StandsSomewhere (asked : Asked) (m0 : Contents) (l0 : Ledger) (m : Co
 pub record IsDone (asked : Asked) (m0 : Contents) (l0 : Ledger) (m : Contents) (l : Ledger) : Type 0 where
   pub run : Run
   pub ready : IsReady asked m0 run
-  pub runs : RunsOn run m0
+  pub runs : RunsOn asked run m0
   pub stands : Between run m0 l0 m l (length (files_below run.from m0))
 
 -- what became of each file of a run whose files are all done
@@ -206,7 +219,7 @@ StandsAfter asked m0 l0 m l Refusals = IsDone asked m0 l0 m l
 StandsAfter asked m0 l0 m l OutputFault = IsDone asked m0 l0 m l
 StandsAfter asked m0 l0 m l Memory = StandsSomewhere asked m0 l0 m l
 StandsAfter asked m0 l0 m l (Moved path first second) = StandsSomewhere asked m0 l0 m l
-StandsAfter asked m0 l0 m l (FolderFault done) = StandsAt asked m0 l0 m l done
+StandsAfter asked m0 l0 m l (FolderFault done) = StandsAtFresh asked m0 l0 m l done
 StandsAfter asked m0 l0 m l (LedgerFault done) = StandsAt asked m0 l0 m l done
 StandsAfter asked m0 l0 m l _ = Unchanged m0 l0 m l 0
 

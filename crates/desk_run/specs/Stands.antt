@@ -46,6 +46,10 @@ pub record Within (run : Run) (m0 : Contents) (l0 : Ledger) (m : Contents) (l : 
 abbrev pub Stands : Run → Contents → Ledger → Contents → Ledger → ℕ → Type 0
 Stands run m0 l0 m l done = Unchanged m0 l0 m l done ⊎ (Between run m0 l0 m l done ⊎ Within run m0 l0 m l done)
 
+-- the file behind so many isn't kept
+abbrev pub NextIsFresh : Run → Contents → Ledger → ℕ → Type 0
+NextIsFresh run m0 l0 done = (before rest : List File) (file : File) → files_below run.from m0 ≡ before ++ file ∷ rest → length before ≡ done → is_kept_file run l0.rows file ≡ false
+
 -- what is said of a run that has done so many files, in the order of their paths
 pub record Remains (run : Run) (m0 : Contents) (l0 : Ledger) (m : Contents) (l : Ledger) (done : ℕ) : Type 0 where
   -- each accepted file before has its image at its target; a kept one where the ledger was true, or the run verifies

@@ -111,9 +111,9 @@ fn follow<R: Threads + Sync, F: Folders, K: Keeper, O: Sink, G: Gate + Sync>(
 /// behind their answer, `Differs` with the least path for two applications that differ, or the `Limit`, `BadRules`, `PathClash`,
 /// `NameClash`, `Stranded` or `NotInvertible` that stands against it; of `generate --sql` `OtherRun` or `Done`.
 /// `FolderFault`, `LedgerFault` and `OutputFault` come only where the count of faults of that object rose
-/// in this call; `Moved` only where the two readings of a file gave different bytes, and never where the folders tell their
-/// contents; `Memory` may come at any step. Rows that wait are written outside before the report: where
-/// that fails, the run ends as `LedgerFault` with all files done, and no report is written.
+/// in this call, and `FolderFault` with no file done, or at one that isn't kept; `Moved` only where the two readings of a file
+/// gave different bytes, and never where the folders tell their contents; `Memory` may come at any step. Rows that wait are
+/// written outside before the report: where that fails, the run ends as `LedgerFault` with all files done, and no report is written.
 ///
 /// Whatever the status, source and rule folder stay as they were. A run that was stopped by want of memory or a fault of the
 /// outside goes on where it stood, however often: where the ledger was true before the first of these runs, or they verify over

@@ -7,6 +7,7 @@ use Rattle.desk_batches.specs.Stops.{StoppedAt}
 use Rattle.desk_batches.specs.Works.{files_after, ledger_after}
 use Rattle.desk_file.specs.Linked.{image_in}
 use Rattle.desk_batches.specs.Turns.{outcome_of, work_in, works_in}
+use Rattle.desk_batches.proofs.Fresh.{fresh_later}
 use Rattle.desk_batches.proofs.Staying.{stays_same, stays_twice}
 use Rattle.desk_batches.proofs.Taking.{batch_files, batch_rows, by_now, front_and_batch, front_batch_rest, length_front, no_file, no_row, notes_now, notes_part, some_left, sound_part, stopped_first, stopped_later}
 use Rattle.desk_batches.proofs.batches.write_all.Goals as goal
@@ -94,3 +95,6 @@ returns-clause-outcomes g c =
     let all : length c.args.noted.now ≤ c.loop-at.at = search rules in
     if_some _ (g.F.Folders.told c.args.folders.now) (λ m e.
     c.loop-at.invariant.outcomes m e ∙ ap (λ xs. map outcome_of (works_in (image_in c.args.rules.now c.args.graph.now.defined) c.args.from.now m xs)) (take_all c.loop-at.at c.args.noted.now all))
+
+pub returns-in-Err-write_batch-clause-fresh : goal.returns-in-Err-write_batch-clause-fresh
+returns-in-Err-write_batch-clause-fresh g c = fresh_later c.args.noted.now c.loop-at.at c.batch_end-end.result c.in-Err-write_batch.stopped.done _ c.in-Err-write_batch.ensures.fresh

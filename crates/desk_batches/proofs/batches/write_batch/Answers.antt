@@ -3,6 +3,7 @@ use Rattle.desk_base.proofs.Results.{at_some}
 use Rattle.desk_readings.proofs.Fronts.{if_some}
 use Rattle.desk_file.specs.Linked.{image_in}
 use Rattle.desk_batches.specs.Turns.{fate_at, image_here, migrated}
+use Rattle.desk_batches.proofs.Fresh.{behind_kept, fresh_here}
 use Rattle.desk_batches.proofs.Staying.{note_stays, stays_same, stays_twice}
 use Rattle.desk_batches.proofs.Taking.{count_more, folder_more, image_found, image_there, ledger_more, no_file, no_row, note_of, outcome_more, sound_of, stopped_file, stopped_kept}
 use Rattle.desk_batches.proofs.batches.write_batch.Goals as goal
@@ -82,3 +83,9 @@ returns-in-Err-clause-err g c =
 
 pub returns-in-Err-clause-stays : goal.returns-in-Err-clause-stays
 returns-in-Err-clause-stays g c = stays_same c.args.from.now _ _ c.in-Err.ensures.told
+
+pub returns-in-Err-clause-fresh : goal.returns-in-Err-clause-fresh
+returns-in-Err-clause-fresh g c = behind_kept c.args.batch.now _ _ c.kept_at_head.ensures.inside c.kept_at_head.ensures.kept c.kept_at_head.ensures.next c.in-Err.ensures.some
+
+pub returns-in-Err-write_noted-clause-fresh : goal.returns-in-Err-write_noted-clause-fresh
+returns-in-Err-write_noted-clause-fresh g c = fresh_here c.args.batch.now c.loop-i.i c.index-batch-i.result _ c.loop-i-test.true c.index-batch-i.is c.in-Err-write_noted.ensures.fresh

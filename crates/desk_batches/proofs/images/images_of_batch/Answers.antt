@@ -1,6 +1,6 @@
-use Rattle.std.proofs.Common.{rules, arith, ◌≡◌, ◌++◌, ◌∙◌, ap, sym, length, map, Ok}
+use Rattle.std.proofs.Common.{rules, arith, ◌≡◌, ◌<◌, ◌++◌, ◌∙◌, ap, inr, subst, sym, length, map, Ok, Err}
 use Rattle.std.proofs.lemmas.Result.{IfOk-at_ok}
-use Rattle.std.specs.Prelude.{All, IfSome}
+use Rattle.std.specs.Prelude.{All, IfSome, OnErr}
 use Rattle.desk_base.proofs.Results.{at_some}
 use Rattle.desk_file.specs.Linked.{image_in}
 use Rattle.desk_file.specs.Routes.{IsRouteBy}
@@ -8,6 +8,7 @@ use Rattle.desk_batches.specs.Notes.{IsNoteOf, IsSound}
 use Rattle.desk_batches.specs.Turns.{image_here, image_of_input, input_in, migrated, slice_length}
 use Rattle.desk_batches.specs.declared.inputs.Input.{Input}
 use Rattle.desk_batches.specs.declared.noted.Noted.{Noted}
+use Rattle.desk_batches.proofs.Fresh.{any_err, some_back, some_front, some_left}
 use Rattle.desk_batches.proofs.Slices.{all_back, all_front, both_ok, count_first, count_next, digests_known, few_inputs, notes_front, notes_later, slice_more, slice_read}
 use Rattle.desk_batches.proofs.images.images_of_batch.Goals as goal
 
@@ -93,3 +94,40 @@ loop-rest-preserved g c =
       routes = all_back (λ (noted : Noted). IsRouteBy rules' noted.route) rest next behind n split c.loop-rest.invariant.routes;
       notes = λ m e. all_back (IsNoteOf from m) rest next behind n split (c.loop-rest.invariant.notes m e);
     }
+
+pub returns-in_err-inputs-clause-some : goal.returns-in_err-inputs-clause-some
+returns-in_err-inputs-clause-some g c =
+    any_err c.from_residual.result _
+    (λ why. inr (some_front c.args.batch.now c.split_slice.result.0.now c.split_slice.result.1.now (slice_length c.args.batch.now) c.split_slice.ensures c.in_err-inputs.ensures.some))
+
+pub returns-in_err-ahead-clause-some : goal.returns-in_err-ahead-clause-some
+returns-in_err-ahead-clause-some g c =
+    let rest = c.loop-rest.rest.now in
+    let next = c.split_slice-in-loop-rest.result.0.now in
+    let behind = c.split_slice-in-loop-rest.result.1.now in
+    let was : c.migrate_and_read-made.result.1 ≡ Err c.in_err-ahead.field-0.0 = search rules in
+    let some : 0 < length (migrated next) = subst (λ r. OnErr r (0 < length (migrated next))) was c.migrate_and_read-made.ensures.some in
+    any_err c.from_residual-in_err-ahead.result _
+    (λ why. inr (some_left c.args.batch.now _ _ _ c.loop-rest.invariant.count (some_front rest next behind (slice_length rest) c.split_slice-in-loop-rest.ensures some)))
+
+pub read_batch-requires-in-Err-clause-sound : goal.read_batch-requires-in-Err-clause-sound
+read_batch-requires-in-Err-clause-sound g c =
+    let rest = c.loop-rest.rest.now in
+    all_back IsSound rest c.split_slice-in-loop-rest.result.0.now c.split_slice-in-loop-rest.result.1.now (slice_length rest) c.split_slice-in-loop-rest.ensures c.loop-rest.invariant.sound
+
+pub read_batch-requires-in-Err-clause-notes : goal.read_batch-requires-in-Err-clause-notes
+read_batch-requires-in-Err-clause-notes g c =
+    let from = c.args.from.now in
+    let rest = c.loop-rest.rest.now in
+    let next = c.split_slice-in-loop-rest.result.0.now in
+    let behind = c.split_slice-in-loop-rest.result.1.now in
+    notes_later from (g.F.Folders.told c.args.folders.now) (g.F.Folders.told c.migrate_and_read-made.new.folders) behind (c.migrate_and_read-made.ensures.told ∙ c.loop-rest.invariant.told)
+    (λ m e. all_back (IsNoteOf from m) rest next behind (slice_length rest) c.split_slice-in-loop-rest.ensures (c.loop-rest.invariant.notes m e))
+
+pub returns-in_err-read_batch-clause-some : goal.returns-in_err-read_batch-clause-some
+returns-in_err-read_batch-clause-some g c =
+    let rest = c.loop-rest.rest.now in
+    let next = c.split_slice-in-loop-rest.result.0.now in
+    let behind = c.split_slice-in-loop-rest.result.1.now in
+    any_err c.from_residual-in_err-read_batch.result _
+    (λ why. inr (some_left c.args.batch.now _ _ _ c.loop-rest.invariant.count (some_back rest next behind (slice_length rest) c.split_slice-in-loop-rest.ensures c.in_err-read_batch.ensures.some)))

@@ -6,7 +6,8 @@ use Rattle.desk_graph.specs.Graphs.{links_of}
 use Rattle.desk_report.specs.declared.lines.Detail.TheVariants as detail
 use Rattle.desk_file.specs.Faults.{IsFaultOf, file_fault}
 use Rattle.desk_file.specs.Linked.{linked_class, with_links}
-use Rattle.desk_file.proofs.ClassImages.{image_made, fault_made, linked_fault}
+use Rattle.desk_file.specs.NewClasses.{IsNewClassOf}
+use Rattle.desk_file.proofs.ClassImages.{image_made, fault_made, linked_fault, reads}
 use Rattle.desk_file.proofs.classes.class_image.Goals as goal
 
 pub returns-in_err-new-clause-err : goal.returns-in_err-new-clause-err
@@ -27,3 +28,17 @@ returns-clause-ok c =
     (λ d e. λ i. record { bytes = c.in_ok-new.ensures.bytes d e i; detail = detail.Class (c.in_ok-new.ensures.renamed d e i) (c.in_ok-new.ensures.added d e i) (c.in_ok-new.ensures.odd d e i) 0 })
     c.in_ok-new.ensures.accepted)
     ∙ ap (λ k. Ok (record { bytes = c.in_ok-new.new.bytes; detail = detail.Class c.in_ok-new.new.renamed c.in_ok-new.new.added c.in_ok-new.new.odd k })) (sym c.in_ok-links.ensures)
+
+pub returns-clause-class : goal.returns-clause-class
+returns-clause-class c =
+    let new = c.in_ok-new.ensures in
+    let r = reads c.in_ok-view.view (ap class_fault c.in_ok-view.ensures.bytes ∙ c.in_ok-view.ensures.sound) in
+    subst (λ (b : Text). IsNewClassOf c.args.rules.now b c.in_ok-new.new.bytes) c.in_ok-view.ensures.bytes
+    (record {
+      class = r.class;
+      reads = r.is;
+      is = new.bytes r.class r.is;
+      renamed = new.isomorphic r.class r.is;
+      names = new.names r.class r.is;
+      again = new.again r.class r.is;
+    })
