@@ -18,6 +18,10 @@ pub enum Cause {
     Folder,
     /// What stands there is neither a file nor a folder: a pipe, a device or a socket.
     Special,
+    /// Something in the rule folder or the source by which the target or the ledger is reached: it is one of them, or holds one.
+    HoldsWritten,
+    /// A folder in the target by which the rule folder, the source or the ledger is reached, or that is a folder in one of the first two.
+    HoldsRead,
     /// A path that isn't UTF-8.
     NotText,
     /// A folder that holds more than 1,000,000 entries, folders included.
@@ -48,6 +52,10 @@ impl Cause {
             Cause::Link => b"it is a symbolic link, which isn't followed",
             Cause::Folder => b"it is a folder",
             Cause::Special => b"it is neither a file nor a folder",
+            Cause::HoldsWritten => b"the target or the ledger lies in it",
+            Cause::HoldsRead => {
+                b"the source, the rules or the ledger lies in it, or it lies in one of them"
+            }
             Cause::NotText => b"the path isn't UTF-8",
             Cause::Entries => b"it holds more than 1,000,000 entries",
             Cause::Twice => b"it was found twice, or its name is no name of a file",
