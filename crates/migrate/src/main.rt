@@ -6,9 +6,11 @@ mod ledger;
 
 use desk_base::{Memory, Text};
 use desk_disk::DiskFolders;
+use desk_faults::Fault;
 use desk_notes::Overheard;
 use desk_program::{
-    Asked, Ending, Streams, asked_of, exit_of, guarded, read_words, tell_end, tell_unread, unread,
+    Asked, Ending, Stopped, Streams, asked_of, exit_of, guarded, read_words, tell_end, tell_unread,
+    unread,
 };
 use desk_report::{Status, StdSink, write_fault};
 use desk_run::{FreeGate, desk};
@@ -24,6 +26,7 @@ struct Outside<'r> {
     folders: DiskFolders<'r>,
     ledger: Box<AnyLedger<'r>>,
     out: Overheard<'r, StdSink<'r>>,
+    before: Option<Fault>,
 }
 
 impl<'r> Outside<'r> {
@@ -33,19 +36,20 @@ impl<'r> Outside<'r> {
             folders: DiskFolders::new(rt),
             ledger,
             out: Overheard::new(rt, StdSink::new(rt)),
+            before: None,
         }
     }
 
-    /// Guards a run, and shows its progress from then on; or writes the line of the status that it ends with before it begins.
+    /// Guards a run, and shows its progress from then on; or writes the line of the status that it ends with before it begins, and keeps
+    /// the fault behind it.
     fn begin(&mut self, roots: &Roots) -> Option<Status> {
-        let stopped = guarded(self.rt, roots, &mut self.folders);
-        match &stopped {
-            Some(status) => {
-                let _ = write_fault(status, &mut self.out);
-            }
-            None => self.folders.show_progress(),
-        }
-        stopped
+        let Some(Stopped { status, fault }) = guarded(self.rt, roots, &mut self.folders) else {
+            self.folders.show_progress();
+            return None;
+        };
+        let _ = write_fault(&status, &mut self.out);
+        self.before = fault;
+        Some(status)
     }
 
     /// Shows how far a task is, unless its ledger is in memory: that of `generate --sql` touches no folder on disk.
@@ -79,8 +83,8 @@ impl<'r> Outside<'r> {
                 words,
                 roots,
                 status,
-                folders: self.folders.last_fault(),
-                ledger: self.ledger.file.last_fault(),
+                folders: self.before.as_ref().or(self.folders.last_fault()),
+                ledger: self.before.as_ref().or(self.ledger.file.last_fault()),
                 notes: &self.out.notes,
             },
         );
