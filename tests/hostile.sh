@@ -244,7 +244,9 @@ for kind in 'a pipe' 'a socket' 'a character device' 'a link to nowhere' 'a link
     odd "$kind" $root || continue
     over
     ends "$kind as $root" 11 "$fault"
-    has "$kind as $root" "migrate: listing $root: "
+    tried=listing
+    [ "$kind" != 'a link to itself' ] || tried='finding the place of'
+    has "$kind as $root" "migrate: $tried $root: "
     rm $root; mv beside $root
     gone "$kind as $root"
   done
@@ -289,6 +291,110 @@ else
   skip 'files and folders without permission' 'they need the root user and setpriv'
 fi
 
+# ---- roots that are one by another way
+
+# whole: each path here but the run's own, with its kind and its content
+whole() {
+  find . -mindepth 1 \( -path ./out -o -path ./err \) -prune -o -printf '%y %p %l\n' -type f -exec sha256sum {} + 2>&1 | LC_ALL=C sort
+}
+
+# placed NAME STATUS LINE SAID RULES FROM TO LEDGER: a run over these roots ends so, and nothing is changed
+placed() {
+  local name=$1 wanted=$2 line=$3 said=$4 before
+  shift 4
+  before=$(whole)
+  migrate run --rules "$1" --from "$2" --to "$3" --ledger "$4"
+  ends "$name" "$wanted" "$line"
+  has "$name: $said" "$said"
+  check "$name: nothing is changed" "$before" "$(whole)"
+}
+
+# completes NAME RULES FROM TO LEDGER: a run over these roots ends well, with the target of any other
+completes() {
+  local name=$1
+  shift
+  migrate run --rules "$1" --from "$2" --to "$3" --ledger "$4"
+  ends "$name" 0 "$report"
+  check "$name: the same target" '' "$(diff -r "$place/wanted" "$3" 2>&1)"
+}
+
+# within NAME SAID LEDGER: a run over a target with a folder that is mounted there ends before it makes a file below that, and source and
+# rules stay
+within() {
+  local before
+  before=$(tree app; tree rules)
+  migrate run --rules rules --from app --to to --ledger "$3"
+  ends "$1" 11 'migrate: 11 folder fault done=1'
+  has "$1: $2" "migrate: making to/WEB-INF/classes/META-INF/services/jakarta.servlet.Greeting: $2"
+  check "$1: source and rules stay" "$before" "$(tree app; tree rules)"
+}
+
+nested='no root may lie where another would be changed'
+
+if [ "$(id -u)" = 0 ] && command -v setpriv >/dev/null && $nobody test -x "$program"; then
+  # A folder above that may not be entered: what lies above it is seen by the path of the working folder.
+  fresh; mkdir -p above/work free; mv rules app above/work; chown -R 65534:65534 above/work free; chmod 700 above
+  cd above/work || exit 1
+  as=$nobody
+  completes 'below a folder that may not be entered' rules app to "$place/free/ledger"
+  ln -s app link
+  placed 'below such a folder: a target that is a link to the source' 21 'migrate: 21 nested roots app link' "$nested" \
+    rules app link "$place/free/other"
+  ln -s "$place/above/work/app" away
+  placed 'below such a folder: a target that is a link through it' 11 "$fault" \
+    'migrate: finding the place of away: Permission denied' rules app away "$place/free/other"
+  as=
+  # Two in one another: the inner one isn't seen by that path.
+  fresh; mkdir -p a/b/work free; mv rules app a/b/work; chown -R 65534:65534 a/b/work free; chmod 700 a a/b
+  cd a/b/work || exit 1
+  as=$nobody
+  ln -s app link
+  placed 'below two such folders' 11 "$fault" 'migrate: finding the place of rules: Permission denied' \
+    rules app link "$place/free/ledger"
+  as=
+  fresh; mkdir above free; cp -r rules app above; chown -R 65534:65534 app rules free; chmod 700 above
+  as=$nobody
+  for root in rules app; do
+    placed "$root in a folder that may not be entered" 11 "$fault" "migrate: finding the place of above/$root: Permission denied" \
+      "$([ $root = rules ] && echo above/)rules" "$([ $root = app ] && echo above/)app" free/to free/ledger
+  done
+  placed 'a target in such a folder' 11 "$fault" 'migrate: finding the place of above/to: Permission denied' rules app above/to free/ledger
+  placed 'a ledger in such a folder' 12 "$ledger_fault" 'migrate: finding the place of above/ledger: Permission denied' \
+    rules app free/to above/ledger
+  as=
+else
+  skip 'roots whose place is not told' 'they need the root user and setpriv'
+fi
+
+# far: links one behind another, of which the last, l3, leads to a folder whose path has more than 4,096 bytes
+far() {
+  "$python" - "$(letters 250 n)" <<'PY'
+import os
+import sys
+top = os.getcwd()
+for i in range(18):
+    os.mkdir(sys.argv[1])
+    os.chdir(sys.argv[1])
+os.mkdir("ledgers")
+open("ledgers/ledger", "w").close()
+os.chdir(top)
+step = "/".join([sys.argv[1]] * 6)
+for i, front in enumerate(["", "l1/", "l2/"]):
+    os.symlink(front + step, f"l{i + 1}")
+PY
+}
+
+fresh; far; cp -r rules l3
+completes 'rules far behind links' l3/rules app to ledger
+ln -s app link
+placed 'rules far behind links, and a target that is a link to the source' 21 'migrate: 21 nested roots app link' "$nested" \
+  l3/rules app link ledger
+placed 'rules far behind links, and a ledger behind a link in the source' 21 'migrate: 21 nested roots link/l app' "$nested" \
+  l3/rules app to2 link/l
+fresh; far; ln -s l3/ledgers/ledger ledger
+placed 'a ledger that is a link to a file far behind links' 12 "$ledger_fault" \
+  'migrate: finding the place of ledger: File name too long' rules app to ledger
+
 # ---- targets
 
 fresh; printf 'x' >to
@@ -331,7 +437,9 @@ for kind in 'a link to nowhere' 'a link to itself' 'a pipe' 'a socket' 'a charac
   over
   check "$kind as the target: status" 11 "$status"
   check "$kind as the target: output" "$fault" "$(cat out)"
-  has "$kind as the target: which" 'migrate: making to/META-INF/MANIFEST.MF: '
+  tried='making to/META-INF/MANIFEST.MF'
+  [ "$kind" != 'a link to itself' ] || tried='finding the place of to'
+  has "$kind as the target: which" "migrate: $tried: "
   rm to
   gone "$kind as the target"
 done
@@ -433,6 +541,48 @@ fi
 
 # ---- disks
 
+# Folders that are mounted in one another.
+written='the target or the ledger lies in it'
+read='the source, the rules or the ledger lies in it, or it lies in one of them'
+fresh; mkdir to
+if [ "$(id -u)" = 0 ] && [ -n "${own_mounts:-}" ] && mount --bind app/WEB-INF to 2>/dev/null; then
+  placed 'a folder of the source mounted as the target' 11 "$fault" "migrate: listing app/WEB-INF: $written" rules app to ledger
+  placed 'a folder of the source mounted above the target' 11 "$fault" "migrate: listing app/WEB-INF: $written" rules app to/x/y ledger
+  placed 'a folder of the source mounted above the ledger' 11 "$fault" "migrate: listing app/WEB-INF: $written" rules app to2 to/ledger
+  umount to
+  mkdir rules/more; mount --bind rules/more to
+  placed 'a folder of the rules mounted as the target' 11 "$fault" "migrate: listing rules/more: $written" rules app to ledger
+  placed 'a folder of the rules mounted above the ledger' 11 "$fault" "migrate: listing rules/more: $written" rules app to2 to/ledger
+  umount to; rmdir rules/more
+  mkdir app/in; mount --bind to app/in
+  placed 'the target mounted in the source' 11 "$fault" "migrate: listing app/in: $written" rules app to ledger
+  placed 'the folder of the target mounted in the source' 11 "$fault" "migrate: listing app/in: $written" rules app to/new ledger
+  umount app/in; mount --bind . app/in
+  placed 'a folder above all mounted in the source' 11 "$fault" "migrate: listing app/in: $written" rules app to ledger
+  umount app/in; mkdir free; mount --bind free app/in
+  completes 'another folder mounted in the source' rules app to ledger
+  umount app/in; rmdir app/in
+  for below in WEB-INF WEB-INF/classes; do
+    fresh; mkdir -p "to/$below"; mount --bind "app/$below" "to/$below"
+    within "a folder of the source mounted in the target at $below" "$read" ledger
+    umount "to/$below"
+  done
+  for root in app rules .; do
+    fresh; mkdir -p to/WEB-INF; mount --bind "$root" to/WEB-INF
+    within "$root mounted in the target" "$read" ledger
+    umount to/WEB-INF
+  done
+  fresh; mkdir -p to/WEB-INF free; mount --bind free to/WEB-INF
+  within 'the folder of the ledger mounted in the target' "$read" free/ledger
+  umount to/WEB-INF
+  fresh; mkdir -p to/WEB-INF free; mount --bind free to/WEB-INF
+  completes 'another folder mounted in the target' rules app to ledger
+  umount to/WEB-INF
+else
+  skip 'folders that are mounted in one another' 'they need the root user and mounts of their own'
+fi
+clear_place
+
 mkdir disk
 if [ "$(id -u)" = 0 ] && [ -n "${own_mounts:-}" ] && mount -t tmpfs none disk 2>/dev/null; then
   fresh; mkdir to; mount -t tmpfs -o ro none to
@@ -496,7 +646,10 @@ for kind in 'a pipe' 'a socket' 'a character device' 'a block device'; do
   rm ledger; gone "$kind as the ledger"
 done
 fresh; ln -s ledger ledger
-noledger 'a link to itself as the ledger' 'Too many levels of symbolic links'
+over
+ends 'a link to itself as the ledger' 12 "$ledger_fault"
+has 'a link to itself as the ledger: which' 'migrate: finding the place of ledger: Too many levels of symbolic links'
+check 'a link to itself as the ledger: nothing is made' '' "$(ls -d to ledger-* .migrate-* 2>/dev/null)"
 rm ledger; gone 'a link to itself as the ledger'
 fresh; ln -s nowhere ledger
 noledger 'a link to nowhere as the ledger' "it can't be opened or made"

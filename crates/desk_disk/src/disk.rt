@@ -11,10 +11,11 @@ ghost use Rattle.desk_base.specs.Counts.{Rose};
 use crate::guard::{known_end, last_folder};
 use crate::open::{Reading, Writing, size_of, text_of};
 use crate::progress::Progress;
-use crate::walk::{Stopped, files_below, first_of};
+use crate::walk::{Below, Stopped, files_below, first_of};
 use desk_base::{Text, TextList};
 use desk_faults::{Fault, Refusal, Tried};
 use desk_folders::{FolderFault, Folders};
+use desk_places::{Apart, Node};
 use std::marker::Model;
 
 /// How many faults there were, and the last of them.
@@ -37,6 +38,10 @@ pub struct Faults {
 /// is made anew: a link, a pipe or a device there is replaced, and never written through. A folder there is a fault, and so is a link in
 /// place of a folder below the target that `keep_within` names, and below it a file that has another name on the disk, as on one that
 /// takes upper and lower case for the same.
+///
+/// Where `keep_apart` says what is read and what is written, it is a fault, too, where one of the two is met in the other, as a folder is
+/// that is mounted there: an entry that is listed and lies on the way to what is written, and a folder below the target that lies on the
+/// way to what is read, or was listed.
 #[derive(Drop)]
 pub struct DiskFolders<'r> {
     rt: &'r HostRuntime,
@@ -45,6 +50,7 @@ pub struct DiskFolders<'r> {
     faults: Faults,
     at: Option<Text>,
     target: Option<Text>,
+    apart: Apart,
     found: Text,
     progress: Progress,
 }
@@ -72,6 +78,7 @@ impl<'r> DiskFolders<'r> {
             },
             at: None,
             target: None,
+            apart: Apart::nothing(rt.alloc()),
             found: Text::empty(rt.alloc()),
             progress: Progress::new(),
         }
@@ -82,6 +89,14 @@ impl<'r> DiskFolders<'r> {
         ensures { self.new ≡ self.old }
     {
         self.target = Some(target);
+    }
+
+    /// Names the nodes that may not be met: among what is listed those on the way to what is written, and below the target those on the
+    /// way to what is read.
+    pub fn keep_apart(&mut self, apart: Apart)
+        ensures { self.new ≡ self.old }
+    {
+        self.apart = apart;
     }
 
     /// Shows on standard error how many files were read and made, where that is a terminal.
@@ -183,8 +198,8 @@ impl<'r> DiskFolders<'r> {
         Writing::open(self.rt, path)
     }
 
-    /// Looks for a link in place of a folder between the target and a path. A folder on the way to the one that was found last
-    /// isn't looked at again.
+    /// Looks for a link in place of a folder between the target and a path, and for one that is read. A folder on the way to the one that
+    /// was found last isn't looked at again.
     fn look(&mut self, path: &Text) -> Result<(), Refusal>
         ensures { self.new ≡ self.old }
     {
@@ -195,7 +210,8 @@ impl<'r> DiskFolders<'r> {
         if folder_of(path.as_bytes()).len() < known {
             return Ok(());
         }
-        let end = last_folder(self.rt, text_of(target)?, text_of(path)?, known)?;
+        let read = &self.apart.read;
+        let end = last_folder(self.rt, text_of(target)?, text_of(path)?, known, read)?;
         let folder = path.as_bytes().get(..end).unwrap_or_default();
         self.found = Text::from_bytes(self.rt.alloc(), folder)?;
         Ok(())
@@ -232,12 +248,25 @@ impl<'r> DiskFolders<'r> {
         Ok(())
     }
 
+    /// Keeps the nodes of folders that were listed from the target, where one is named.
+    fn note_listed(&mut self, folders: &[Node]) -> Result<(), Refusal>
+        ensures { self.new ≡ self.old }
+    {
+        if self.target.is_some() {
+            self.apart.read.put_all(folders)?;
+        }
+        Ok(())
+    }
+
     /// The files below a root, as they were found.
     fn found(&mut self, root: &Text) -> Result<Vec<Text>, Refusal>
         ensures { self.new ≡ self.old }
     {
-        match files_below(self.rt, root) {
-            Ok(found) => Ok(found),
+        match files_below(self.rt, root, &self.apart.written) {
+            Ok(Below { files, folders }) => {
+                self.note_listed(&folders)?;
+                Ok(files)
+            }
             Err(Stopped { refusal, path }) => {
                 self.at = path;
                 Err(refusal)

@@ -3,6 +3,7 @@
 //! ```text
 //! let mut folders = DiskFolders::new(rt);
 //! folders.keep_within(target); // no link in place of a folder below it is followed
+//! folders.keep_apart(Apart::of(alloc, &places)?); // nor is one of these nodes met in what is listed, and in the target
 //! let paths = folders.list(&root, 1000)?; // the paths below the root, in byte order
 //! folders.create(&path)?; // makes the file anew, with its folders
 //! folders.append(&path, b"web.Greeter\n")?;

@@ -1,6 +1,6 @@
 //! The files below a folder of a disk.
 
-ghost use Rattle.std.specs.Prelude.{◌≡◌, ◌≢◌, ◌+◌, ◌-◌, ◌<◌, ◌≤◌, ◌↔◌, [], length, slice_get, Ok, Err, IsTrue, IfOk, IfSome, OnOk};
+ghost use Rattle.std.specs.Prelude.{◌≡◌, ◌≢◌, ◌+◌, ◌-◌, ◌<◌, ◌≤◌, ◌↔◌, [], length, slice_get, Ok, Err, true, false, IsTrue, IfOk, IfSome, OnOk};
 ghost use Rattle.std.specs.declared.cmp.Ordering.TheVariants.{Less};
 ghost use Rattle.std.specs.Fs.{IsDir, IsFile, IsSymlink, dir_entry_name};
 ghost use Rattle.desk_faults.specs.declared.causes.Cause.TheVariants as cause;
@@ -9,12 +9,14 @@ ghost use Rattle.std.specs.List.Sorted.{IsStrictlySortedBy};
 ghost use Rattle.std.specs.Ordering.{nat_cmp};
 ghost use Rattle.std.specs.Cmp.Lexicographic.{slice_cmp};
 ghost use Rattle.desk_base.specs.Paths.{folder, is_relative_path};
+ghost use Rattle.desk_places.specs.Places.{holds};
 ghost use Rattle.desk_disk.specs.Disk.{IsFirst, IsLooked, IsLonger, entries, entry_path, folder_path, taken};
 
 use crate::open::{fault_of, text_of};
 use desk_base::{Memory, Text, TextList};
 use desk_faults::{Cause, Refusal};
 use desk_folders::is_relative;
+use desk_places::{Node, Nodes};
 use std::alloc::Global;
 use std::cmp::Ordering;
 use std::fs::{self, DirEntry, FileType};
@@ -48,23 +50,32 @@ fn entry_of(kind: FileType) -> Result<Entry, Cause>
     }
 }
 
-/// What an entry of a folder is.
-fn kind_of(entry: &DirEntry) -> Result<Entry, Refusal> {
-    let kind = entry.file_type().map_err(fault_of)?;
-    Ok(entry_of(kind)?)
+/// Whether an entry is none of the nodes on the way to what is written. One that is is refused.
+fn is_apart(written: &Nodes, node: Node) -> Result<(), Cause>
+    ensures apart { holds written.now node ≡ false → result ≡ Ok tt }
+    ensures met { holds written.now node ≡ true → result ≡ Err cause.HoldsWritten }
+{
+    if written.holds(node) {
+        Err(Cause::HoldsWritten)
+    } else {
+        Ok(())
+    }
 }
 
 /// A listing that goes on: the files that it found, and the folders that it has yet to enter, by their
-/// paths relative to the root, how many entries it looked at, and the path at which it failed.
+/// paths relative to the root, how many entries it looked at, and the path at which it failed; the nodes that it may not meet,
+/// and those of the folders that it met.
 #[derive(Drop)]
-pub(crate) struct FolderWalk {
+pub(crate) struct FolderWalk<'k> {
     found: Vec<Text>,
     folders: Vec<Text>,
     looked: u32,
     at: Option<Text>,
+    written: &'k Nodes,
+    met: Vec<Node>,
 }
 
-impl Model for FolderWalk {
+impl<'k> Model for FolderWalk<'k> {
     ghost use Rattle.std.specs.Prelude.{◌≤◌};
     ghost use Rattle.desk_disk.specs.Disk.{Looked, looked_code, entries};
 
@@ -77,8 +88,8 @@ impl Model for FolderWalk {
     ghost invariant = { λ l. l.looked ≤ entries };
 }
 
-impl FolderWalk {
-    fn new(alloc: Global) -> FolderWalk
+impl<'k> FolderWalk<'k> {
+    fn new(alloc: Global, written: &'k Nodes) -> FolderWalk<'k>
         ensures { result ≡ record { found = []; folders = []; count = 0 } }
     {
         FolderWalk {
@@ -86,6 +97,8 @@ impl FolderWalk {
             folders: Vec::new(alloc),
             looked: 0,
             at: None,
+            written,
+            met: Vec::new(alloc),
         }
     }
 
@@ -107,13 +120,27 @@ impl FolderWalk {
         Ok(())
     }
 
+    /// What an entry of a folder is, where it may be met. The node of a folder is kept.
+    fn kind_of(&mut self, entry: &DirEntry) -> Result<Entry, Refusal>
+        ensures { self.new ≡ self.old }
+    {
+        let found = entry.metadata().map_err(fault_of)?;
+        let kind = entry_of(found.file_type())?;
+        let node = Node::of(&found);
+        is_apart(self.written, node)?;
+        if let Entry::Folder = kind {
+            self.met.push(node)?;
+        }
+        Ok(kind)
+    }
+
     /// Looks at the entry of a folder.
     fn look(&mut self, alloc: Global, folder: &Text, entry: &DirEntry) -> Result<(), Refusal>
         ensures looked { OnOk result (IsLooked (entry_path folder.now (dir_entry_name entry.now)) self.old self.new) }
         ensures room { OnOk result (self.old.count < entries) }
     {
         let path = path_of_entry(alloc, folder, entry.file_name())?;
-        match kind_of(entry) {
+        match self.kind_of(entry) {
             Ok(kind) => self.take(path, kind),
             Err(refusal) => {
                 self.at = Some(path);
@@ -220,13 +247,30 @@ fn full_at(alloc: Global, root: &Text, at: &Option<Text>) -> Option<Text> {
     }
 }
 
-/// The files below a root, in the order in which they were found.
-pub(crate) fn files_below(rt: &HostRuntime, root: &Text) -> Result<Vec<Text>, Stopped> {
-    let mut listing = FolderWalk::new(rt.alloc());
+/// What was found below a root.
+#[derive(Drop)]
+pub(crate) struct Below {
+    /// The paths of the files, in the order in which they were found.
+    pub(crate) files: Vec<Text>,
+    /// The nodes of the folders.
+    pub(crate) folders: Vec<Node>,
+}
+
+/// The files below a root, in the order in which they were found, and the nodes of the folders below it. What has one of the nodes on
+/// the way to what is written is refused.
+pub(crate) fn files_below(
+    rt: &HostRuntime,
+    root: &Text,
+    written: &Nodes,
+) -> Result<Below, Stopped> {
+    let mut listing = FolderWalk::new(rt.alloc(), written);
     let gone = listing.go(rt, root);
-    let FolderWalk { found, at, .. } = listing;
+    let FolderWalk { found, at, met, .. } = listing;
     match gone {
-        Ok(()) => Ok(found),
+        Ok(()) => Ok(Below {
+            files: found,
+            folders: met,
+        }),
         Err(refusal) => Err(Stopped {
             refusal,
             path: full_at(rt.alloc(), root, &at),

@@ -4,10 +4,11 @@ use Rattle.desk_base.specs.Names.{Text}
 use Rattle.desk_base.specs.Shown.{shown}
 use Rattle.desk_faults.specs.declared.fault.Fault.{Fault}
 use Rattle.desk_faults.specs.declared.fault.Tried.{Tried}
-use Rattle.desk_faults.specs.declared.fault.Tried.TheVariants.{Listing, Reading, Making, Writing, Opening, Keeping}
+use Rattle.desk_faults.specs.declared.fault.Tried.TheVariants.{Placing, Listing, Reading, Making, Writing, Opening, Keeping}
 
 -- what was tried, as it is told
 abbrev pub tried_text : Tried → Text
+tried_text Placing = codes "finding the place of"
 tried_text Listing = codes "listing"
 tried_text Reading = codes "reading"
 tried_text Making = codes "making"

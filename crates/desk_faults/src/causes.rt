@@ -22,6 +22,10 @@ pub enum Cause {
     Exchanged,
     /// A file that the disk takes for one of another name, as one that differs in upper and lower case alone.
     OtherName,
+    /// Something in the rule folder or the source by which the target or the ledger is reached: it is one of them, or holds one.
+    HoldsWritten,
+    /// A folder in the target by which the rule folder, the source or the ledger is reached, or that is a folder in one of the first two.
+    HoldsRead,
     /// A path that isn't UTF-8.
     NotText,
     /// A folder that holds more than 1,000,000 entries, folders included.
@@ -56,6 +60,10 @@ impl Cause {
             Cause::Special => b"it is neither a file nor a folder",
             Cause::Exchanged => b"another file took its place while it was opened",
             Cause::OtherName => b"the disk takes it for a file of another name that is there",
+            Cause::HoldsWritten => b"the target or the ledger lies in it",
+            Cause::HoldsRead => {
+                b"the source, the rules or the ledger lies in it, or it lies in one of them"
+            }
             Cause::NotText => b"the path isn't UTF-8",
             Cause::Entries => b"it holds more than 1,000,000 entries",
             Cause::Twice => b"it was found twice, or its name is no name of a file",

@@ -12,6 +12,8 @@ use std::alloc::Global;
 /// What was tried as a call on the outside failed.
 #[derive(Clone, Copy, Debug, PartialEq, Eq)]
 pub enum Tried {
+    /// It was asked where a root lies on the disk.
+    Placing,
     /// A folder was listed.
     Listing,
     /// A file was read.
@@ -32,6 +34,7 @@ impl Tried {
         ensures { result.now ≡ tried_text self }
     {
         match self {
+            Tried::Placing => b"finding the place of",
             Tried::Listing => b"listing",
             Tried::Reading => b"reading",
             Tried::Making => b"making",

@@ -3,8 +3,9 @@
 use crate::ledger::AnyLedger;
 use desk_base::{Memory, Text};
 use desk_disk::DiskFolders;
+use desk_faults::Fault;
 use desk_notes::Overheard;
-use desk_program::{Asked, Ending, asked_of, guarded, tell_end, tell_unread, unread};
+use desk_program::{Asked, Ending, Stopped, asked_of, guarded, tell_end, tell_unread, unread};
 use desk_report::{Sink, Status, write_fault};
 use desk_run::{FreeGate, desk};
 use desk_words::Roots;
@@ -18,6 +19,7 @@ struct Outside<'r, O> {
     folders: DiskFolders<'r>,
     ledger: Box<AnyLedger<'r>>,
     out: Overheard<'r, O>,
+    before: Option<Fault>,
 }
 
 impl<'r, O: Sink> Outside<'r, O> {
@@ -27,19 +29,20 @@ impl<'r, O: Sink> Outside<'r, O> {
             folders: DiskFolders::new(rt),
             ledger,
             out: Overheard::new(rt, out),
+            before: None,
         }
     }
 
-    /// Guards a run, and shows its progress from then on; or writes the line of the status that it ends with before it begins.
+    /// Guards a run, and shows its progress from then on; or writes the line of the status that it ends with before it begins, and keeps
+    /// the fault behind it.
     fn begin(&mut self, roots: &Roots) -> Option<Status> {
-        let stopped = guarded(self.rt, roots, &mut self.folders);
-        match &stopped {
-            Some(status) => {
-                let _ = write_fault(status, &mut self.out);
-            }
-            None => self.folders.show_progress(),
-        }
-        stopped
+        let Some(Stopped { status, fault }) = guarded(self.rt, roots, &mut self.folders) else {
+            self.folders.show_progress();
+            return None;
+        };
+        let _ = write_fault(&status, &mut self.out);
+        self.before = fault;
+        Some(status)
     }
 
     /// Shows how far a task is, unless its ledger is in memory: that of `generate --sql` touches no folder on disk.
@@ -73,8 +76,8 @@ impl<'r, O: Sink> Outside<'r, O> {
                 words,
                 roots,
                 status,
-                folders: self.folders.last_fault(),
-                ledger: self.ledger.file.last_fault(),
+                folders: self.before.as_ref().or(self.folders.last_fault()),
+                ledger: self.before.as_ref().or(self.ledger.file.last_fault()),
                 notes: &self.out.notes,
             },
         );

@@ -1,12 +1,12 @@
 //! Where a root is, as the system tells it.
 
+use crate::upward::nodes_above;
 use crate::{Node, Place};
 use desk_base::{Memory, Text, TextList};
 use std::alloc::Global;
 use std::fs::{self, Metadata};
 use std::io::{self, ErrorKind};
 use std::os::unix::fs::MetadataExt;
-use std::path::{Path, PathBuf};
 use std::str;
 
 impl Node {
@@ -31,15 +31,6 @@ fn found_at(rt: &HostRuntime, path: &str) -> io::Result<Option<Metadata>> {
     }
 }
 
-/// The nodes above a path without links, from its folder to the top.
-fn nodes_above(rt: &HostRuntime, path: &PathBuf) -> io::Result<Vec<Node>> {
-    let mut above = Vec::new(rt.alloc());
-    for folder in Path::new(path.as_str()).ancestors().skip(1) {
-        above.push(Node::of(&fs::metadata(rt, folder)?))?;
-    }
-    Ok(above)
-}
-
 /// The segments of a text behind the first so many.
 fn segments_behind(alloc: Global, text: &[u8]) -> Result<TextList, Memory> {
     let mut rest = TextList::empty(alloc);
@@ -57,15 +48,14 @@ fn place_behind(
     front: &str,
     found: &Metadata,
     behind: &str,
-) -> io::Result<Option<Place>> {
-    let real = fs::canonicalize(rt, front)?;
-    let above = nodes_above(rt, &real)?;
+) -> io::Result<Place> {
+    let above = nodes_above(rt, front, found)?;
     match segments_behind(rt.alloc(), behind.as_bytes()) {
-        Ok(rest) => Ok(Some(Place {
+        Ok(rest) => Ok(Place {
             nearest: Node::of(found),
             above,
             rest,
-        })),
+        }),
         Err(Memory) => Err(io::Error::from(ErrorKind::OutOfMemory)),
     }
 }
@@ -81,7 +71,7 @@ fn place_at(rt: &HostRuntime, path: &str, end: usize) -> io::Result<Option<Place
         (front, _) => front,
     };
     match found_at(rt, front)? {
-        Some(found) => place_behind(rt, front, &found, behind),
+        Some(found) => Ok(Some(place_behind(rt, front, &found, behind)?)),
         None => Ok(None),
     }
 }
@@ -91,19 +81,19 @@ fn may_end(path: &str, end: usize) -> bool {
     end == 0 || end == path.len() || path.as_bytes().get(end) == Some(&b'/')
 }
 
-/// The place of a root as it is written: the longest front of it that is there. None where nothing is there, and where it
-/// isn't UTF-8; an error where the system refuses to tell, and where memory is wanting.
-pub fn place_of(rt: &HostRuntime, root: &Text) -> io::Result<Option<Place>> {
+/// The place of a root as it is written: the longest front of it that is there. An error where the system refuses to tell, where
+/// memory is wanting, and where the root isn't UTF-8.
+pub fn place_of(rt: &HostRuntime, root: &Text) -> io::Result<Place> {
     let Ok(path) = str::from_utf8(root.as_bytes()) else {
-        return Ok(None);
+        return Err(io::Error::from(ErrorKind::InvalidFilename));
     };
     for cut in 0..path.len() + 1 {
         let end = path.len() - cut;
         if may_end(path, end) {
             if let Some(place) = place_at(rt, path, end)? {
-                return Ok(Some(place));
+                return Ok(place);
             }
         }
     }
-    Ok(None)
+    Err(io::Error::from(ErrorKind::NotFound))
 }

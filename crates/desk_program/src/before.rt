@@ -1,37 +1,36 @@
 //! What is done before a run: the roots that are written apart are looked at, whether they are one on the disk, and the
-//! target is guarded against links.
+//! target is guarded against links, and against folders that are mounted in one another.
+
+ghost use Rattle.std.specs.Prelude.{◌≡◌, ◌≢◌};
 
 use desk_base::{Memory, Text};
 use desk_disk::DiskFolders;
-use desk_places::{Pair, Place, Places, first_nested, place_of};
+use desk_faults::{Cause, Fault, Tried};
+use desk_places::{Apart, Obstacle, Pair, Place, Places, RootName, first_obstacle, place_of};
 use desk_report::Status;
 use desk_words::Roots;
-use std::io::ErrorKind;
+use std::io::{self, ErrorKind};
 
-/// The place of a root; none where the system doesn't tell it.
-fn place(rt: &HostRuntime, root: &Text) -> Result<Option<Place>, Memory> {
+/// The place of a root, or why the system doesn't tell it.
+fn place(rt: &HostRuntime, root: &Text) -> Result<io::Result<Place>, Memory> {
     match place_of(rt, root) {
-        Ok(place) => Ok(place),
         Err(error) if error.kind() == ErrorKind::OutOfMemory => Err(Memory),
-        Err(_) => Ok(None),
+        place => Ok(place),
     }
 }
 
-/// The places of the roots; none where the system doesn't tell them all.
-fn places_of(rt: &HostRuntime, roots: &Roots) -> Result<Option<Places>, Memory> {
+/// The places of the roots.
+fn places_of(rt: &HostRuntime, roots: &Roots) -> Result<Places, Memory> {
     let rules = place(rt, &roots.rules)?;
     let from = place(rt, &roots.from)?;
     let to = place(rt, &roots.to)?;
     let ledger = place(rt, &roots.ledger)?;
-    match (rules, from, to, ledger) {
-        (Some(rules), Some(from), Some(to), Some(ledger)) => Ok(Some(Places {
-            rules,
-            from,
-            to,
-            ledger,
-        })),
-        _ => Ok(None),
-    }
+    Ok(Places {
+        rules,
+        from,
+        to,
+        ledger,
+    })
 }
 
 /// The two roots of a pair, as they are written.
@@ -53,33 +52,100 @@ fn nested(pair: Pair, roots: &Roots) -> Result<Status, Memory> {
     Ok(Status::NestedRoots { first, second })
 }
 
-/// The status of roots of which one lies in another on the disk, whatever they are called; none where none does.
-fn nested_on_disk(rt: &HostRuntime, roots: &Roots) -> Result<Option<Status>, Memory> {
-    let Some(places) = places_of(rt, roots)? else {
-        return Ok(None);
-    };
-    match first_nested(&places) {
-        Some(pair) => Ok(Some(nested(pair, roots)?)),
-        None => Ok(None),
+/// A root as it is written, and what was found of its place.
+fn root_of<'a>(
+    name: RootName,
+    roots: &'a Roots,
+    places: &'a Places,
+) -> (&'a Text, &'a io::Result<Place>) {
+    match name {
+        RootName::Rules => (&roots.rules, &places.rules),
+        RootName::From => (&roots.from, &places.from),
+        RootName::To => (&roots.to, &places.to),
+        RootName::Ledger => (&roots.ledger, &places.ledger),
     }
 }
 
-/// Looks at the roots, and names the target to the folders.
+/// The status of a root whose place isn't told.
+fn unplaced(name: RootName) -> Status
+    ensures ledger { name ≡ RootName.Ledger → result ≡ Status.LedgerFault 0 }
+    ensures folder { name ≢ RootName.Ledger → result ≡ Status.FolderFault 0 }
+{
+    match name {
+        RootName::Ledger => Status::LedgerFault { done: 0 },
+        _ => Status::FolderFault { done: 0 },
+    }
+}
+
+/// The fault of a root whose place isn't told; none of one whose place is.
+fn fault_of(
+    rt: &HostRuntime,
+    name: RootName,
+    roots: &Roots,
+    places: &Places,
+) -> Result<Option<Fault>, Memory> {
+    let (root, place) = root_of(name, roots, places);
+    match place {
+        Ok(_) => Ok(None),
+        Err(error) => {
+            let cause = Cause::System(*error);
+            Ok(Some(Fault::of(rt.alloc(), Tried::Placing, root, cause)?))
+        }
+    }
+}
+
+/// How a run ended before it began.
+#[derive(Drop)]
+pub struct Stopped {
+    /// Its status.
+    pub status: Status,
+    /// What the system refused; none where it refused nothing.
+    pub fault: Option<Fault>,
+}
+
+/// How a run ends that something stands against.
+fn stopped(
+    rt: &HostRuntime,
+    obstacle: Obstacle,
+    roots: &Roots,
+    places: &Places,
+) -> Result<Stopped, Memory> {
+    match obstacle {
+        Obstacle::Nested(pair) => Ok(Stopped {
+            status: nested(pair, roots)?,
+            fault: None,
+        }),
+        Obstacle::Unknown(name) => Ok(Stopped {
+            status: unplaced(name),
+            fault: fault_of(rt, name, roots, places)?,
+        }),
+    }
+}
+
+/// Looks at the roots, and names to the folders the target, and what may not be met.
 fn guard(
     rt: &HostRuntime,
     roots: &Roots,
     folders: &mut DiskFolders<'_>,
-) -> Result<Option<Status>, Memory> {
-    let nested = nested_on_disk(rt, roots)?;
+) -> Result<Option<Stopped>, Memory> {
+    let places = places_of(rt, roots)?;
+    if let Some(obstacle) = first_obstacle(&places) {
+        return Ok(Some(stopped(rt, obstacle, roots, &places)?));
+    }
     folders.keep_within(roots.to.clone()?);
-    Ok(nested)
+    folders.keep_apart(Apart::of(rt.alloc(), &places)?);
+    Ok(None)
 }
 
-/// Guards a run: none of its roots may lie in another on the disk, and no link may stand in place of a folder of its target.
-/// The status of a run that ends by this, also where memory doesn't suffice for it. Nothing is changed.
-pub fn guarded(rt: &HostRuntime, roots: &Roots, folders: &mut DiskFolders<'_>) -> Option<Status> {
+/// Guards a run: none of its roots may lie in another on the disk, the place of each must be told, no link may stand in place of a
+/// folder of its target, and no folder may be mounted where what it reads and what it writes would be one. How a run ends by the first
+/// two, also where memory doesn't suffice for them. Nothing is changed.
+pub fn guarded(rt: &HostRuntime, roots: &Roots, folders: &mut DiskFolders<'_>) -> Option<Stopped> {
     match guard(rt, roots, folders) {
-        Ok(nested) => nested,
-        Err(Memory) => Some(Status::Memory),
+        Ok(stopped) => stopped,
+        Err(Memory) => Some(Stopped {
+            status: Status::Memory,
+            fault: None,
+        }),
     }
 }

@@ -5,7 +5,7 @@
 //! ```text
 //! let words = read_words(&rt)?;                            // what stands behind the program's name
 //! let asked = asked_of(alloc, &words)?;                    // the roots, where the words ask for a run
-//! guarded(&rt, &roots, &mut folders)                       // the status that a run ends with before it begins, if it does
+//! guarded(&rt, &roots, &mut folders)                       // how a run ends before it begins, if it does
 //! exit_of(&status)
 //! ```
 #![tactic(auto)]
@@ -20,7 +20,7 @@ mod telling;
 mod words;
 
 pub use after::{Ending, tell_end};
-pub use before::guarded;
+pub use before::{Stopped, guarded};
 pub use streams::Streams;
 pub use telling::tell_unread;
 pub use words::{Asked, asked_of, exit_of, read_words, unread};

@@ -33,6 +33,7 @@ fn below(alloc: Global, folder: &[u8], name: &[u8]) -> Result<Text, Memory> {
 /// The word for what was tried.
 fn word_of<'a>(tried: Tried) -> &'a [u8] {
     match tried {
+        Tried::Placing => b"placing",
         Tried::Listing => b"listing",
         Tried::Reading => b"reading",
         Tried::Making => b"making",

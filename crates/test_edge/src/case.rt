@@ -105,7 +105,7 @@ fn tell(
         Command::Slip => told::value(out, &slip_of(word(words, 0))),
         Command::Unshown => names::tell_unshown(alloc, word(words, 0), out),
         Command::LiesIn => places::tell_lies_in(alloc, words, out),
-        Command::Roots => disk::tell_nested(rt, words, out),
+        Command::Roots => disk::tell_obstacle(rt, words, out),
         _ => disk::obey(rt, command, words, out),
     }
 }

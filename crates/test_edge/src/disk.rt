@@ -4,7 +4,7 @@ use crate::commands::Command;
 use crate::told;
 use crate::words::text;
 use desk_base::{Memory, Text};
-use desk_places::{Place, Places, first_nested, place_of};
+use desk_places::{Obstacle, Place, Places, first_obstacle, place_of};
 use std::io::ErrorKind;
 use std::os::unix::fs::symlink;
 use std::{fs, io, process};
@@ -16,37 +16,33 @@ fn path_of(rt: &HostRuntime, name: &str) -> Result<String, Memory> {
 }
 
 /// The place of the root of a name.
-fn found(rt: &HostRuntime, name: &str) -> Result<Option<Box<Place>>, Memory> {
+fn found(rt: &HostRuntime, name: &str) -> Result<Box<io::Result<Place>>, Memory> {
     let path = path_of(rt, name)?;
     let path = Text::from_bytes(rt.alloc(), path.as_bytes())?;
-    match place_of(rt, &path) {
-        Ok(Some(place)) => Ok(Some(Box::new(rt.alloc(), place)?)),
-        _ => Ok(None),
-    }
+    Ok(Box::new(rt.alloc(), place_of(rt, &path))?)
 }
 
 /// The places of rules, source, target and ledger.
-fn places_of(rt: &HostRuntime, words: &[Text]) -> Result<Option<Box<Places>>, Memory> {
-    let (Some(rules), Some(from)) = (found(rt, text(words, 0))?, found(rt, text(words, 1))?) else {
-        return Ok(None);
-    };
-    let (Some(to), Some(ledger)) = (found(rt, text(words, 2))?, found(rt, text(words, 3))?) else {
-        return Ok(None);
-    };
+fn places_of(rt: &HostRuntime, words: &[Text]) -> Result<Box<Places>, Memory> {
+    let rules = found(rt, text(words, 0))?;
+    let from = found(rt, text(words, 1))?;
+    let to = found(rt, text(words, 2))?;
+    let ledger = found(rt, text(words, 3))?;
     let places = Places {
         rules: Box::into_inner(rules),
         from: Box::into_inner(from),
         to: Box::into_inner(to),
         ledger: Box::into_inner(ledger),
     };
-    Ok(Some(Box::new(rt.alloc(), places)?))
+    Ok(Box::new(rt.alloc(), places)?)
 }
 
-/// Tells the first pair of roots of which one lies in the other.
-pub fn tell_nested(rt: &HostRuntime, words: &[Text], out: &mut String) -> Result<(), Memory> {
-    match places_of(rt, words)? {
-        Some(places) => told::value(out, &first_nested(&places)),
-        None => told::text(out, "no place"),
+/// Tells the first pair of roots of which one lies in the other, or the first root whose place isn't told.
+pub fn tell_obstacle(rt: &HostRuntime, words: &[Text], out: &mut String) -> Result<(), Memory> {
+    match first_obstacle(&*places_of(rt, words)?) {
+        Some(Obstacle::Nested(pair)) => told::value(out, &Some(pair)),
+        Some(Obstacle::Unknown(root)) => Ok(writeln!(out, "  unknown {root:?}")?),
+        None => told::text(out, "none"),
     }
 }
 

@@ -10,6 +10,7 @@ use std::io::Error;
 
 /// What was tried, by its name.
 const TRIED: &[(&[u8], Tried)] = &[
+    (b"placing", Tried::Placing),
     (b"listing", Tried::Listing),
     (b"reading", Tried::Reading),
     (b"making", Tried::Making),
@@ -21,6 +22,8 @@ const TRIED: &[(&[u8], Tried)] = &[
 const CAUSES: &[(&[u8], Cause)] = &[
     (b"link", Cause::Link),
     (b"special", Cause::Special),
+    (b"holds-written", Cause::HoldsWritten),
+    (b"holds-read", Cause::HoldsRead),
     (b"folder", Cause::Folder),
     (b"busy", Cause::Busy),
     (b"full", Cause::Full),

@@ -32,7 +32,7 @@
 //! lies-in NODES REST NODES REST              whether a place lies in another
 //! folder PATH                                makes a folder
 //! link PATH TO                               makes a link at a path, which leads there
-//! roots RULES FROM TO LEDGER                 the first pair of roots of which one lies in the other
+//! roots RULES FROM TO LEDGER                 the first pair of roots of which one lies in the other, or a root without a place
 //! remove                                     removes all folders and links
 //! ```
 #![tactic(auto)]

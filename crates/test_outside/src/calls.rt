@@ -23,6 +23,7 @@ pub enum Call {
     Stop,
     Mend,
     KeepWithin,
+    KeepApart,
     Fault,
 }
 
@@ -191,6 +192,7 @@ fn answer_two(
     match call {
         Call::CreateFiles => say_done(make_files(place, alloc, path, number_of(word)), out),
         Call::Append => place.append(path, word.as_bytes(), out),
+        Call::KeepApart => place.keep_apart(alloc, path, word),
         Call::List | Call::Count => list(place, call, path, number_of(word), out),
         _ => say("other words are wanted", out),
     }

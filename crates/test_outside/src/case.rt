@@ -43,6 +43,7 @@ const NAMES: &[(&[u8], Command)] = &[
     (b"stop", Command::Call(Call::Stop)),
     (b"mend", Command::Call(Call::Mend)),
     (b"keep-within", Command::Call(Call::KeepWithin)),
+    (b"keep-apart", Command::Call(Call::KeepApart)),
     (b"fault", Command::Call(Call::Fault)),
     (b"symlink", Command::Change(Change::Symlink)),
     (b"hard-link", Command::Change(Change::HardLink)),

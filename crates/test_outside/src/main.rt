@@ -11,6 +11,7 @@
 //! content PATH                          what a file holds: of folders on a disk, as the system reads it
 //! stop CALL | mend                      the calls of folders in memory from one on fail; none fails any more
 //! keep-within PATH | fault              the target of folders on a disk; the last fault that they remember
+//! keep-apart WRITTEN READ               what is written over folders on a disk, and what is read
 //! symlink TEXT PATH | hard-link OLD NEW | overwrite PATH BYTES       what another program does to files
 //! digest BYTES | digest-parts BYTES..   a digest
 //! ledger new [CALL]..                   a ledger in memory, of which these calls fail

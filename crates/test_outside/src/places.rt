@@ -10,8 +10,10 @@ use desk_base::{Memory, Text, TextList};
 use desk_disk::DiskFolders;
 use desk_faults::Fault;
 use desk_folders::{FolderFault, Folders, GenFile, MemoryFolders, is_full};
+use desk_places::{Apart, Places, place_of};
 use std::alloc::Global;
 use std::fs;
+use std::io::{self, ErrorKind};
 
 /// Whether each file has a full path.
 fn have_full_paths(files: &[GenFile]) -> bool
@@ -144,6 +146,23 @@ impl<'r> TestFolders<'r> {
         if let TestFolders::Disk(_, folders) = self {
             folders.keep_within(target);
         }
+    }
+
+    /// Names to folders on a disk what is written and what is read.
+    pub fn keep_apart(&mut self, alloc: Global, written: &Text, read: &Text) -> Result<(), Memory> {
+        if let TestFolders::Disk(rt, folders) = self {
+            let places = Box::new(
+                alloc,
+                Places {
+                    rules: Err(io::Error::from(ErrorKind::NotFound)),
+                    from: place_of(*rt, read),
+                    to: place_of(*rt, written),
+                    ledger: Err(io::Error::from(ErrorKind::NotFound)),
+                },
+            )?;
+            folders.keep_apart(Apart::of(alloc, &places)?);
+        }
+        Ok(())
     }
 
     /// The last fault that folders on a disk remember.
