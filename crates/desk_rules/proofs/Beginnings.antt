@@ -20,7 +20,7 @@ use Rattle.desk_packages.specs.Keys.{RiseBy, IsTable, IsNowhere, IsPlaceOf}
 use Rattle.desk_packages.proofs.Same.{covers_is, same_is}
 use Rattle.desk_packages.proofs.Picks.{In, Found, pick_Some, all_In}
 use Rattle.desk_packages.proofs.Cuts.{split_behind, split_written}
-use Rattle.desk_packages.proofs.HasSource.{any_true, any_false, any_found}
+use Rattle.desk_packages.proofs.HasSource.{any_true, any_false}
 use Rattle.desk_packages.proofs.Searched.{in_at, at_in, find_nothing}
 use Rattle.desk_rules.specs.RuleFiles.{in_order}
 use Rattle.desk_rules.specs.RuleSets.{changing_pick, only_changing}

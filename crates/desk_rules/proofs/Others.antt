@@ -5,7 +5,6 @@ use Rattle.desk_base.specs.Names.{Text}
 use Rattle.desk_patterns.specs.Selections.{Choice}
 use Rattle.desk_patterns.specs.PatternTexts.{PatternText}
 use Rattle.desk_packages.specs.Renames.{Renaming}
-use Rattle.desk_packages.specs.Keys.{RiseBy}
 use Rattle.desk_entries.specs.Exchanges.{Exchange, BundleUpdate}
 use Rattle.desk_rules.specs.Files.{versions_name, bundles_name, direct_name, selection_name, text_name}
 use Rattle.desk_rules.specs.Others.{filled_or, first_other}

@@ -1,6 +1,6 @@
-use Rattle.std.proofs.Common.{◌≡◌, ◌∙◌, length, true, sym, ap, arith}
+use Rattle.std.proofs.Common.{◌∙◌, sym, ap, arith}
 use Rattle.std.proofs.lemmas.List.{take_all}
-use Rattle.desk_base.specs.Names.{Text, is_whole}
+use Rattle.desk_base.specs.Names.{is_whole}
 use Rattle.desk_rules.proofs.Beginnings.{first_cut, first_whole}
 use Rattle.desk_rules.proofs.firsts.first_of.Goals as goal
 

@@ -1,4 +1,4 @@
-use Rattle.std.proofs.Common.{◌∙◌, sym, ap, arith, refl}
+use Rattle.std.proofs.Common.{refl}
 use Rattle.desk_rules.proofs.Beginnings.{none_begun}
 use Rattle.desk_rules.proofs.firsts.FirstBytes.of.Goals as goal
 

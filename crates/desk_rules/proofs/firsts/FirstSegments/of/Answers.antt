@@ -1,8 +1,5 @@
-use Rattle.std.proofs.Common.{◌∙◌, sym, subst}
-use Rattle.desk_properties.specs.Properties.{Entry}
-use Rattle.desk_rules.specs.RuleFiles.{in_order}
+use Rattle.std.proofs.Common.{sym, subst}
 use Rattle.desk_rules.specs.Firsts.{AreFirsts}
-use Rattle.desk_rules.proofs.Ordered.{order_rises}
 use Rattle.desk_rules.proofs.Beginnings.{firsts_sorted, keys_rise}
 use Rattle.desk_rules.proofs.firsts.FirstSegments.of.Goals as goal
 
