@@ -1,5 +1,5 @@
 -- Versions and bundle updates that were read have their form.
-use Rattle.std.proofs.Common.{◌≡◌, Bool, true, false, cond, not, ◌&&◌, List, Option, Some, None, Result, Ok, Err, refl, sym, ap, subst, ◌∙◌}
+use Rattle.std.proofs.Common.{◌≡◌, Bool, true, false, cond, not, ◌&&◌, List, Some, None, Result, Ok, Err, refl, sym, ap, subst, ◌∙◌}
 use Rattle.std.specs.List.{list_any, before_first, after_first}
 use Rattle.std.specs.FinMap as finite
 use Rattle.std.specs.FinMap.{get-from_entries}
@@ -14,7 +14,7 @@ use Rattle.desk_entries.specs.declared.faults.EntryFault.TheVariants.{Key, Value
 use Rattle.desk_rules.specs.Files.{Files, versions_name, bundles_name}
 use Rattle.desk_rules.specs.Rules.{Versions, Update}
 use Rattle.desk_entries.specs.Exchanges.{BundleUpdate}
-use Rattle.desk_rules.specs.RuleSets.{AreVersions, HaveVersions, IsVersionOrNone, IsUpdate, HaveUpdates}
+use Rattle.desk_rules.specs.RuleSets.{AreVersions, HaveVersions, IsUpdate, HaveUpdates}
 use Rattle.desk_rules.specs.RuleFiles.{entries_in, all_in, keyed, versions_entry, update_entry}
 use Rattle.desk_rules.proofs.TextMaps.{find_in}
 use Rattle.desk_rules.proofs.Utf8Rules.{all_at, entries_all}

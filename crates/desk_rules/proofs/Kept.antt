@@ -1,5 +1,5 @@
 -- What a rule set keeps makes its rules well-formed and settled.
-use Rattle.std.proofs.Common.{◌≡◌, List, None, subst, ap, ◌∙◌}
+use Rattle.std.proofs.Common.{◌≡◌, Bool, List, None, subst, ap, ◌∙◌}
 use Rattle.std.specs.FinMap as finite
 use Rattle.desk_base.specs.Names.{Text}
 use Rattle.desk_patterns.specs.Selections.{Choice}
@@ -31,6 +31,6 @@ settled_by renames versions bundles direct selection texts table b d none target
   updated = us;
 }
 
-pub rule_set_by : {renames : List Renaming} {versions : List (Text × Versions)} {bundles : List BundleUpdate} {direct : List Exchange} {selection : List Choice} {texts : List PatternText} → IsKept renames versions bundles direct → (rules : Rules) → rules_of renames versions bundles direct selection texts ≡ rules → IsRuleSet rules
+pub rule_set_by : {renames : List Renaming} {versions : List (Text × Versions)} {bundles : List BundleUpdate} {direct : List Exchange} {selection : List Choice} {texts : List PatternText} {firsts : List Text} {begun : List Bool} → IsKept renames versions bundles direct firsts begun → (rules : Rules) → rules_of renames versions bundles direct selection texts ≡ rules → IsRuleSet rules
 rule_set_by {renames} {versions} {bundles} {direct} {selection} {texts} kept rules is =
     subst IsRuleSet is (settled_by renames versions bundles direct selection texts kept.table kept.bundles_rise kept.direct_rise kept.settled kept.utf8 kept.packages kept.direct_utf8 kept.versioned kept.updated)

@@ -17,3 +17,4 @@ pub mod TextBuilds
 pub mod Utf8Rules
 pub mod FormedEntries
 pub mod Others
+pub mod Beginnings

@@ -5,7 +5,6 @@ use Rattle.desk_base.specs.Names.{Text}
 use Rattle.desk_patterns.specs.Selections.{Choice}
 use Rattle.desk_patterns.specs.PatternTexts.{PatternText}
 use Rattle.desk_packages.specs.Renames.{Renaming}
-use Rattle.desk_packages.specs.Keys.{RiseBy}
 use Rattle.desk_entries.specs.Exchanges.{Exchange, BundleUpdate}
 use Rattle.desk_rules.specs.Files.{versions_name, bundles_name, direct_name, selection_name, text_name}
 use Rattle.desk_rules.specs.Others.{filled_or, first_other}
@@ -14,7 +13,7 @@ use Rattle.desk_rules.specs.Rules.{Versions}
 use Rattle.desk_rules.proofs.TextMaps.{entries_rising}
 
 -- the lists in place of the entries of their maps
-pub other_is : (renames : List Renaming) (versions : List (Text × Versions)) (bundles : List BundleUpdate) (direct : List Exchange) (selection : List Choice) (texts : List PatternText) → IsKept renames versions bundles direct
+pub other_is : (renames : List Renaming) (versions : List (Text × Versions)) (bundles : List BundleUpdate) (direct : List Exchange) (selection : List Choice) (texts : List PatternText) {firsts : List Text} {begun : List Bool} → IsKept renames versions bundles direct firsts begun
     → first_other (rules_of renames versions bundles direct selection texts) ≡ filled_or versions versions_name (filled_or bundles bundles_name (filled_or direct direct_name (filled_or selection selection_name (filled_or texts text_name None))))
 other_is renames versions bundles direct selection texts kept =
     let rules = rules_of renames versions bundles direct selection texts in

@@ -10,3 +10,4 @@ pub mod TextFiles
 pub mod LoadedTexts
 pub mod Sides
 pub mod Others
+pub mod Firsts

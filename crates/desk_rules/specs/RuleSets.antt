@@ -15,6 +15,7 @@ use Rattle.desk_chains.specs.Chains.{first_chain_in}
 use Rattle.desk_entries.specs.Exchanges.{Exchange, BundleUpdate}
 use Rattle.desk_rules.specs.Settled.{IsSettled}
 use Rattle.desk_rules.specs.Images.{dotted, cls, str}
+use Rattle.desk_rules.specs.Firsts.{AreFirsts, AreFirstBytes}
 
 -- the rules of lists in byte order of their keys
 abbrev pub rules_of : List Renaming → List (Text × Versions) → List BundleUpdate → List Exchange → List Choice → List PatternText → Rules
@@ -63,8 +64,9 @@ abbrev pub HaveUpdates : TextMap Update → Type 0
 HaveUpdates bundles = (text : Text) (value : Update) → finite.get bundles text ≡ Some value → IsUpdate value
 
 -- what a rule set keeps: lists in byte order of their keys without a chain, whose new packages and direct texts are modified
--- UTF-8, and whose versions and new symbolic names have their form
-pub record IsKept (renames : List Renaming) (versions : List (Text × Versions)) (bundles : List BundleUpdate) (direct : List Exchange) : Type 0 where
+-- UTF-8, and whose versions and new symbolic names have their form; the first segments of the renames, and which bytes the
+-- direct texts begin with
+pub record IsKept (renames : List Renaming) (versions : List (Text × Versions)) (bundles : List BundleUpdate) (direct : List Exchange) (firsts : List Text) (begun : List Bool) : Type 0 where
   pub table : IsTable renames
   pub versions_rise : RiseBy (λ v. v.0) versions
   pub bundles_rise : RiseBy (λ b. b.0) bundles
@@ -75,6 +77,8 @@ pub record IsKept (renames : List Renaming) (versions : List (Text × Versions))
   pub direct_utf8 : HaveUtf8Texts (finite.from_entries direct)
   pub versioned : HaveVersions (finite.from_entries versions)
   pub updated : HaveUpdates (finite.from_entries bundles)
+  pub firsts_are : AreFirsts renames firsts
+  pub begun_are : AreFirstBytes (λ d. d.0) direct begun
 
 -- sources and targets are packages, no image is changed again, targets and direct texts are modified UTF-8, versions are
 -- versions, and new names of bundles symbolic names

@@ -11,6 +11,7 @@
 ghost use Rattle.std.specs.Prelude.{◌≡◌};
 
 mod files;
+mod firsts;
 mod keyed;
 mod reading;
 mod rule_set;

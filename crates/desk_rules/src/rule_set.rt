@@ -13,8 +13,10 @@ ghost use Rattle.desk_rules.specs.Builds.{IsFaultOf};
 ghost use Rattle.desk_rules.specs.RuleFiles.{rules_of_files, settled};
 ghost use Rattle.desk_rules.specs.Others.{first_other};
 ghost use Rattle.desk_rules.specs.Sides.{exports};
+ghost use Rattle.desk_rules.specs.Firsts.{begins_as};
 ghost use Rattle.desk_rules.specs.RuleSets.{changing_pick, IsFrontOf, IsRuleSet, AreWritten, HaveUtf8Targets, HaveUtf8Texts, HaveVersions, HaveUpdates, PackagesStay, ClassesStay, ClassesKeepForm, DottedStay, DottedKeepForm, StringsStay, BundlesStay, version_of, changing_update, update_of, rules_of};
 
+use crate::firsts::{FirstBytes, FirstSegments};
 use crate::keyed::VersionRule;
 use crate::reading::{SELECTION, read_all, read_renames, read_selection};
 use crate::texts::{TEXT, read_texts};
@@ -72,9 +74,13 @@ fn updated_by(rule: &BundleRule) -> BundleUpdate<'_>
 #[derive(Drop)]
 pub struct RuleSet {
     renames: Vec<PackageRename>,
+    /// The first segments of the renames: a package that begins with none of them has no rename.
+    firsts: FirstSegments,
     versions: Vec<VersionRule>,
     bundles: Vec<BundleRule>,
     direct: Vec<DirectRule>,
+    /// Which bytes the direct texts begin with.
+    begun: FirstBytes,
     selection: Selection,
     texts: PatternTexts,
 }
@@ -89,7 +95,7 @@ impl Model for RuleSet {
 
     ghost view = { λ r. rules_of r.renames.items r.versions.items r.bundles.items r.direct.items r.selection r.texts };
 
-    ghost invariant = { λ r. IsKept r.renames.items r.versions.items r.bundles.items r.direct.items };
+    ghost invariant = { λ r. IsKept r.renames.items r.versions.items r.bundles.items r.direct.items r.firsts r.begun };
 }
 
 impl RuleSet {
@@ -123,11 +129,15 @@ impl RuleSet {
                 second: Text::from_bytes(alloc, chain.second)?,
             }));
         }
+        let firsts = FirstSegments::of(alloc, &renames)?;
+        let begun = FirstBytes::of(&direct);
         Ok(RuleSet {
             renames,
+            firsts,
             versions,
             bundles,
             direct,
+            begun,
             selection,
             texts,
         })
@@ -222,6 +232,9 @@ impl RuleSet {
         ensures dotted_stay { DottedStay self.now.renames }
         ensures dotted_keep_form { DottedKeepForm self.now.renames }
     {
+        if !self.firsts.begins(path, separator) {
+            return None;
+        }
         match pick(&self.renames, path, separator) {
             Some(rename) if rename.changes() => Some(PackageFront {
                 taken: rename.source_text(separator).len(),
@@ -231,12 +244,20 @@ impl RuleSet {
         }
     }
 
+    /// Whether a package that is written with a separator begins with the first segment of a rename, of an exception too. Where
+    /// it doesn't, no rename is for it. It takes no memory.
+    pub fn begins(&self, path: &[u8], separator: Separator) -> bool
+        ensures { result ≡ begins_as self.now.renames (segments (byte_of separator) path.now) }
+    {
+        self.firsts.begins(path, separator)
+    }
+
     /// Whether a text, read as a package that is written with dots, is the source of a rename, of an exception too. It takes
     /// no memory.
     pub fn is_source(&self, text: &[u8]) -> bool
         ensures { result ≡ has_source self.now.renames (segments dot text.now) }
     {
-        is_source(&self.renames, text, Separator::Dot)
+        self.firsts.begins(text, Separator::Dot) && is_source(&self.renames, text, Separator::Dot)
     }
 
     /// The new text of an old one: something exactly where the text is a direct source, also where the two are
@@ -246,6 +267,9 @@ impl RuleSet {
         ensures settled { IsRuleSet self.now }
         ensures strings_stay { StringsStay self.now }
     {
+        if !self.begun.may_begin(text) {
+            return None;
+        }
         match rule_of(&self.direct, text) {
             None => None,
             Some(rule) => Some(rule.target()),

@@ -1,6 +1,4 @@
-use Rattle.std.proofs.Common.{map}
 use Rattle.std.proofs.lemmas.Result.{IfErr-weaker, on_ok_weaker}
-use Rattle.desk_properties.specs.Properties.{Entry}
 use Rattle.desk_rules.proofs.TextBuilds.{checked_refused, texts_read}
 use Rattle.desk_rules.proofs.texts.load_named.Goals as goal
 

@@ -1,4 +1,4 @@
-use Rattle.std.proofs.Common.{◌≡◌, ◌∙◌, ◌++◌, ◌+◌, [], ◌∷◌, ap, sym, subst, List, ℕ, arith}
+use Rattle.std.proofs.Common.{◌∙◌, ◌+◌, [], ap, sym, subst, arith}
 use Rattle.std.proofs.lemmas.Result.{err_from_is_err_and}
 use Rattle.desk_patterns.specs.SeenTexts.{texts_seen}
 use Rattle.desk_rules.specs.TextFiles.{pattern_text}

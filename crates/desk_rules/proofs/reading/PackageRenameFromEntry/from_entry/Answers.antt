@@ -1,4 +1,4 @@
-use Rattle.std.proofs.Common.{◌≡◌, ◌∙◌, Ok, ap, sym}
+use Rattle.std.proofs.Common.{◌∙◌, Ok, ap, sym}
 use Rattle.desk_packages.specs.Renames.{Renaming, key_of}
 use Rattle.desk_rules.specs.RuleFiles.{renaming_from}
 use Rattle.desk_rules.proofs.RenameEntries.{entry_formed, entry_key}

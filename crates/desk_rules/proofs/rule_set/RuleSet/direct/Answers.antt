@@ -7,7 +7,19 @@ use Rattle.desk_entries.specs.Exchanges.{Exchange}
 use Rattle.desk_rules.proofs.Kept.{rule_set_by}
 use Rattle.desk_rules.proofs.TextMaps.{found_value}
 use Rattle.desk_rules.proofs.Laws.{strings_stay}
+use Rattle.desk_rules.proofs.Beginnings.{no_key}
 use Rattle.desk_rules.proofs.rule_set.RuleSet.direct.Goals as goal
+
+pub returns-then-not-may_begin-clause-answer : goal.returns-then-not-may_begin-clause-answer
+returns-then-not-may_begin-clause-answer c =
+    sym (ap (λ (r : Rules). finite.get r.direct c.args.text.now) (sym c.self.view_is)
+    ∙ no_key c.self.inside.direct.items c.self.inside.begun c.self.invariant.begun_are c.args.text.now c.type_inv.text (sym c.may_begin.ensures ∙ c.if-not-may_begin.true))
+
+pub returns-then-not-may_begin-clause-settled : goal.returns-then-not-may_begin-clause-settled
+returns-then-not-may_begin-clause-settled c = rule_set_by c.self.invariant c.args.self.now c.self.view_is
+
+pub returns-then-not-may_begin-clause-strings_stay : goal.returns-then-not-may_begin-clause-strings_stay
+returns-then-not-may_begin-clause-strings_stay c = strings_stay c.args.self.now (rule_set_by c.self.invariant c.args.self.now c.self.view_is)
 
 pub returns-in-None-clause-answer : goal.returns-in-None-clause-answer
 returns-in-None-clause-answer c =

@@ -1,4 +1,4 @@
-use Rattle.std.proofs.Common.{◌≡◌, sym, arith}
+use Rattle.std.proofs.Common.{sym, arith}
 use Rattle.desk_rules.proofs.LoadedTexts.{place_found, place_added}
 use Rattle.desk_rules.proofs.texts.LoadedTexts.place.Goals as goal
 
