@@ -711,8 +711,9 @@ if command -v strace >/dev/null; then
     'rm -r app/META-INF; printf x >app/META-INF'
   changing 'a source that is removed' 11 "$fault" 'migrate: reading app/META-INF/MANIFEST.MF: No such file or directory' 'rm -r app'
 
-  # Between the look at a file and its opening, at the first reading and at the second. The first look is that of the listing.
-  for number in 2 3; do
+  # Between the look at a file and its opening, at the first reading and at the second. The first look is that of the listing, and
+  # behind each opening comes another.
+  for number in 2 4; do
     for kind in 'a character device' 'another file'; do
       fresh; printf 'more' >odd
       [ "$kind" = 'another file' ] || { rm odd; odd "$kind" odd; } || continue
