@@ -791,6 +791,27 @@ fresh; ln -s nowhere app/link; "$program" $words >&- 2>err; status=$?
 check 'a fault without output' 11 "$status"
 has 'a fault without output: which' "migrate: listing app/link: $link"
 
+# into NAME REDIRECTION LINE SAID: a run whose streams go into its ledger ends before it begins, and the ledger stays
+into() {
+  local before
+  fresh; over
+  before=$(sha256sum ledger)
+  eval "\"\$program\" \$words $2"; status=$?
+  check "$1: status" 12 "$status"
+  check "$1: the ledger stays" "$before" "$(sha256sum ledger)"
+  [ -z "$3" ] || has "$1" 'migrate: opening the ledger ledger: standard output or standard error is written into it'
+  gone "$1"
+}
+into 'the report behind the ledger' '>>ledger 2>err' said
+into 'the report over the ledger' '1<>ledger 2>err' said
+into "the report behind the ledger's log" '>>ledger-wal 2>err' said
+into 'notes behind the ledger' '2>>ledger >out' ''
+check 'notes behind the ledger: the report has the line' "$ledger_fault" "$(cat out)"
+into 'all behind the ledger' '>>ledger 2>&1' ''
+fresh; over; "$program" $words >ledger 2>err; status=$?
+check 'a ledger that is cut for the report: status' 12 "$status"
+check 'a ledger that is cut for the report: nothing is written into it' 0 "$(stat -c %s ledger)"
+gone 'a ledger that is cut for the report'
 fresh; migrate run --rules rules --from app --to to --ledger ledger "--verify=$(printf '\033')[2J"
 check 'a word with an escape: status' 20 "$status"
 has 'a word with an escape: it is told as paths are' '\1b[2J'

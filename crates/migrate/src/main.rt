@@ -8,7 +8,8 @@ use desk_base::{Memory, Text};
 use desk_disk::DiskFolders;
 use desk_notes::Overheard;
 use desk_program::{
-    Asked, Ending, Streams, asked_of, exit_of, guarded, read_words, tell_end, tell_unread, unread,
+    Asked, Ending, Streams, asked_of, ended_by_streams, exit_of, guarded, read_words, tell_end,
+    tell_unread, unread,
 };
 use desk_report::{Status, StdSink, write_fault};
 use desk_run::{FreeGate, desk};
@@ -94,6 +95,11 @@ fn follow_run<R: Threads + Sync>(
     words: &[Text],
     roots: &Roots,
 ) -> Status {
+    match ended_by_streams(rt, roots) {
+        Ok(None) => {}
+        Ok(Some(status)) => return status,
+        Err(Memory) => return end_without_task(rt, Status::Memory),
+    }
     let Ok(ledger) = AnyLedger::boxed(rt, false) else {
         return end_without_task(rt, Status::Memory);
     };
