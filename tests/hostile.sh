@@ -791,7 +791,8 @@ fresh; ln -s nowhere app/link; "$program" $words >&- 2>err; status=$?
 check 'a fault without output' 11 "$status"
 has 'a fault without output: which' "migrate: listing app/link: $link"
 
-# into NAME REDIRECTION LINE SAID: a run whose streams go into its ledger ends before it begins, and the ledger stays
+# into NAME REDIRECTION TOLD: a run whose streams go into its ledger ends before it begins, and the ledger stays; where TOLD is `said`
+# standard error says so, and where it is `printed` standard output does
 into() {
   local before
   fresh; over
@@ -799,14 +800,16 @@ into() {
   eval "\"\$program\" \$words $2"; status=$?
   check "$1: status" 12 "$status"
   check "$1: the ledger stays" "$before" "$(sha256sum ledger)"
-  [ -z "$3" ] || has "$1" 'migrate: opening the ledger ledger: standard output or standard error is written into it'
+  case $3 in
+    said) has "$1" 'migrate: opening the ledger ledger: standard output or standard error is written into it' ;;
+    printed) check "$1: the line on the other stream" "$ledger_fault" "$(cat out)" ;;
+  esac
   gone "$1"
 }
 into 'the report behind the ledger' '>>ledger 2>err' said
 into 'the report over the ledger' '1<>ledger 2>err' said
 into "the report behind the ledger's log" '>>ledger-wal 2>err' said
-into 'notes behind the ledger' '2>>ledger >out' ''
-check 'notes behind the ledger: the report has the line' "$ledger_fault" "$(cat out)"
+into 'notes behind the ledger' '2>>ledger >out' printed
 into 'all behind the ledger' '>>ledger 2>&1' ''
 fresh; over; "$program" $words >ledger 2>err; status=$?
 check 'a ledger that is cut for the report: status' 12 "$status"
