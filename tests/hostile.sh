@@ -864,8 +864,9 @@ if command -v strace >/dev/null; then
     'rm -r app/META-INF; printf x >app/META-INF'
   changing 'a source that is removed' 11 "$fault" 'migrate: reading app/META-INF/MANIFEST.MF: No such file or directory' 'rm -r app'
 
-  # Between the look at a file and its opening, at the first reading and at the second. The first look is that of the listing.
-  for number in 2 3; do
+  # Between the look at a file and its opening, at the first reading and at the second. The first look is that of the listing, and
+  # behind each opening comes another.
+  for number in 2 4; do
     for kind in 'a character device' 'another file'; do
       fresh; printf 'more' >odd
       [ "$kind" = 'another file' ] || { rm odd; odd "$kind" odd; } || continue
@@ -943,6 +944,30 @@ fresh; ln -s nowhere app/link; "$program" $words >&- 2>err; status=$?
 check 'a fault without output' 11 "$status"
 has 'a fault without output: which' "migrate: listing app/link: $link"
 
+# into NAME REDIRECTION TOLD: a run whose streams go into its ledger ends before it begins, and the ledger stays; where TOLD is `said`
+# standard error says so, and where it is `printed` standard output does
+into() {
+  local before
+  fresh; over
+  before=$(sha256sum ledger)
+  eval "\"\$program\" \$words $2"; status=$?
+  check "$1: status" 12 "$status"
+  check "$1: the ledger stays" "$before" "$(sha256sum ledger)"
+  case $3 in
+    said) has "$1" 'migrate: opening the ledger ledger: standard output or standard error is written into it' ;;
+    printed) check "$1: the line on the other stream" "$ledger_fault" "$(cat out)" ;;
+  esac
+  gone "$1"
+}
+into 'the report behind the ledger' '>>ledger 2>err' said
+into 'the report over the ledger' '1<>ledger 2>err' said
+into "the report behind the ledger's log" '>>ledger-wal 2>err' said
+into 'notes behind the ledger' '2>>ledger >out' printed
+into 'all behind the ledger' '>>ledger 2>&1' ''
+fresh; over; "$program" $words >ledger 2>err; status=$?
+check 'a ledger that is cut for the report: status' 12 "$status"
+check 'a ledger that is cut for the report: nothing is written into it' 0 "$(stat -c %s ledger)"
+gone 'a ledger that is cut for the report'
 fresh; migrate run --rules rules --from app --to to --ledger ledger "--verify=$(printf '\033')[2J"
 check 'a word with an escape: status' 20 "$status"
 has 'a word with an escape: it is told as paths are' '\1b[2J'

@@ -5,7 +5,7 @@ use desk_base::{Memory, Text};
 use desk_disk::DiskFolders;
 use desk_faults::Fault;
 use desk_notes::Overheard;
-use desk_program::{Asked, Ending, Stopped, asked_of, guarded, tell_end, tell_unread, unread};
+use desk_program::{Asked, Ending, Stopped, asked_of, ended_by_streams, guarded, tell_end, tell_unread, unread};
 use desk_report::{Sink, Status, write_fault};
 use desk_run::{FreeGate, desk};
 use desk_words::Roots;
@@ -101,6 +101,11 @@ fn follow_run<R: Threads + Sync, O: Sink + Drop>(
     roots: &Roots,
     out: O,
 ) -> Followed<O> {
+    match ended_by_streams(rt, roots) {
+        Ok(None) => {}
+        Ok(Some(status)) => return Followed { status, out },
+        Err(Memory) => return end_without_task(rt, Status::Memory, out),
+    }
     let Ok(ledger) = AnyLedger::boxed(rt, false) else {
         return end_without_task(rt, Status::Memory, out);
     };
