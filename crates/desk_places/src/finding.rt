@@ -19,14 +19,19 @@ impl Node {
     }
 }
 
+/// Whether an error of the system says that nothing is at a path: it isn't there, is below a file, or has a name that is longer than
+/// any.
+fn is_missing(kind: ErrorKind) -> bool {
+    kind == ErrorKind::NotFound
+        || kind == ErrorKind::NotADirectory
+        || kind == ErrorKind::InvalidFilename
+}
+
 /// What is there at a path, if it is; a link is followed.
 fn found_at(rt: &HostRuntime, path: &str) -> io::Result<Option<Metadata>> {
     match fs::metadata(rt, path) {
         Ok(found) => Ok(Some(found)),
-        Err(error)
-            if error.kind() == ErrorKind::NotFound || error.kind() == ErrorKind::NotADirectory => {
-            Ok(None)
-        }
+        Err(error) if is_missing(error.kind()) => Ok(None),
         Err(error) => Err(error),
     }
 }

@@ -104,7 +104,7 @@ pub struct Stopped {
 }
 
 /// How a run ends that something stands against.
-fn stopped(
+fn stopped_by(
     rt: &HostRuntime,
     obstacle: Obstacle,
     roots: &Roots,
@@ -130,7 +130,7 @@ fn guard(
 ) -> Result<Option<Stopped>, Memory> {
     let places = places_of(rt, roots)?;
     if let Some(obstacle) = first_obstacle(&places) {
-        return Ok(Some(stopped(rt, obstacle, roots, &places)?));
+        return Ok(Some(stopped_by(rt, obstacle, roots, &places)?));
     }
     folders.keep_within(roots.to.clone()?);
     folders.keep_apart(Apart::of(rt.alloc(), &places)?);

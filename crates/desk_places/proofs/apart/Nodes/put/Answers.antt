@@ -1,4 +1,4 @@
-use Rattle.std.proofs.Common.{◌≡◌, ◌∙◌, ◌||◌, ap}
+use Rattle.std.proofs.Common.{◌∙◌, ◌||◌, ap}
 use Rattle.desk_places.specs.Places.{holds, same_node}
 use Rattle.desk_places.proofs.Sets.{put_holds}
 use Rattle.desk_places.proofs.apart.Nodes.put.Goals as goal
