@@ -5,7 +5,7 @@ ghost use Rattle.desk_notes.specs.Keys.{is_white_byte, is_stop_byte};
 
 use desk_base::{MAX_RULE_FILE_SIZE, Memory, Text};
 use desk_properties::{PropError, read_properties};
-use memchr::{memchr2, memchr_iter};
+use memchr::{memchr_iter, memchr2};
 use std::alloc::Global;
 use std::collections::HashSet;
 use std::str;
@@ -161,9 +161,7 @@ impl<'f> Reading<'f> {
 
     /// Whether a line is read without a copy: it goes on with none, and nothing is escaped in it.
     fn is_plain(&self, lines: &[u8]) -> bool {
-        self.is_utf8
-            && self.begun.as_bytes().is_empty()
-            && memchr2(b'\\', b'\r', lines).is_none()
+        self.is_utf8 && self.begun.as_bytes().is_empty() && memchr2(b'\\', b'\r', lines).is_none()
     }
 
     /// Takes what stands before an LF, of this number.

@@ -28,6 +28,6 @@ pub use lines::{Said, is_archive_file, is_jsr305, is_signature, is_utf16, read_l
 pub use names::Names;
 pub use notes::{Notes, Refusals};
 pub use overheard::Overheard;
-pub use patterns::special_patterns;
+pub use patterns::{PatternLine, special_patterns};
 pub use rules::{RuleNotes, place_text};
 pub use sought::{RuleKind, Sought, SoughtRule, is_for_any, without_blanks};

@@ -31,18 +31,29 @@ fn is_special(pattern: &[u8], entries: &[KeyLine<'_>]) -> bool {
     !pattern.starts_with(b"*") && !has_general(pattern, entries)
 }
 
+/// A pattern of a rule file, and the number of its line.
+#[derive(Debug, Drop)]
+pub struct PatternLine {
+    /// The pattern.
+    pub pattern: Text,
+    /// The number of its line.
+    pub line: u32,
+}
+
 /// The patterns of a rule file that speak of one application, as far as they are among the first 256 that don't begin with `*`.
-pub fn special_patterns<'e, 'f>(
+pub fn special_patterns(
     alloc: Global,
-    entries: &'e [KeyLine<'f>],
-) -> Result<Vec<&'e KeyLine<'f>>, Memory> {
+    entries: &[KeyLine<'_>],
+) -> Result<Vec<PatternLine>, Memory> {
     let mut special = Vec::new(alloc);
     let plain = entries
         .iter()
         .filter(|entry| !entry.key.as_bytes().starts_with(b"*"));
     for entry in plain.take(MOST) {
         if is_special(entry.key.as_bytes(), entries) {
-            special.push(entry)?;
+            let pattern = Text::from_bytes(alloc, entry.key.as_bytes())?;
+            let line = entry.line;
+            special.push(PatternLine { pattern, line })?;
         }
     }
     Ok(special)
@@ -58,13 +69,13 @@ impl RuleNotes {
     pub fn take_patterns(
         &mut self,
         name: &[u8],
-        patterns: &[&KeyLine<'_>],
+        patterns: &[PatternLine],
         paths: &[&[Text]],
     ) -> Result<(), Memory> {
-        for entry in patterns {
-            let pattern = entry.key.as_bytes();
+        for special in patterns {
+            let pattern = special.pattern.as_bytes();
             if !paths.iter().any(|list| is_met(pattern, *list)) {
-                self.take_unmet(name, entry)?;
+                self.take_unmet(name, special)?;
             }
         }
         Ok(())

@@ -3,6 +3,7 @@
 use crate::entries::KeyLine;
 use crate::keys::{MARK, Slip, slip_of};
 use crate::names::Names;
+use crate::patterns::PatternLine;
 use crate::sought::{RuleKind, Sought, SoughtRule};
 use desk_base::{Memory, Text, show_byte};
 use itoa::Buffer;
@@ -116,7 +117,12 @@ impl RuleNotes {
     }
 
     /// Notes a rule file: its name, its bytes, and its entries.
-    pub fn take(&mut self, name: &[u8], file: &[u8], entries: &[KeyLine<'_>]) -> Result<(), Memory> {
+    pub fn take(
+        &mut self,
+        name: &[u8],
+        file: &[u8],
+        entries: &[KeyLine<'_>],
+    ) -> Result<(), Memory> {
         self.take_twice(name, entries)?;
         if name == RENAMES {
             for entry in entries {
@@ -141,8 +147,8 @@ impl RuleNotes {
     }
 
     /// Notes a pattern of a rule file that fits no file.
-    pub fn take_unmet(&mut self, name: &[u8], entry: &KeyLine<'_>) -> Result<(), Memory> {
-        let place = place_text(self.alloc, name, entry.line, entry.key.as_bytes())?;
+    pub fn take_unmet(&mut self, name: &[u8], unmet: &PatternLine) -> Result<(), Memory> {
+        let place = place_text(self.alloc, name, unmet.line, unmet.pattern.as_bytes())?;
         self.unmet.take(self.alloc, place.as_bytes())
     }
 

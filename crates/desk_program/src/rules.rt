@@ -4,11 +4,11 @@ ghost use Rattle.std.specs.Prelude.{◌≡◌};
 ghost use Rattle.desk_program.specs.ChainFiles.{first_file, second_file};
 
 use crate::looks::{MOST_PATHS, front_of, paths_below};
-use crate::search::search;
+use crate::search::look_through;
 use desk_base::{MAX_RULE_FILE_SIZE, Memory, Text};
 use desk_notes::{
-    KeyLine, RuleKind, RuleNotes, Sought, is_for_any, key_lines, line_of_byte, line_of_key,
-    place_text, special_patterns, without_blanks,
+    KeyLine, PatternLine, RuleKind, RuleNotes, Sought, is_for_any, key_lines, line_of_byte,
+    line_of_key, place_text, special_patterns, without_blanks,
 };
 use desk_properties::PropFault;
 use desk_rules::{ChainKind, RuleFault};
@@ -120,15 +120,18 @@ pub(crate) fn folder_notes(rt: &HostRuntime, rules: &Text) -> Result<Text, Memor
     Ok(text)
 }
 
+/// The patterns in a rule file that speak of one application.
+fn patterns_in(rt: &HostRuntime, rules: &Text, name: &[u8]) -> Result<Vec<PatternLine>, Memory> {
+    let file = bytes_in(rt, rules, name);
+    let entries = key_lines(rt.alloc(), file.as_bytes())?;
+    special_patterns(rt.alloc(), &entries)
+}
+
 /// Notes the patterns that speak of this application and fit nothing in it: those of a selection no path of the source, and those of
 /// texts none of the target either.
 fn note_patterns(rt: &HostRuntime, roots: &Roots, notes: &mut RuleNotes) -> Result<(), Memory> {
-    let selection = bytes_in(rt, &roots.rules, SELECTION);
-    let texts = bytes_in(rt, &roots.rules, TEXT);
-    let selection = key_lines(rt.alloc(), selection.as_bytes())?;
-    let texts = key_lines(rt.alloc(), texts.as_bytes())?;
-    let selection = special_patterns(rt.alloc(), &selection)?;
-    let texts = special_patterns(rt.alloc(), &texts)?;
+    let selection = patterns_in(rt, &roots.rules, SELECTION)?;
+    let texts = patterns_in(rt, &roots.rules, TEXT)?;
     if selection.is_empty() && texts.is_empty() {
         return Ok(());
     }
@@ -143,10 +146,10 @@ fn note_patterns(rt: &HostRuntime, roots: &Roots, notes: &mut RuleNotes) -> Resu
 
 /// Notes the rules that nothing in the source meets, or in the target. Of an application that can't be looked through nothing is noted.
 fn note_unmet(rt: &HostRuntime, roots: &Roots, looked: &mut Looked) -> Result<(), Memory> {
-    if let Some(()) = search(rt, &roots.from, &mut looked.source) {
+    if let Some(()) = look_through(rt, &roots.from, &mut looked.source) {
         looked.notes.take_sought(&looked.source)?;
     }
-    if let Some(()) = search(rt, &roots.to, &mut looked.target) {
+    if let Some(()) = look_through(rt, &roots.to, &mut looked.target) {
         looked.notes.take_sought(&looked.target)?;
     }
     Ok(())

@@ -12,16 +12,16 @@ const PART: u32 = 1_048_576;
 /// How many bytes of an application are looked at.
 const MOST_BYTES: u64 = 1_073_741_824;
 
-/// A look through the files below a root.
+/// The files below a root, as they are looked at.
 #[derive(Drop)]
-struct Search<'r, 'a> {
+struct Files<'r, 'a> {
     folders: DiskFolders<'r>,
     root: &'a Text,
     /// How many bytes may still be read.
     left: u64,
 }
 
-impl Search<'_, '_> {
+impl Files<'_, '_> {
     /// The next part of a file, which is empty at its end; none where it can't be read, or where more bytes were read than may be.
     fn part(&mut self, path: &Text, at: u64) -> Option<Text> {
         let part = self.folders.read_part(path, at, PART).ok()?;
@@ -30,7 +30,7 @@ impl Search<'_, '_> {
     }
 
     /// Looks at a file, at 67,108,864 bytes of it at most: no larger one is read for a rule. None where it can't be looked at.
-    fn file(&mut self, name: &[u8], sought: &mut Sought) -> Option<()> {
+    fn look_at(&mut self, name: &[u8], sought: &mut Sought) -> Option<()> {
         let path = path_below(self.root, name).ok()?;
         let mut at = 0;
         sought.begin(name);
@@ -49,12 +49,12 @@ impl Search<'_, '_> {
     }
 
     /// Looks at files until no rule is left. None where one can't be looked at.
-    fn files(&mut self, names: &TextList, sought: &mut Sought) -> Option<()> {
+    fn look_at_all(&mut self, names: &TextList, sought: &mut Sought) -> Option<()> {
         for name in names.as_slice() {
             if sought.is_done() {
                 return Some(());
             }
-            self.file(name.as_bytes(), sought)?;
+            self.look_at(name.as_bytes(), sought)?;
         }
         Some(())
     }
@@ -62,7 +62,7 @@ impl Search<'_, '_> {
 
 /// Looks for rules in the files below a root until none is left, or all are looked at. None where they can't be looked at: one can't
 /// be read, there are more than 200,000, they have more than 1,073,741,824 bytes together, or memory doesn't suffice.
-pub(crate) fn search(rt: &HostRuntime, root: &Text, sought: &mut Sought) -> Option<()> {
+pub(crate) fn look_through(rt: &HostRuntime, root: &Text, sought: &mut Sought) -> Option<()> {
     if sought.is_done() {
         return Some(());
     }
@@ -71,10 +71,10 @@ pub(crate) fn search(rt: &HostRuntime, root: &Text, sought: &mut Sought) -> Opti
         return None;
     }
     sought.settle().ok()?;
-    let mut search = Search {
+    let mut files = Files {
         folders: DiskFolders::new(rt),
         root,
         left: MOST_BYTES,
     };
-    search.files(&names, sought)
+    files.look_at_all(&names, sought)
 }
