@@ -1,5 +1,5 @@
-use Rattle.std.proofs.Common.{◌≡◌, ℕ, ◌+◌, Option, Some, subst}
-use Rattle.memchr.specs.Find.{NoneBefore, IsFirstByte, Passes, is_byte}
+use Rattle.std.proofs.Common.{subst}
+use Rattle.memchr.specs.Find.{IsFirstByte, is_byte}
 use Rattle.desk_base.specs.Names.{Text}
 use Rattle.desk_rename.proofs.Staying.{none_begun, none_ended, named_first}
 use Rattle.desk_rename.proofs.descriptors.first_name.Goals as goal
