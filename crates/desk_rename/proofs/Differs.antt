@@ -24,7 +24,7 @@ use Rattle.desk_rename.proofs.DescTrees.{names_mapped}
 use Rattle.desk_rename.proofs.SigTrees.{signature_mapped}
 
 -- where the names among parts stay, each is its own image
-fixed_from : (f : Text → Text) (ps : List Piece) → map f (names_in ps) ≡ names_in ps → Fixed f ps
+pub fixed_from : (f : Text → Text) (ps : List Piece) → map f (names_in ps) ≡ names_in ps → Fixed f ps
 unfolding Fixed names_in
 fixed_from f [] e = tt
 fixed_from f (Piece.other t ∷ ps) e = fixed_from f ps e

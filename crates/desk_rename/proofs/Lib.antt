@@ -12,3 +12,4 @@ pub mod Finished
 pub mod ImageLaws
 pub mod Runs
 pub mod Utf8Images
+pub mod Staying

@@ -36,17 +36,17 @@ unfolding AreCut
 cut_rest (Piece.other t) rest h = h
 cut_rest (Piece.class before last) rest h = h.1
 
-fixed_rest : (f : Text → Text) (p : Piece) (rest : List Piece) → Fixed f (p ∷ rest) → Fixed f rest
+pub fixed_rest : (f : Text → Text) (p : Piece) (rest : List Piece) → Fixed f (p ∷ rest) → Fixed f rest
 unfolding Fixed
 fixed_rest f (Piece.other t) rest h = h
 fixed_rest f (Piece.class before last) rest h = h.1
 
-fixed_first : (f : Text → Text) (p : Piece) (rest : List Piece) → Fixed f (p ∷ rest) → piece_text f p ≡ piece_text as_is p
+pub fixed_first : (f : Text → Text) (p : Piece) (rest : List Piece) → Fixed f (p ∷ rest) → piece_text f p ≡ piece_text as_is p
 unfolding Fixed
 fixed_first f (Piece.other t) rest h = refl
 fixed_first f (Piece.class before last) rest h = h.0
 
-joined_first : (f : Text → Text) (p : Piece) (rest : List Piece) → joined f (p ∷ rest) ≡ piece_text f p ++ joined f rest
+pub joined_first : (f : Text → Text) (p : Piece) (rest : List Piece) → joined f (p ∷ rest) ≡ piece_text f p ++ joined f rest
 unfolding joined
 joined_first f p rest = refl
 

@@ -4,7 +4,7 @@ use Rattle.std.specs.List.{list_all}
 use Rattle.desk_base.specs.Names.{Text}
 use Rattle.desk_base.specs.Descriptors.{as_is}
 use Rattle.desk_names.specs.ClassNames.{class_name}
-use Rattle.desk_names.specs.Pieces.{Piece, IsCut, AreCut, piece_text, joined, pieces}
+use Rattle.desk_names.specs.Pieces.{Piece, IsCut, AreCut, class_piece, piece_text, joined, pieces}
 use Rattle.desk_packages.specs.Renames.{Renaming, is_rename}
 use Rattle.desk_names.specs.SignatureScan.{is_sound_signature}
 use Rattle.desk_names.specs.SignaturePieces.{sig_pieces}
@@ -89,3 +89,8 @@ pub record IsReadSignature (kind : SignatureKind) (text : Text) (ps : List Piece
   pub parts : ps ≡ sig_pieces kind text
   pub joins : joined as_is ps ≡ text
   pub cut : AreCut ps
+
+-- a text goes on with a class name behind what stands in front of it, and with a text behind it
+pub record IsFirstName (text name behind : Text) : Type 0 where
+  pub before : Text
+  pub parts : pieces text ≡ Piece.other before ∷ class_piece name ∷ pieces behind

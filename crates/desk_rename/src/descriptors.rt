@@ -1,18 +1,19 @@
 //! Images of descriptors (JVMS 4.3), and of the names of classes and arrays.
 
-ghost use Rattle.std.specs.Prelude.{◌≡◌, IfOk, MatchOption, false};
-ghost use Rattle.desk_names.specs.Pieces.{pieces};
+ghost use Rattle.std.specs.Prelude.{◌≡◌, ◌<◌, [], length, IfOk, IfSome, MatchOption, false};
+ghost use Rattle.desk_names.specs.Pieces.{pieces, names_in};
 ghost use Rattle.desk_rules.specs.Images.{IsImage};
 ghost use Rattle.desk_rules.specs.RuleSets.{IsRuleSet};
 ghost use Rattle.desk_rename.specs.Images.{is_any_descriptor, desc, cls};
-ghost use Rattle.desk_rename.specs.Drafts.{IsReadDescriptor};
+ghost use Rattle.desk_rename.specs.Drafts.{IsReadDescriptor, IsFirstName};
 
 use crate::drafts::Draft;
 use crate::fronts::exchanged;
 use crate::names::class_front;
 use desk_base::{Memory, Text};
 use desk_names::{DescParts, Want, read_descriptor};
-use desk_rules::RuleSet;
+use desk_rules::{RuleSet, Separator};
+use memchr::memchr;
 use std::alloc::Global;
 
 /// The parts of a descriptor of any kind; none exactly where the text is no descriptor.
@@ -24,6 +25,36 @@ fn read_any_descriptor(text: &[u8]) -> Option<DescParts<'_>>
     } else {
         read_descriptor(text, Want::Return)
     }
+}
+
+/// The first class name of a descriptor, which stands between an `L` and the next `;`, and what is left behind it.
+fn first_name(text: &[u8]) -> Option<(&[u8], &[u8])>
+    ensures name { MatchOption result (names_in (pieces text.now) ≡ []) (λ found. IsFirstName text.now found.0.now found.1.now) }
+    ensures shorter { IfSome result (λ found. length found.1.now < length text.now) }
+{
+    let Some(start) = memchr(b'L', text) else {
+        return None;
+    };
+    let (_, behind) = text.split_at(start + 1);
+    match memchr(b';', behind) {
+        Some(end) => Some(behind.split_at(end)),
+        None => None,
+    }
+}
+
+/// Whether a descriptor may have another image: one of its class names begins with the first segment of a rename.
+fn may_change(rules: &RuleSet, text: &[u8]) -> bool
+    ensures { result ≡ false → desc rules.now.renames text.now ≡ text.now }
+{
+    let _ = rules.is_settled();
+    let mut rest = text;
+    while let Some((name, behind)) = first_name(rest) {
+        if rules.begins(name, Separator::Slash) {
+            return true;
+        }
+        rest = behind;
+    }
+    false
 }
 
 /// The image of a text of these parts.
@@ -55,6 +86,9 @@ pub fn rename_descriptor(
     ensures settled { IsRuleSet rules.now }
 {
     let _ = rules.is_settled();
+    if !may_change(rules, text) {
+        return Ok(None);
+    }
     match read_any_descriptor(text) {
         None => Ok(None),
         Some(parts) => rename_descriptor_parts(alloc, rules, text, parts),
