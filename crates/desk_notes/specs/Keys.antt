@@ -1,5 +1,5 @@
 -- Marks at the start of keys and texts.
-use Rattle.std.specs.Prelude.{ℕ, Bool, true, false, ◌&&◌, ◌||◌, ◌==◌, [], ◌∷◌}
+use Rattle.std.specs.Prelude.{Bool, true, false, ◌&&◌, ◌||◌, ◌==◌, [], ◌∷◌}
 use Rattle.desk_base.specs.Names.{Text}
 
 -- a byte order mark in UTF-8 (U+FEFF) stands first
@@ -11,11 +11,3 @@ has_mark other = false
 abbrev pub is_utf16 : Text → Bool
 is_utf16 (a ∷ b ∷ t) = ((a == 254) && (b == 255)) || ((a == 255) && (b == 254))
 is_utf16 other = false
-
--- a blank of a property file: a space, a tab or a form feed
-abbrev pub is_white_byte : ℕ → Bool
-is_white_byte b = (b == 32) || ((b == 9) || (b == 12))
-
--- a byte that ends a key: `=`, `:` or a blank
-abbrev pub is_stop_byte : ℕ → Bool
-is_stop_byte b = (b == 61) || ((b == 58) || is_white_byte b)

@@ -3,6 +3,8 @@
 ghost use Rattle.std.specs.Prelude.{◌≡◌};
 ghost use Rattle.desk_notes.specs.Keys.{has_mark};
 
+use desk_unmet::package_of;
+
 /// A byte order mark in UTF-8 (U+FEFF).
 pub(crate) const MARK: &[u8] = b"\xEF\xBB\xBF";
 
@@ -27,14 +29,6 @@ fn last_segment(key: &[u8]) -> &[u8] {
     match key.iter().rposition(|byte| *byte == b'.') {
         Some(dot) => &key[dot + 1..],
         None => key,
-    }
-}
-
-/// The key without `.*` at its end.
-pub(crate) fn package_of(key: &[u8]) -> &[u8] {
-    match key {
-        [package @ .., b'.', b'*'] => package,
-        _ => key,
     }
 }
 

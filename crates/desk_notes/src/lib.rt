@@ -10,8 +10,6 @@
 #![tactic(auto)]
 
 mod closing;
-mod entries;
-mod forms;
 mod keys;
 mod lines;
 mod names;
@@ -19,10 +17,8 @@ mod notes;
 mod overheard;
 mod patterns;
 mod rules;
-mod sought;
 
 pub use closing::{Closing, closing_line, count_notes};
-pub use entries::{KeyLine, Piece, key_lines, line_of_byte, line_of_key};
 pub use keys::{Slip, slip_of};
 pub use lines::{Said, is_archive_file, is_jsr305, is_signature, is_utf16, read_line, unshown};
 pub use names::Names;
@@ -30,4 +26,3 @@ pub use notes::{Notes, Refusals};
 pub use overheard::Overheard;
 pub use patterns::{PatternLine, special_patterns};
 pub use rules::{RuleNotes, place_text};
-pub use sought::{RuleKind, Sought, SoughtRule, is_for_any, without_blanks};

@@ -1,9 +1,9 @@
 //! Patterns of paths that fit no file.
 
-use crate::entries::KeyLine;
 use crate::rules::RuleNotes;
 use desk_base::{Memory, Text};
 use desk_patterns::fits;
+use desk_unmet::KeyLine;
 use std::alloc::Global;
 
 /// How many patterns of a file are looked at that do not begin with `*`.

@@ -1,11 +1,10 @@
 //! What is noted of rules.
 
-use crate::entries::KeyLine;
 use crate::keys::{MARK, Slip, slip_of};
 use crate::names::Names;
 use crate::patterns::PatternLine;
-use crate::sought::{RuleKind, Sought, SoughtRule};
 use desk_base::{Memory, Text, show_byte};
+use desk_unmet::{KeyLine, RuleKind, Sought, SoughtRule};
 use itoa::Buffer;
 use std::alloc::Global;
 

@@ -5,7 +5,9 @@ use desk_base::{Memory, Text};
 use desk_disk::DiskFolders;
 use desk_faults::Fault;
 use desk_notes::Overheard;
-use desk_program::{Asked, Ending, Stopped, asked_of, ended_by_streams, guarded, tell_end, tell_unread, unread};
+use desk_program::{
+    Asked, Ending, Stopped, asked_of, ended_by_streams, guarded, tell_end, tell_unread, unread,
+};
 use desk_report::{Sink, Status, write_fault};
 use desk_run::{FreeGate, desk};
 use desk_words::Roots;

@@ -6,12 +6,12 @@ ghost use Rattle.desk_program.specs.ChainFiles.{first_file, second_file};
 use crate::looks::{MOST_PATHS, front_of, paths_below};
 use crate::search::look_through;
 use desk_base::{MAX_RULE_FILE_SIZE, Memory, Text};
-use desk_notes::{
-    KeyLine, PatternLine, RuleKind, RuleNotes, Sought, is_for_any, key_lines, line_of_byte,
-    line_of_key, place_text, special_patterns, without_blanks,
-};
+use desk_notes::{PatternLine, RuleNotes, place_text, special_patterns};
 use desk_properties::PropFault;
 use desk_rules::{ChainKind, RuleFault};
+use desk_unmet::{
+    KeyLine, RuleKind, Sought, is_for_any, key_lines, line_of_byte, line_of_key, without_blanks,
+};
 use desk_words::Roots;
 use std::alloc::Global;
 

@@ -4,7 +4,7 @@ use crate::looks::{MOST_PATHS, listing_of, path_below};
 use desk_base::{MAX_FILE_SIZE, Text, TextList};
 use desk_disk::DiskFolders;
 use desk_folders::Folders;
-use desk_notes::Sought;
+use desk_unmet::Sought;
 
 /// How many bytes are read at once.
 const PART: u32 = 1_048_576;

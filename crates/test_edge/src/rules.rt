@@ -3,7 +3,8 @@
 use crate::told;
 use crate::words::{number, word};
 use desk_base::{Memory, Text};
-use desk_notes::{RuleNotes, key_lines, line_of_byte, special_patterns};
+use desk_notes::{RuleNotes, special_patterns};
+use desk_unmet::{key_lines, line_of_byte};
 use std::alloc::Global;
 use test_cases::Shown;
 

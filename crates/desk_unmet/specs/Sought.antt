@@ -1,8 +1,8 @@
 -- Rules that are looked for.
 use Rattle.std.specs.Prelude.{ℕ, codes, ◌==◌, if◌then◌else◌}
 use Rattle.desk_base.specs.Names.{Text}
-use Rattle.desk_notes.specs.declared.sought.RuleKind.{RuleKind}
-use Rattle.desk_notes.specs.declared.sought.RuleKind.TheVariants as kind
+use Rattle.desk_unmet.specs.declared.sought.RuleKind.{RuleKind}
+use Rattle.desk_unmet.specs.declared.sought.RuleKind.TheVariants as kind
 
 -- the rule file of a kind of rules
 abbrev pub file_of : RuleKind → Text

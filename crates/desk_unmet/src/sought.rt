@@ -16,11 +16,10 @@
 //! ```
 
 ghost use Rattle.std.specs.Prelude.{◌≡◌, IfOk, map};
-ghost use Rattle.desk_notes.specs.Sought.{file_of, slashed_byte};
+ghost use Rattle.desk_unmet.specs.Sought.{file_of, slashed_byte};
 
 use crate::entries::KeyLine;
 use crate::forms::Forms;
-use crate::keys::package_of;
 use desk_base::{Memory, Text, TextList};
 use memchr::memmem;
 use std::alloc::Global;
@@ -83,6 +82,14 @@ pub fn without_blanks(value: &[u8]) -> &[u8] {
     match last {
         Some(last) => &value[..last + 1],
         None => b"",
+    }
+}
+
+/// The package of a key of `renames.properties`: the key without `.*` at its end. It takes no memory.
+pub fn package_of(key: &[u8]) -> &[u8] {
+    match key {
+        [package @ .., b'.', b'*'] => package,
+        _ => key,
     }
 }
 

@@ -1,7 +1,7 @@
 //! The keys of a rule file with the numbers of their lines.
 
 ghost use Rattle.std.specs.Prelude.{◌≡◌};
-ghost use Rattle.desk_notes.specs.Keys.{is_white_byte, is_stop_byte};
+ghost use Rattle.desk_unmet.specs.Entries.{is_white_byte, is_stop_byte};
 
 use desk_base::{MAX_RULE_FILE_SIZE, Memory, Text};
 use desk_properties::{PropError, read_properties};
