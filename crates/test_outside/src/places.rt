@@ -148,19 +148,37 @@ impl<'r> TestFolders<'r> {
         }
     }
 
+    /// The nodes by which folders on a disk tell apart what is written and what is read.
+    fn apart_of(
+        &self,
+        alloc: Global,
+        written: &Text,
+        read: &Text,
+    ) -> Result<Option<Apart>, Memory> {
+        match self {
+            TestFolders::Memory(_) => Ok(None),
+            TestFolders::Disk(rt, _) => {
+                let places = Box::new(
+                    alloc,
+                    Places {
+                        rules: Err(io::Error::from(ErrorKind::NotFound)),
+                        from: place_of(*rt, read),
+                        to: place_of(*rt, written),
+                        ledger: Err(io::Error::from(ErrorKind::NotFound)),
+                    },
+                )?;
+                Ok(Some(Apart::of(alloc, &places)?))
+            }
+        }
+    }
+
     /// Names to folders on a disk what is written and what is read.
     pub fn keep_apart(&mut self, alloc: Global, written: &Text, read: &Text) -> Result<(), Memory> {
-        if let TestFolders::Disk(rt, folders) = self {
-            let places = Box::new(
-                alloc,
-                Places {
-                    rules: Err(io::Error::from(ErrorKind::NotFound)),
-                    from: place_of(*rt, read),
-                    to: place_of(*rt, written),
-                    ledger: Err(io::Error::from(ErrorKind::NotFound)),
-                },
-            )?;
-            folders.keep_apart(Apart::of(alloc, &places)?);
+        let Some(apart) = self.apart_of(alloc, written, read)? else {
+            return Ok(());
+        };
+        if let TestFolders::Disk(_, folders) = self {
+            folders.keep_apart(apart);
         }
         Ok(())
     }
