@@ -84,6 +84,22 @@ impl<'r, O: Sink> Outside<'r, O> {
             },
         );
     }
+
+    /// The output, behind which all else is let go.
+    fn into_out(self) -> O {
+        let Outside {
+            folders,
+            ledger,
+            out,
+            before,
+            ..
+        } = self;
+        drop(before);
+        drop(ledger);
+        drop(folders);
+        let Overheard { out, .. } = out;
+        out
+    }
 }
 
 /// The status that a task ended with, and the output that it was written to.
@@ -119,7 +135,7 @@ fn follow_run<R: Threads + Sync, O: Sink + Drop>(
     outside.tell(words, roots, &status);
     Followed {
         status,
-        out: outside.out.out,
+        out: outside.into_out(),
     }
 }
 
@@ -140,7 +156,7 @@ fn follow_other<R: Threads + Sync, O: Sink + Drop>(
     outside.tell(words, None, &status);
     Followed {
         status,
-        out: outside.out.out,
+        out: outside.into_out(),
     }
 }
 
