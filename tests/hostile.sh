@@ -333,20 +333,20 @@ nested='no root may lie where another would be changed'
 
 if [ "$(id -u)" = 0 ] && command -v setpriv >/dev/null && $nobody test -x "$program"; then
   # A folder above that may not be entered: what lies above it is seen by the path of the working folder.
-  fresh; mkdir -p above/work free; mv rules app above/work; chown -R 65534:65534 above/work free; chmod 700 above
-  cd above/work || exit 1
+  fresh; mkdir -p above/inner free; mv rules app above/inner; chown -R 65534:65534 above/inner free; chmod 700 above
+  cd above/inner || exit 1
   as=$nobody
   completes 'below a folder that may not be entered' rules app to "$place/free/ledger"
   ln -s app link
   placed 'below such a folder: a target that is a link to the source' 21 'migrate: 21 nested roots app link' "$nested" \
     rules app link "$place/free/other"
-  ln -s "$place/above/work/app" away
+  ln -s "$place/above/inner/app" away
   placed 'below such a folder: a target that is a link through it' 11 "$fault" \
     'migrate: finding the place of away: Permission denied' rules app away "$place/free/other"
   as=
   # Two in one another: the inner one isn't seen by that path.
-  fresh; mkdir -p a/b/work free; mv rules app a/b/work; chown -R 65534:65534 a/b/work free; chmod 700 a a/b
-  cd a/b/work || exit 1
+  fresh; mkdir -p a/b/inner free; mv rules app a/b/inner; chown -R 65534:65534 a/b/inner free; chmod 700 a a/b
+  cd a/b/inner || exit 1
   as=$nobody
   ln -s app link
   placed 'below two such folders' 11 "$fault" 'migrate: finding the place of rules: Permission denied' \
