@@ -544,6 +544,13 @@ fi
 # Folders that are mounted in one another.
 written='the target or the ledger lies in it'
 read='the source, the rules or the ledger lies in it, or it lies in one of them'
+fresh
+migrate run --rules rules --from app --to to --ledger ledger
+if ln ledger app/notes 2>/dev/null; then
+  placed 'the ledger in the source under another name' 11 "$fault" "migrate: listing app/notes: $written" rules app to ledger
+else
+  skip 'a ledger that stands in the source under another name' 'this disk gives a file one name'
+fi
 fresh; mkdir to
 if [ "$(id -u)" = 0 ] && [ -n "${own_mounts:-}" ] && mount --bind app/WEB-INF to 2>/dev/null; then
   placed 'a folder of the source mounted as the target' 11 "$fault" "migrate: listing app/WEB-INF: $written" rules app to ledger

@@ -40,7 +40,7 @@ pub struct Faults {
 /// takes upper and lower case for the same.
 ///
 /// Where `keep_apart` says what is read and what is written, it is a fault, too, where one of the two is met in the other, as a folder is
-/// that is mounted there: a folder that is listed and lies on the way to what is written, and a folder below the target that lies on the
+/// that is mounted there: what is listed and lies on the way to what is written, and a folder below the target that lies on the
 /// way to what is read, or was listed.
 #[derive(Drop)]
 pub struct DiskFolders<'r> {

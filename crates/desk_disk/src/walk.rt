@@ -50,7 +50,7 @@ fn entry_of(kind: FileType) -> Result<Entry, Cause>
     }
 }
 
-/// Whether a folder is none of the nodes on the way to what is written. One that is is refused.
+/// Whether what is listed is none of the nodes on the way to what is written. One that is is refused.
 fn is_apart(written: &Nodes, node: Node) -> Result<(), Cause>
     ensures apart { holds written.now node ≡ false → result ≡ Ok tt }
     ensures met { holds written.now node ≡ true → result ≡ Err cause.HoldsWritten }
@@ -120,14 +120,15 @@ impl<'k> FolderWalk<'k> {
         Ok(())
     }
 
-    /// What an entry of a folder is; a folder must be one that may be met, and its node is kept.
+    /// What an entry of a folder is. It must be one that may be met, and a folder's node is kept.
     fn kind_of(&mut self, entry: &DirEntry) -> Result<Entry, Refusal>
         ensures { self.new ≡ self.old }
     {
-        let kind = entry_of(entry.file_type().map_err(fault_of)?)?;
+        let found = entry.metadata().map_err(fault_of)?;
+        let kind = entry_of(found.file_type())?;
+        let node = Node::of(&found);
+        is_apart(self.written, node)?;
         if let Entry::Folder = kind {
-            let node = Node::of(&entry.metadata().map_err(fault_of)?);
-            is_apart(self.written, node)?;
             self.met.push(node)?;
         }
         Ok(kind)

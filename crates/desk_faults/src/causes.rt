@@ -22,7 +22,7 @@ pub enum Cause {
     Exchanged,
     /// A file that the disk takes for one of another name, as one that differs in upper and lower case alone.
     OtherName,
-    /// A folder in the rule folder or the source by which the target or the ledger is reached: it is the target, or holds one of them.
+    /// What stands in the rule folder or the source by which the target or the ledger is reached: it is one of them, or holds one.
     HoldsWritten,
     /// A folder in the target by which the rule folder, the source or the ledger is reached, or that is a folder in one of the first two.
     HoldsRead,
