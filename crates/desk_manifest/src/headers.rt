@@ -23,6 +23,8 @@ pub(crate) struct ManifestHeader<'a> {
     pub(crate) first: HeaderLine<'a>,
     /// The continuation lines with their line ends, as they stand in the file; empty where there are none.
     pub(crate) further: &'a [u8],
+    /// Whether it stands in the main section.
+    pub(crate) in_main: bool,
 }
 
 /// The value of a header that has continuation lines. The only error is want of memory.
@@ -63,15 +65,14 @@ pub(crate) fn rename_header(
     alloc: Global,
     rules: &RuleSet,
     version: Option<&[u8]>,
-    main: bool,
     header: ManifestHeader<'_>,
     between: LineEnd,
     last: LineEnd,
 ) -> Result<Option<Text>, Memory>
-    ensures { IfOk result (IsHeaderImage rules.now (option_copied version.entry) main header.entry.first.name.now
+    ensures { IfOk result (IsHeaderImage rules.now (option_copied version.entry) header.entry.in_main header.entry.first.name.now
         (header.entry.first.value.now ++ unfolded (lines header.entry.further.now)) between last) }
 {
-    let kind = header_kind(main, header.first.name);
+    let kind = header_kind(header.in_main, header.first.name);
     match rename_unfolded(alloc, rules, version, kind, header)? {
         None => Ok(None),
         Some(value) => {

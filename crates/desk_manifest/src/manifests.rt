@@ -57,6 +57,7 @@ fn version_of_identity<'r>(
     let header = ManifestHeader {
         first: cut_header_line(content),
         further: &more[..more.len() - behind.rest.len()],
+        in_main: true,
     };
     let value = unfolded_value(alloc, header)?;
     Ok(identity_version(rules, value.as_bytes()))
@@ -119,10 +120,9 @@ pub fn migrate_manifest(
             let header = ManifestHeader {
                 first: cut_header_line(line.content),
                 further: &more[..more.len() - behind.rest.len()],
+                in_main: main,
             };
-            if let Some(new) = rename_header(
-                alloc, rules, version, main, header, between, behind.end,
-            )? {
+            if let Some(new) = rename_header(alloc, rules, version, header, between, behind.end)? {
                 edits.exchange(text, from, to, new.as_bytes())?;
                 changed += 1;
             }
