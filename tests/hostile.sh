@@ -1032,6 +1032,37 @@ for kib in 100000 200000 400000; do
 done
 rm -rf wanted; mv old wanted
 
+# ---- rules by which a text grows, and a source that nearly stands everywhere
+
+# texted TEXT SOURCE TARGET: an application of one text and a text rule, each by an expression
+texted() {
+  fresh; rm -r app; mkdir app
+  printf 'text.txt=grown.properties\n' >rules/text.properties
+  "$python" - "$@" <<'PY'
+import sys
+text, source, target = map(eval, sys.argv[1:])
+with open("rules/grown.properties", "w") as rules:
+    rules.write(f"{source}={target}\n")
+with open("app/text.txt", "w") as file:
+    file.write(text)
+PY
+}
+
+texted '"a" * 65536' '"a"' '"b" * 1024'
+over
+check 'an image of as many bytes as a file may have: status' 0 "$status"
+check 'an image of as many bytes as a file may have' "$(head -c 67108864 /dev/zero | tr '\0' b | sha256sum)" "$(sha256sum <to/text.txt)"
+for many_bytes in 65537 4194304; do
+  texted "\"a\" * $many_bytes" '"a"' '"b" * 1024'
+  over
+  ends "an image of $many_bytes times 1,024 bytes" 10 'migrate: 10 out of memory'
+  check "an image of $many_bytes times 1,024 bytes: no target" '' "$(ls to 2>/dev/null)"
+done
+texted '("a" * 499999 + "b") * 134' '"a" * 500000' '"c"'
+over
+check 'a source that nearly stands everywhere: status' 0 "$status"
+check 'a source that nearly stands everywhere: the text stays' '' "$(cmp app/text.txt to/text.txt 2>&1)"
+
 # ---- many files
 
 if [ "$many" -gt 0 ]; then
