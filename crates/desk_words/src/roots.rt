@@ -213,16 +213,27 @@ fn nested(alloc: Global, first: &Root, second: &Root) -> Result<RootsFault, Memo
     Ok(RootsFault::Nested { first, second })
 }
 
-/// The first nested pair of a task's roots, as a fault.
-fn first_nested(
-    alloc: Global,
-    rules: &Root,
-    from: &Root,
-    to: &Root,
-    ledger: &Root,
-) -> Result<Option<RootsFault>, Memory>
-    ensures { IfOk result (λ fault. fault ≡ option_map nested_fault (first_nested rules.now from.now to.now ledger.now)) }
+/// The roots of a run as words give them, and whether the run looks at the targets of kept files.
+#[derive(Debug, Drop)]
+struct RunRoots {
+    rules: Root,
+    from: Root,
+    to: Root,
+    ledger: Root,
+    verify: bool,
+}
+
+/// The first nested pair of a run's roots, as a fault.
+fn first_nested(alloc: Global, roots: &RunRoots) -> Result<Option<RootsFault>, Memory>
+    ensures { IfOk result (λ fault. fault ≡ option_map nested_fault (first_nested roots.now.rules roots.now.from roots.now.to roots.now.ledger)) }
 {
+    let RunRoots {
+        rules,
+        from,
+        to,
+        ledger,
+        ..
+    } = roots;
     if from.overlaps(to) {
         Ok(Some(nested(alloc, from, to)?))
     } else if rules.overlaps(to) {
@@ -238,48 +249,36 @@ fn first_nested(
     }
 }
 
-/// The roots as they are written.
-fn written_roots(
-    alloc: Global,
-    rules: &Root,
-    from: &Root,
-    to: &Root,
-    ledger: &Root,
-    verify: bool,
-) -> Result<Roots, Memory>
-    ensures { IfOk result (λ roots. roots ≡ record { rules = written rules.now; from = written from.now; to = written to.now; ledger = written ledger.now; verify = verify }) }
+/// The roots of a run as they are written.
+fn written_roots(alloc: Global, roots: &RunRoots) -> Result<Roots, Memory>
+    ensures { IfOk result (λ given. given ≡ record { rules = written roots.now.rules; from = written roots.now.from; to = written roots.now.to;
+        ledger = written roots.now.ledger; verify = roots.now.verify }) }
 {
-    let rules = rules.written(alloc)?;
-    let from = from.written(alloc)?;
-    let to = to.written(alloc)?;
-    let ledger = ledger.written(alloc)?;
+    let rules = roots.rules.written(alloc)?;
+    let from = roots.from.written(alloc)?;
+    let to = roots.to.written(alloc)?;
+    let ledger = roots.ledger.written(alloc)?;
     Ok(Roots {
         rules,
         from,
         to,
         ledger,
-        verify,
+        verify: roots.verify,
     })
 }
 
 /// A run over the roots as they are written, or the fault of the first pair of them that is nested, or want
 /// of memory.
-fn order_apart(
-    alloc: Global,
-    rules: &Root,
-    from: &Root,
-    to: &Root,
-    ledger: &Root,
-    workers: u32,
-    verify: bool,
-) -> Result<Order, RootsFault>
-    ensures ok { IfOk result (λ order. order_apart rules.now from.now to.now ledger.now workers verify (first_nested rules.now from.now to.now ledger.now) ≡ Ok order) }
-    ensures err { IfErr result (RefusedBy (order_apart rules.now from.now to.now ledger.now workers verify (first_nested rules.now from.now to.now ledger.now))) }
+fn order_apart(alloc: Global, roots: &RunRoots, workers: u32) -> Result<Order, RootsFault>
+    ensures ok { IfOk result (λ order. order_apart roots.now.rules roots.now.from roots.now.to roots.now.ledger workers roots.now.verify
+        (first_nested roots.now.rules roots.now.from roots.now.to roots.now.ledger) ≡ Ok order) }
+    ensures err { IfErr result (RefusedBy (order_apart roots.now.rules roots.now.from roots.now.to roots.now.ledger workers roots.now.verify
+        (first_nested roots.now.rules roots.now.from roots.now.to roots.now.ledger))) }
 {
-    match first_nested(alloc, rules, from, to, ledger)? {
+    match first_nested(alloc, roots)? {
         Some(fault) => Err(fault),
         None => {
-            let roots = written_roots(alloc, rules, from, to, ledger, verify)?;
+            let roots = written_roots(alloc, roots)?;
             Ok(Order::Run { roots, workers })
         }
     }
@@ -337,7 +336,16 @@ fn order_of(alloc: Global, words: &[Text]) -> Result<Order, RootsFault>
                 workers,
                 verify,
             },
-        ) => order_apart(alloc, &rules, &from, &to, &ledger, workers, verify),
+        ) => {
+            let roots = RunRoots {
+                rules,
+                from,
+                to,
+                ledger,
+                verify,
+            };
+            order_apart(alloc, &roots, workers)
+        }
         Ok(
             Task::Generate {
                 count,

@@ -13,6 +13,6 @@ separate rules from to ledger workers verify (Some pair) roots e f = cc
 
 pub returns-in_ok-roots-in-None-clause-ok : goal.returns-in_ok-roots-in-None-clause-ok
 returns-in_ok-roots-in-None-clause-ok c =
-    let o : Option (Root × Root) = first_nested c.args.rules.now c.args.from.now c.args.to.now c.args.ledger.now in
+    let o : Option (Root × Root) = first_nested c.args.roots.now.rules c.args.roots.now.from c.args.roots.now.to c.args.roots.now.ledger in
     let e : None ≡ option_map nested_fault o = sym c.in-None.is ∙ c.in_ok-fault.ensures in
-    separate c.args.rules.now c.args.from.now c.args.to.now c.args.ledger.now c.args.workers c.args.verify o _ e c.in_ok-roots-in-None.ensures
+    separate c.args.roots.now.rules c.args.roots.now.from c.args.roots.now.to c.args.roots.now.ledger c.args.workers c.args.roots.now.verify o _ e c.in_ok-roots-in-None.ensures
