@@ -7,13 +7,12 @@ use Rattle.std.proofs.lemmas.Bool.{both_ways, cases_Bool, cases_lt}
 use Rattle.std.proofs.lemmas.List.{get_or-drop, length-set, map_push}
 use Rattle.desk_base.specs.Names.{Text}
 use Rattle.desk_patterns.specs.TextRules.{TextRule, longest, source_at, StandsBehind}
-use Rattle.desk_patterns.specs.Tables.{starts, is_behind, last_start, first_byte, IsTable, IsTextTable}
-use Rattle.desk_patterns.specs.Seen.{rules_seen, shorter_seen, NoHits}
+use Rattle.desk_patterns.specs.Tables.{starts, is_behind, target_at, last_start, first_byte, IsTable, IsTextTable}
+use Rattle.desk_patterns.specs.Seen.{KeptRule, rules_seen, shorter_seen, NoHits}
 use Rattle.desk_patterns.specs.FirstBytes.{is_first, NoneFirst}
-use Rattle.desk_patterns.specs.declared.text_rules.TextRule.{TextRule as KeptRule}
 use Rattle.desk_patterns.proofs.Lists.{seen_there, map_length, length_more}
 use Rattle.desk_patterns.proofs.Starts.{start_byte}
-use Rattle.desk_patterns.proofs.Tables.{last_skips, longest_none, target_at, table_more, source_kept, source_added}
+use Rattle.desk_patterns.proofs.Tables.{last_skips, longest_none, table_more, source_kept, source_added}
 use Rattle.desk_patterns.proofs.FirstBytes.{first_kept}
 
 pub seen_length : (items : List KeptRule) → length (rules_seen items) ≡ length items

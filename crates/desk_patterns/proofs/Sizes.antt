@@ -14,7 +14,7 @@ abbrev pub Sized : Text → Option Hit → Type 0
 Sized text None = Unit {0}
 Sized text (Some hit) = IsSized text hit
 
-start_within : (s text : Text) → starts text s ≡ true → length s ≤ length text
+pub start_within : (s text : Text) → starts text s ≡ true → length s ≤ length text
 start_within [] text h = omega arith
 start_within (b ∷ s) [] h = absurd cc
 start_within (b ∷ s) (c ∷ text) h = omega (arith, start_within s text (and_parts _ _ h).1)

@@ -12,7 +12,7 @@ use Rattle.desk_base.specs.Names.{Text, is_empty}
 use Rattle.desk_base.proofs.Orderings.{then_is}
 use Rattle.desk_patterns.specs.Tables.{starts, is_behind, shared, first_byte}
 
-tied : (x c : ℕ) → x ≡ c → nat_cmp x c ≡ Equal
+pub tied : (x c : ℕ) → x ≡ c → nat_cmp x c ≡ Equal
 tied x c same = rw same (tied_itself nat_cmp_total c)
 
 pub starts_self : (t : Text) → starts t t ≡ true
