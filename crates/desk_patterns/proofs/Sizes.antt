@@ -1,8 +1,8 @@
 -- How many bytes a source takes.
-use Rattle.std.proofs.Common.{◌≡◌, ◌≤◌, ◌<◌, ℕ, zero, suc, Bool, true, false, cond, nat_lt, List, [], ◌∷◌, length, Option, Some, None, ap, refl, sym, subst, arith}
+use Rattle.std.proofs.Common.{◌≡◌, ◌≤◌, ◌<◌, suc, Bool, true, false, cond, nat_lt, List, [], ◌∷◌, length, Option, Some, None, refl, sym, subst, arith}
 use Rattle.std.proofs.lemmas.Bool.{and_parts}
 use Rattle.desk_base.specs.Names.{Text, is_empty}
-use Rattle.desk_patterns.specs.TextRules.{TextRule, Hit, hit_of, longer, longest, source_at, HaveSources}
+use Rattle.desk_patterns.specs.TextRules.{TextRule, Hit, hit_of, longer, longest, HaveSources}
 use Rattle.desk_patterns.specs.Tables.{starts}
 
 -- one or more bytes of the text

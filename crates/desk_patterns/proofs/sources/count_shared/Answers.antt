@@ -1,4 +1,4 @@
-use Rattle.std.proofs.Common.{◌≡◌, drop, sym, arith}
+use Rattle.std.proofs.Common.{drop, arith}
 use Rattle.desk_patterns.proofs.Starts.{shared_nothing}
 use Rattle.desk_patterns.proofs.Cuts.{shared_rest, shared_within, shared_inside}
 use Rattle.desk_patterns.proofs.sources.count_shared.Goals as goal

@@ -1,4 +1,4 @@
-use Rattle.std.proofs.Common.{◌≡◌, ◌<◌, ◌≤◌, ◌+◌, min, length, ap, sym, ◌∙◌, arith}
+use Rattle.std.proofs.Common.{◌≤◌, min, ap, sym, ◌∙◌, arith}
 use Rattle.desk_base.specs.Names.{Text}
 use Rattle.desk_patterns.specs.TextRules.{source_at}
 use Rattle.desk_patterns.specs.Tables.{shared, is_behind}

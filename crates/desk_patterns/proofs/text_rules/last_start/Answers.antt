@@ -1,5 +1,4 @@
-use Rattle.std.proofs.Common.{◌≡◌, ◌-◌, ◌≤◌, ◌<◌, ℕ, refl, ap, sym, ◌∙◌, length, subst, arith}
-use Rattle.desk_base.specs.Names.{Text}
+use Rattle.std.proofs.Common.{◌≡◌, ◌-◌, refl, ap, length, arith}
 use Rattle.desk_patterns.specs.TextRules.{source_at}
 use Rattle.desk_patterns.specs.Tables.{shared}
 use Rattle.desk_patterns.specs.Seen.{rules_seen, shorter_seen}

@@ -1,7 +1,6 @@
-use Rattle.std.proofs.Common.{◌≡◌, ◌-◌, ◌<◌, ℕ, ap, sym, ◌∙◌, length, Option, Some, arith}
+use Rattle.std.proofs.Common.{◌-◌, ◌<◌, ap, sym, ◌∙◌, arith}
 use Rattle.desk_base.specs.Names.{Text}
-use Rattle.desk_patterns.specs.TextRules.{Hit, source_at}
-use Rattle.desk_patterns.specs.Tables.{last_start, target_at}
+use Rattle.desk_patterns.specs.Tables.{target_at}
 use Rattle.desk_patterns.specs.Seen.{rules_seen}
 use Rattle.desk_patterns.proofs.Tables.{last_of_cut, longest_none, longest_is, hit_with}
 use Rattle.desk_patterns.proofs.text_rules.longest_of.Goals as goal

@@ -1,7 +1,7 @@
-use Rattle.std.proofs.Common.{◌≡◌, ℕ, ◌+◌, ◌++◌, ◌∷◌, [], List, length, Result, Ok, Err, OnErr, ap, sym, subst, ◌∙◌, arith}
+use Rattle.std.proofs.Common.{◌≡◌, ℕ, ◌++◌, ◌∷◌, [], List, length, Result, Ok, Err, OnErr, ap, ◌∙◌, arith}
 use Rattle.desk_base.specs.Names.{Text}
 use Rattle.desk_patterns.specs.Seen.{KeptRule}
-use Rattle.desk_patterns.specs.Parts.{kept_seen, AreParts}
+use Rattle.desk_patterns.specs.Parts.{kept_seen}
 use Rattle.desk_patterns.specs.declared.kept_rules.Part.{Part}
 use Rattle.desk_patterns.proofs.Parts.{kept_same, parts_stay, kept_added, parts_added, new_part, with_texts}
 use Rattle.desk_patterns.proofs.kept_rules.KeptRules.push.Goals as goal

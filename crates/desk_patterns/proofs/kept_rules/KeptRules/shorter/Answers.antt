@@ -1,4 +1,4 @@
-use Rattle.std.proofs.Common.{◌≡◌, ◌<◌, List, length, slice_index, ap, sym, ◌∙◌, arith}
+use Rattle.std.proofs.Common.{◌<◌, List, length, slice_index, ap, sym, ◌∙◌, arith}
 use Rattle.desk_patterns.specs.Seen.{KeptRule, shorter_seen}
 use Rattle.desk_patterns.proofs.Parts.{part_shorter, parts_length}
 use Rattle.desk_patterns.proofs.kept_rules.KeptRules.shorter.Goals as goal

@@ -1,6 +1,5 @@
-use Rattle.std.proofs.Common.{◌≡◌, ◌<◌, List, length, ap, sym, subst, ◌∙◌, arith}
+use Rattle.std.proofs.Common.{◌<◌, List, length, ap, sym, ◌∙◌, arith}
 use Rattle.desk_base.specs.Names.{Text}
-use Rattle.desk_patterns.specs.TextRules.{source_at}
 use Rattle.desk_patterns.specs.Tables.{target_at}
 use Rattle.desk_patterns.specs.Seen.{KeptRule, rules_seen}
 use Rattle.desk_patterns.specs.Parts.{IsPart, text_between}

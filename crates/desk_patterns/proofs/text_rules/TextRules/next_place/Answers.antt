@@ -1,7 +1,7 @@
-use Rattle.std.proofs.Common.{◌≡◌, ◌+◌, ◌≤◌, ◌<◌, ℕ, List, length, drop, None, sym, ap, ◌∙◌, inl, inr, arith}
+use Rattle.std.proofs.Common.{◌≡◌, ◌+◌, ℕ, drop, sym, ap, ◌∙◌, inl, inr, arith}
 use Rattle.std.proofs.lemmas.Bool.{cases_lt}
 use Rattle.std.proofs.lemmas.List.{length-drop}
-use Rattle.desk_patterns.specs.TextRules.{TextRule, HaveSources, longest}
+use Rattle.desk_patterns.specs.TextRules.{HaveSources, longest}
 use Rattle.desk_patterns.specs.Seen.{NoHits}
 use Rattle.desk_patterns.proofs.Sizes.{IsSized, hit_is_sized}
 use Rattle.desk_patterns.proofs.text_rules.TextRules.next_place.Goals as goal

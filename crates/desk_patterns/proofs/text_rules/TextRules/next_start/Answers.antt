@@ -1,7 +1,6 @@
-use Rattle.std.proofs.Common.{◌≡◌, ◌+◌, ◌≤◌, ◌<◌, ◌-◌, ℕ, List, length, take, drop, subst, sym, ap, ◌∙◌, arith}
+use Rattle.std.proofs.Common.{◌≡◌, ◌+◌, ◌≤◌, ◌-◌, List, length, take, drop, subst, arith}
 use Rattle.std.proofs.lemmas.List.{length-drop, length-take}
-use Rattle.desk_base.specs.Names.{Text}
-use Rattle.desk_patterns.specs.TextRules.{TextRule, source_at}
+use Rattle.desk_patterns.specs.TextRules.{TextRule}
 use Rattle.desk_patterns.specs.Seen.{rules_seen, shorter_seen, NoHits}
 use Rattle.desk_patterns.proofs.Kept.{no_hits, seen_length}
 use Rattle.desk_patterns.proofs.Alone.{alone_none}

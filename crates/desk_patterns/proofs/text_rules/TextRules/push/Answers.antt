@@ -1,4 +1,4 @@
-use Rattle.std.proofs.Common.{◌≡◌, ap, sym, ◌∙◌, List, [], ◌∷◌, ◌++◌, length, subst, slice_index, arith}
+use Rattle.std.proofs.Common.{◌≡◌, ap, sym, ◌∙◌, List, [], ◌∷◌, ◌++◌, subst, slice_index, arith}
 use Rattle.std.specs.Ordering.{is_gt}
 use Rattle.desk_base.specs.Names.{Text}
 use Rattle.desk_patterns.specs.TextRules.{TextRule, StandsBehind, source_at}
