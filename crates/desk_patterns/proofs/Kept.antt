@@ -1,5 +1,5 @@
 -- Text rules as they are kept.
-use Rattle.std.proofs.Common.{◌≡◌, ◌≢◌, ◌≤◌, ◌<◌, ◌+◌, ℕ, zero, suc, Bool, true, false, List, [], ◌∷◌, ◌++◌, map, length, drop, get_or, set, slice_index, Some, None, refl, sym, ap, subst, ◌∙◌, inl, inr, arith}
+use Rattle.std.proofs.Common.{◌≡◌, ◌≢◌, ◌<◌, ◌+◌, ℕ, zero, suc, Bool, true, false, List, [], ◌∷◌, ◌++◌, length, drop, get_or, set, slice_index, None, refl, sym, ap, subst, ◌∙◌, inl, inr, arith}
 use Rattle.std.specs.declared.cmp.Ordering.{Ordering}
 use Rattle.std.specs.Ordering.{nat_cmp, is_gt}
 use Rattle.std.specs.Cmp.Lexicographic.{slice_cmp}
@@ -7,13 +7,12 @@ use Rattle.std.proofs.lemmas.Bool.{both_ways, cases_Bool, cases_lt}
 use Rattle.std.proofs.lemmas.List.{get_or-drop, length-set, map_push}
 use Rattle.desk_base.specs.Names.{Text}
 use Rattle.desk_patterns.specs.TextRules.{TextRule, longest, source_at, StandsBehind}
-use Rattle.desk_patterns.specs.Tables.{starts, is_behind, last_start, first_byte, IsTable, IsTextTable}
-use Rattle.desk_patterns.specs.Seen.{rules_seen, shorter_seen, NoHits}
+use Rattle.desk_patterns.specs.Tables.{starts, is_behind, target_at, last_start, first_byte, IsTable, IsTextTable}
+use Rattle.desk_patterns.specs.Seen.{KeptRule, rules_seen, shorter_seen, NoHits}
 use Rattle.desk_patterns.specs.FirstBytes.{is_first, NoneFirst}
-use Rattle.desk_patterns.specs.declared.text_rules.TextRule.{TextRule as KeptRule}
 use Rattle.desk_patterns.proofs.Lists.{seen_there, map_length, length_more}
 use Rattle.desk_patterns.proofs.Starts.{start_byte}
-use Rattle.desk_patterns.proofs.Tables.{last_skips, longest_none, target_at, table_more, source_kept, source_added}
+use Rattle.desk_patterns.proofs.Tables.{last_skips, longest_none, table_more, source_kept, source_added}
 use Rattle.desk_patterns.proofs.FirstBytes.{first_kept}
 
 pub seen_length : (items : List KeptRule) → length (rules_seen items) ≡ length items

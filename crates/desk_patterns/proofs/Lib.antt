@@ -3,6 +3,9 @@ pub mod Lists
 pub mod Choices
 pub mod Starts
 pub mod Tables
+pub mod Cuts
 pub mod FirstBytes
+pub mod Parts
 pub mod Kept
 pub mod Sizes
+pub mod Alone

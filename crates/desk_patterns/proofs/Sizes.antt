@@ -1,8 +1,8 @@
 -- How many bytes a source takes.
-use Rattle.std.proofs.Common.{◌≡◌, ◌≤◌, ◌<◌, ℕ, zero, suc, Bool, true, false, cond, nat_lt, List, [], ◌∷◌, length, Option, Some, None, ap, refl, sym, subst, arith}
+use Rattle.std.proofs.Common.{◌≡◌, ◌≤◌, ◌<◌, suc, Bool, true, false, cond, nat_lt, List, [], ◌∷◌, length, Option, Some, None, refl, sym, subst, arith}
 use Rattle.std.proofs.lemmas.Bool.{and_parts}
 use Rattle.desk_base.specs.Names.{Text, is_empty}
-use Rattle.desk_patterns.specs.TextRules.{TextRule, Hit, hit_of, longer, longest, source_at, HaveSources}
+use Rattle.desk_patterns.specs.TextRules.{TextRule, Hit, hit_of, longer, longest, HaveSources}
 use Rattle.desk_patterns.specs.Tables.{starts}
 
 -- one or more bytes of the text
@@ -14,7 +14,7 @@ abbrev pub Sized : Text → Option Hit → Type 0
 Sized text None = Unit {0}
 Sized text (Some hit) = IsSized text hit
 
-start_within : (s text : Text) → starts text s ≡ true → length s ≤ length text
+pub start_within : (s text : Text) → starts text s ≡ true → length s ≤ length text
 start_within [] text h = omega arith
 start_within (b ∷ s) [] h = absurd cc
 start_within (b ∷ s) (c ∷ text) h = omega (arith, start_within s text (and_parts _ _ h).1)

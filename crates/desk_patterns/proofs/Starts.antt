@@ -1,18 +1,18 @@
 -- Texts that start others, and their byte order.
-use Rattle.std.proofs.Common.{◌≡◌, ◌<◌, ◌≤◌, ℕ, zero, suc, Bool, true, false, cond, ◌==◌, ◌&&◌, nat_eq, List, [], ◌∷◌, length, take, drop, get_or, refl, sym, ap, ◌∙◌, inl, inr, arith}
+use Rattle.std.proofs.Common.{◌≡◌, ◌<◌, ◌≤◌, ℕ, suc, Bool, true, false, cond, ◌==◌, ◌&&◌, [], ◌∷◌, length, drop, get_or, refl, sym, ap, ◌∙◌, inl, inr, arith}
 use Rattle.std.specs.declared.cmp.Ordering.{Ordering}
 use Rattle.std.specs.declared.cmp.Ordering.TheVariants.{Less, Equal, Greater}
 use Rattle.std.specs.Ordering.{nat_cmp, is_gt, ordering_then}
 use Rattle.std.specs.Cmp.{nat_cmp_is}
 use Rattle.std.specs.Cmp.Lexicographic.{slice_cmp}
-use Rattle.std.proofs.lemmas.Bool.{both_ways, cases_order, cases_Bool, eqb-true, and_parts, and_from, eq-eqb}
+use Rattle.std.proofs.lemmas.Bool.{both_ways, cases_order, eqb-true, and_parts, and_from, eq-eqb}
 use Rattle.std.proofs.lemmas.Cmp.{nat_cmp_total, tied_itself}
 use Rattle.std.proofs.lemmas.List.{drop_all}
 use Rattle.desk_base.specs.Names.{Text, is_empty}
 use Rattle.desk_base.proofs.Orderings.{then_is}
 use Rattle.desk_patterns.specs.Tables.{starts, is_behind, shared, first_byte}
 
-tied : (x c : ℕ) → x ≡ c → nat_cmp x c ≡ Equal
+pub tied : (x c : ℕ) → x ≡ c → nat_cmp x c ≡ Equal
 tied x c same = rw same (tied_itself nat_cmp_total c)
 
 pub starts_self : (t : Text) → starts t t ≡ true

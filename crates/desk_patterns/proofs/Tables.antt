@@ -1,14 +1,14 @@
 -- Which source of a table of text rules starts a text.
-use Rattle.std.proofs.Common.{◌≡◌, ◌≢◌, ◌<◌, ◌≤◌, ◌+◌, ◌-◌, ℕ, zero, suc, Bool, true, false, cond, ◌==◌, List, [], ◌∷◌, ◌++◌, length, drop, get_or, slice_index, Option, Some, None, refl, sym, ap, subst, ◌∙◌, inl, inr, arith}
+use Rattle.std.proofs.Common.{◌≡◌, ◌≢◌, ◌<◌, ◌≤◌, ◌+◌, ◌-◌, ℕ, zero, suc, Bool, true, false, cond, List, [], ◌∷◌, ◌++◌, length, drop, slice_index, Option, Some, None, refl, sym, ap, subst, ◌∙◌, inl, inr, arith}
 use Rattle.std.specs.declared.cmp.Ordering.TheVariants.{Less}
 use Rattle.std.specs.Ordering.{nat_cmp, is_gt}
 use Rattle.std.specs.Cmp.Lexicographic.{slice_cmp}
-use Rattle.std.proofs.lemmas.Bool.{both_ways, cases_Bool, cases_lt, eqb-true, eq-eqb, and_parts, lt-ltb}
+use Rattle.std.proofs.lemmas.Bool.{both_ways, cases_Bool, cases_lt, lt-ltb}
 use Rattle.std.proofs.lemmas.List.{drop_all}
 use Rattle.std.proofs.lemmas.Cmp.{nat_list_cmp_total, upto}
 use Rattle.desk_base.specs.Names.{Text, is_empty}
-use Rattle.desk_patterns.specs.TextRules.{TextRule, Hit, hit_of, longer, longest, source_at, HaveSources, StandsBehind}
-use Rattle.desk_patterns.specs.Tables.{Rise, starts, is_behind, NotBehind, IsCut, shared, last_start, IsTable, first_byte}
+use Rattle.desk_patterns.specs.TextRules.{TextRule, Hit, hit_of, longer, longest, source_at, StandsBehind}
+use Rattle.desk_patterns.specs.Tables.{Rise, starts, is_behind, NotBehind, IsCut, shared, target_at, last_start, IsTable}
 use Rattle.desk_patterns.proofs.Starts.{starts_through, start_shorter, start_not_behind, start_between, shared_starts, shared_stops}
 use Rattle.desk_patterns.proofs.Lists.{length_more, index_kept, index_added}
 
@@ -123,11 +123,6 @@ pub walk_falls : (rules : List TextRule) (shorter : List ℕ) (place next : ℕ)
 walk_falls rules shorter place next table within h e = omega (arith, e, table.shorter_are (place - 1) (omega arith), last_within (source_at rules (place - 1)) rules (place - 1))
 
 -- the longest source at the front of a text is the last that starts it
-
-unfoldable pub target_at : List TextRule → ℕ → Text
-target_at [] place = []
-target_at (rule ∷ rules) zero = rule.1
-target_at (rule ∷ rules) (suc place) = target_at rules place
 
 rule_there : (rules : List TextRule) (n : ℕ) → n < length rules → drop n rules ≡ (source_at rules n, target_at rules n) ∷ drop (suc n) rules
 unfolding target_at

@@ -1,13 +1,13 @@
 -- A pattern is tried from place to place.
 use mathlib.Core.Bool.{or-false, or_self}
-use Rattle.std.proofs.Common.{◌≡◌, ◌≢◌, ℕ, ◌+◌, ◌*◌, ◌-◌, ◌<◌, ◌≤◌, Bool, true, false, cond, ◌==◌, ◌&&◌, ◌||◌, List, [], ◌∷◌, length, drop, slice_index, Option, Some, None, refl, sym, ap, subst, ◌∙◌, inl, inr, ◌⊎◌, arith, add-one}
+use Rattle.std.proofs.Common.{◌≡◌, ◌≢◌, ℕ, ◌+◌, ◌<◌, ◌≤◌, Bool, true, false, cond, ◌==◌, ◌&&◌, ◌||◌, [], ◌∷◌, length, drop, slice_index, Option, Some, None, refl, sym, ap, subst, ◌∙◌, inl, inr, arith, add-one}
 use Rattle.std.proofs.lemmas.Bool.{or_cases, and_parts, or_right, or_left, eq-eqb, ne_eqb}
 use Rattle.std.proofs.lemmas.List.{drop_all, length-drop}
 use Rattle.std.proofs.Math.Seq.{drop-cons}
 use Rattle.std.specs.List.{list_all}
 use Rattle.desk_base.specs.Names.{Text, is_empty}
 use Rattle.desk_patterns.specs.Patterns.{any_end, leads, fits}
-use Rattle.desk_patterns.specs.Tries.{fits_later, IsRetry, IsTry, retries_left, room}
+use Rattle.desk_patterns.specs.Tries.{fits_later, IsRetry, IsTry}
 use Rattle.desk_patterns.specs.declared.patterns.Retry.{Retry}
 use Rattle.desk_patterns.specs.declared.patterns.Try.{Try}
 

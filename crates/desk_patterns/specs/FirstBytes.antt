@@ -1,5 +1,5 @@
 -- Which bytes texts begin with.
-use Rattle.std.specs.Prelude.{◌≡◌, ◌≤◌, ◌<◌, ℕ, Bool, true, false, ◌==◌, ◌||◌, List, length, slice_index, slice_index_or, Option, Some, None, MatchOption}
+use Rattle.std.specs.Prelude.{◌≡◌, ◌≤◌, ◌<◌, ℕ, Bool, true, false, List, length, slice_index, slice_index_or, Option, MatchOption}
 use Rattle.memchr.specs.Find.{is_byte, is_byte2, is_byte3}
 use Rattle.desk_base.specs.Names.{Text}
 use Rattle.desk_patterns.specs.declared.first_bytes.Few.{Few}

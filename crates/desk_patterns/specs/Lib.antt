@@ -6,5 +6,6 @@ pub mod FirstBytes
 pub mod Tables
 pub mod PatternTexts
 pub mod Seen
+pub mod Parts
 pub mod SeenTexts
 pub mod SeenChoices

@@ -1,5 +1,5 @@
 -- Patterns of paths.
-use Rattle.std.specs.Prelude.{ℕ, Bool, true, false, ◌&&◌, ◌||◌, ◌==◌, [], ◌∷◌, if◌then◌else◌}
+use Rattle.std.specs.Prelude.{ℕ, Bool, false, ◌&&◌, ◌||◌, ◌==◌, [], ◌∷◌, if◌then◌else◌}
 use Rattle.desk_base.specs.Names.{Text, is_empty}
 
 -- `*`

@@ -1,6 +1,5 @@
 -- What contracts see of patterns with text rules.
 use Rattle.std.specs.Prelude.{◌≡◌, ◌<◌, ℕ, List, [], map, length, slice_index, slice_index_or, Option, Some, None}
-use Rattle.desk_base.specs.Names.{Text}
 use Rattle.desk_patterns.specs.TextRules.{TextRule}
 use Rattle.desk_patterns.specs.PatternTexts.{PatternText, FileTexts}
 use Rattle.desk_patterns.specs.declared.pattern_texts.PatternPlace.{PatternPlace}

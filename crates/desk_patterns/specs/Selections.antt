@@ -1,5 +1,5 @@
 -- Which paths a selection takes.
-use Rattle.std.specs.Prelude.{ℕ, Bool, true, false, not, ◌&&◌, ◌||◌, List, refl}
+use Rattle.std.specs.Prelude.{Bool, true, false, not, ◌&&◌, ◌||◌, List}
 use Rattle.std.specs.List.{list_any}
 use Rattle.desk_base.specs.Names.{Text}
 use Rattle.desk_patterns.specs.Patterns.{fits}

@@ -1,5 +1,5 @@
 -- Text rules as they are searched: in byte order of their sources, each with the longest other source that starts its own.
-use Rattle.std.specs.Prelude.{◌≡◌, ◌≤◌, ◌<◌, ℕ, Bool, true, false, ◌==◌, nat_eq, zero, suc, List, [], ◌∷◌, length, slice_index, if◌then◌else◌}
+use Rattle.std.specs.Prelude.{◌≡◌, ◌≤◌, ◌<◌, ◌-◌, ℕ, Bool, true, false, ◌==◌, nat_eq, zero, suc, List, [], ◌∷◌, length, slice_index, if◌then◌else◌}
 use Rattle.std.specs.List.{starts_with}
 use Rattle.std.specs.Cmp.Lexicographic.{slice_cmp}
 use Rattle.std.specs.Ordering.{nat_cmp, is_gt}
@@ -36,6 +36,22 @@ abbrev pub shared : Text → Text → ℕ
 shared [] t = 0
 shared (b ∷ s) [] = 0
 shared (b ∷ s) (c ∷ t) = if b == c then suc (shared s t) else 0
+
+-- how many first bytes a text shares with the last of so many sources; 0 where there is none
+pub record IsSharedBefore (rules : List TextRule) (text : Text) (count bytes : ℕ) : Type 0 where
+  pub none : count ≡ 0 → bytes ≡ 0
+  pub some : 0 < count → bytes ≡ shared (source_at rules (count - 1)) text
+
+-- how many first bytes a text shares with the source at a place; 0 where there is none
+pub record IsSharedAt (rules : List TextRule) (text : Text) (place bytes : ℕ) : Type 0 where
+  pub none : length rules ≤ place → bytes ≡ 0
+  pub some : place < length rules → bytes ≡ shared (source_at rules place) text
+
+-- the target of the rule at a place
+unfoldable pub target_at : List TextRule → ℕ → Text
+target_at [] place = []
+target_at (rule ∷ rules) zero = rule.1
+target_at (rule ∷ rules) (suc place) = target_at rules place
 
 -- one more than the place of the last of so many rules whose source starts a text; 0 where there is none
 abbrev pub last_start : Text → List TextRule → ℕ → ℕ

@@ -7,6 +7,7 @@
 #![tactic(auto)]
 
 mod first_bytes;
+mod kept_rules;
 mod pattern_texts;
 mod patterns;
 mod selections;

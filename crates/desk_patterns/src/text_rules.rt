@@ -2,24 +2,16 @@
 
 ghost use Rattle.std.specs.Prelude.{◌≡◌, ◌≢◌, ◌≤◌, ◌<◌, ◌∷◌, ◌++◌, [], length, drop, IfSome, MatchOption, OnOk, OnErr};
 ghost use Rattle.desk_patterns.specs.TextRules.{longest, StandsBehind, HaveSources};
-ghost use Rattle.desk_patterns.specs.Tables.{last_start, IsTable, NotBehind};
-ghost use Rattle.desk_patterns.specs.Seen.{hit_seen, rules_seen, shorter_seen, NoHits, IsPlaceFrom};
+ghost use Rattle.desk_patterns.specs.Tables.{last_start, IsTable, NotBehind, IsSharedBefore};
+ghost use Rattle.desk_patterns.specs.Seen.{hit_seen, rules_seen, shorter_seen, NoHits, IsStart, IsPlaceFrom};
 
 use crate::first_bytes::FirstBytes;
-use crate::sources::{count_not_behind, count_shared};
+use crate::kept_rules::KeptRules;
+use crate::sources::{Cut, find_cut, last_cut};
 use desk_base::{Memory, Text};
+use memchr::memmem;
 use std::alloc::Global;
 use std::marker::Model;
-
-/// A rule that exchanges one text for another, with the next shorter source to be tried in its place.
-#[derive(Debug, Drop)]
-pub(crate) struct TextRule {
-    /// The text that is exchanged.
-    pub(crate) source: Text,
-    target: Text,
-    /// One more than the place of the longest other source that starts this one; 0 where there is none.
-    shorter: usize,
-}
 
 /// What stands at a place of a text: a source of so many bytes, and the target that takes their place.
 #[derive(Clone, Copy, Debug)]
@@ -43,7 +35,7 @@ pub struct TextPlace<'r> {
 /// target.
 #[derive(Debug, Drop)]
 pub struct TextRules {
-    rules: Vec<TextRule>,
+    rules: KeptRules,
     firsts: FirstBytes,
 }
 
@@ -58,48 +50,43 @@ impl Model for TextRules {
 
     ghost coded = { coded_list (coded× (coded_list coded_ℕ) (coded_list coded_ℕ)) };
 
-    ghost view = { λ t. rules_seen t.rules.items };
+    ghost view = { λ t. rules_seen t.rules };
 
-    ghost invariant = { λ t. IsTextTable (rules_seen t.rules.items) (shorter_seen t.rules.items) t.firsts };
+    ghost invariant = { λ t. IsTextTable (rules_seen t.rules) (shorter_seen t.rules) t.firsts };
 }
 
-/// One more than the place of the last of so many rules whose source starts a text; 0 where there is none. None of these
+/// One more than the place of the last rule, up to a cut, whose source starts a text; 0 where there is none. None of these
 /// sources stands behind the text in byte order.
-fn last_start(rules: &[TextRule], count: usize, text: &[u8]) -> usize
+fn last_start(rules: &KeptRules, cut: Cut, text: &[u8]) -> usize
     requires table { IsTable (rules_seen rules.now) (shorter_seen rules.now) }
-    requires within { count ≤ length rules.now }
-    requires not_behind { NotBehind (rules_seen rules.now) text.now count }
-    ensures last { result ≡ last_start text.now (rules_seen rules.now) count }
-    ensures inside { result ≤ count }
+    requires within { cut.count ≤ length rules.now }
+    requires not_behind { NotBehind (rules_seen rules.now) text.now cut.count }
+    requires shared { IsSharedBefore (rules_seen rules.now) text.now cut.count cut.shared }
+    ensures last { result ≡ last_start text.now (rules_seen rules.now) cut.count }
+    ensures inside { result ≤ cut.count }
 {
-    if count == 0 {
-        return 0;
-    }
-    let shared = count_shared(rules[count - 1].source.as_bytes(), text);
-    let mut place = count;
+    let mut place = cut.count;
     while place > 0 {
-        let rule = &rules[place - 1];
-        if rule.source.as_bytes().len() <= shared {
+        if rules.source(place - 1).len() <= cut.shared {
             return place;
         }
-        place = rule.shorter;
+        place = rules.shorter(place - 1);
     }
     0
 }
 
 /// The longest source at the front of a text, and its target.
-fn longest_of<'r>(rules: &'r [TextRule], text: &[u8]) -> Option<TextHit<'r>>
+fn longest_of<'r>(rules: &'r KeptRules, text: &[u8]) -> Option<TextHit<'r>>
     requires { IsTable (rules_seen rules.now) (shorter_seen rules.now) }
     ensures { hit_seen result ≡ longest (rules_seen rules.now) text.now }
 {
-    let place = last_start(rules, count_not_behind(rules, text), text);
+    let place = last_start(rules, find_cut(rules, text), text);
     if place == 0 {
         return None;
     }
-    let rule = &rules[place - 1];
     Some(TextHit {
-        taken: rule.source.as_bytes().len(),
-        target: rule.target.as_bytes(),
+        taken: rules.source(place - 1).len(),
+        target: rules.target(place - 1),
     })
 }
 
@@ -109,7 +96,7 @@ impl TextRules {
         ensures { result ≡ [] }
     {
         TextRules {
-            rules: Vec::new(alloc),
+            rules: KeptRules::none(alloc),
             firsts: FirstBytes::none(),
         }
     }
@@ -122,14 +109,11 @@ impl TextRules {
         ensures ok { OnOk result (self.new ≡ self.old ++ (source, target) ∷ []) }
         ensures err { OnErr result (self.new ≡ self.old) }
     {
-        let first = source.as_bytes()[0];
-        let shorter = last_start(&self.rules, self.rules.len(), source.as_bytes());
-        self.rules.push(TextRule {
-            source,
-            target,
-            shorter,
-        })?;
-        self.firsts.add(first);
+        let source = source.as_bytes();
+        let cut = last_cut(&self.rules, source);
+        let shorter = last_start(&self.rules, cut, source);
+        self.rules.push(source, target.as_bytes(), shorter)?;
+        self.firsts.add(source[0]);
         Ok(())
     }
 
@@ -143,6 +127,21 @@ impl TextRules {
         longest_of(&self.rules, &text[at..])
     }
 
+    /// A place of a text, from one on, before which no source starts; the text's length where none starts there.
+    fn next_start(&self, text: &[u8], from: usize) -> usize
+        requires { from ≤ length text.now }
+        ensures start { IsStart self.now text.now from result }
+        ensures sources { HaveSources self.now }
+    {
+        if self.rules.len() != 1 {
+            return self.firsts.next_in(text, from);
+        }
+        match memmem::find(&text[from..], self.rules.source(0)) {
+            None => text.len(),
+            Some(at) => from + at,
+        }
+    }
+
     /// The first place of a text, from one on, at which a source stands, with the longest such source; none exactly where
     /// none stands there or behind. It takes no memory, and passes over bytes with which no source begins.
     pub fn next_place(&self, text: &[u8], from: usize) -> Option<TextPlace<'_>>
@@ -150,12 +149,12 @@ impl TextRules {
         ensures place { MatchOption result (NoHits self.now text.now from (length text.now)) (IsPlaceFrom self.now text.now from) }
         ensures sources { HaveSources self.now }
     {
-        let mut at = self.firsts.next_in(text, from);
+        let mut at = self.next_start(text, from);
         while at < text.len() {
             if let Some(hit) = self.longest(text, at) {
                 return Some(TextPlace { at, hit });
             }
-            at = self.firsts.next_in(text, at + 1);
+            at = self.next_start(text, at + 1);
         }
         None
     }

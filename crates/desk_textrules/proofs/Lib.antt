@@ -1,3 +1,4 @@
 pub mod Rows
 pub mod Pieces
 pub mod Stays
+pub mod Lengths

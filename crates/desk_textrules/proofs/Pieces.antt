@@ -90,7 +90,7 @@ next_pieces rules text from at taken target is =
     ∙ ap (λ (ps : List Piece). map stays (bytes_in text from at) ++ ps) (source_first rules (drop at text) taken target is.hit is.some (omega (arith, is.inside, length-drop at text)))
     ∙ ap (λ (t : Text). map stays (bytes_in text from at) ++ (exchanged (source_in text at taken) target ∷ pieces rules t)) (drop-drop taken at text)
 
-bytes_length : (text : Text) (from to : ℕ) → from ≤ to → to ≤ length text → from + length (bytes_in text from to) ≡ to
+pub bytes_length : (text : Text) (from to : ℕ) → from ≤ to → to ≤ length text → from + length (bytes_in text from to) ≡ to
 bytes_length text from to h within = omega (arith, length-take (to - from) (drop from text), length-drop from text)
 
 source_length : (text : Text) (at taken : ℕ) → at + taken ≤ length text → length (source_in text at taken) ≡ taken

@@ -1,4 +1,3 @@
-use Rattle.std.proofs.Common.{◌==◌}
 use Rattle.std.proofs.lemmas.Bool.{eq-eqb, ne_eqb}
 use Rattle.desk_patterns.proofs.Trying.{IsMissed, try_star, try_byte, miss_end, miss_byte, no_retry, try_again}
 use Rattle.desk_patterns.proofs.patterns.next_try.Goals as goal

@@ -1,4 +1,4 @@
-use Rattle.std.proofs.Common.{ap, sym, ◌∙◌, List, Bool, not, ◌&&◌, ◌≡◌}
+use Rattle.std.proofs.Common.{ap, ◌∙◌, List, not, ◌&&◌}
 use Rattle.std.specs.List.{list_any}
 use Rattle.desk_patterns.specs.Patterns.{fits}
 use Rattle.desk_patterns.specs.Selections.{Choice, selects}
