@@ -1,46 +1,14 @@
 -- Whether a changing rename fits a package.
-use Rattle.std.proofs.Common.{◌≡◌, ◌<◌, ◌≤◌, ◌-◌, ℕ, Bool, true, false, not, ◌&&◌, List, [], ◌∷◌, length, take, Option, Some, None, refl, sym, ap, ◌∙◌, inl, inr, arith}
-use Rattle.std.specs.List.{list_all, find}
-use Rattle.std.proofs.lemmas.Bool.{and_parts, and_from, both_ways, cases_lt, cases_Bool, not_from_false, not-true}
+use Rattle.std.proofs.Common.{◌≡◌, ◌≤◌, ℕ, true, false, not, ◌&&◌, List, [], ◌∷◌, length, Some, None, sym, ap, ◌∙◌, inl, inr, arith}
+use Rattle.std.specs.List.{list_all}
+use Rattle.std.proofs.lemmas.Bool.{and_parts, and_from, both_ways, cases_Bool, not_from_false, not-true}
 use Rattle.desk_base.specs.Names.{Text, Package, segments, written, is_identifier, is_empty}
 use Rattle.desk_packages.specs.Renames.{Renaming, in_scope, changes, exact}
-use Rattle.desk_packages.specs.Keys.{is_separator, IsTable, EndsBelow, NoneEnds, IsChanging, NoneChanging, IsNoneBeyond}
-use Rattle.desk_packages.proofs.Picks.{In, Found, find_Some, find_None}
-use Rattle.desk_packages.proofs.Lookup.{Prefix, formed, one_source, fitting, covers_start, prefix_start, covers_only, written_filled, one_of, contained}
-use Rattle.desk_packages.proofs.Searched.{one_key}
+use Rattle.desk_packages.specs.Keys.{is_separator, IsTable, EndsBelow, IsChanging, NoneChanging, IsNoneBeyond}
+use Rattle.desk_packages.proofs.Picks.{Found, find_Some, find_None}
+use Rattle.desk_packages.proofs.Lookup.{formed, one_source, covers_start, prefix_start, covers_only, written_filled, one_of, contained}
 
 module _ (rs : List Renaming) (table : IsTable rs) (s : ℕ) (h : is_separator s ≡ true) (path : Text) where
-  parts : (r : Renaming) → (changes r && r.below && in_scope r (segments s path)) ≡ true → (changes r ≡ true) × ((r.below ≡ true) × (in_scope r (segments s path) ≡ true))
-  parts r k = let two = and_parts (changes r && r.below) _ k in let one = and_parts _ _ two.0 in (one.0, (one.1, two.1))
-
-  pub beyond_first : IsNoneBeyond rs s path (length path)
-  beyond_first = record { shorter = λ x there k. let p = parts x k in (fitting rs table s h path x (one_of rs x there) (and_from _ _ p.1.0 p.1.1)).within }
-
-  pub beyond_next : (n : ℕ) → IsNoneBeyond rs s path n → ((x : Renaming) → EndsBelow rs s path n x → changes x ≡ true → ⊥) → IsNoneBeyond rs s path (n - 1)
-  beyond_next n known none = record {
-    shorter = λ x there k.
-        let p = parts x k in
-        let prefix = fitting rs table s h path x (one_of rs x there) (and_from _ _ p.1.0 p.1.1) in
-        let most : length (written s x.source) ≤ n = known.shorter x there k in
-        elim (cases_lt (length (written s x.source)) n) [
-          | inl lt ↦ omega arith
-          | inr ge ↦
-              let all : length (written s x.source) ≡ n = omega arith in
-              absurd (none x record {
-                there = there;
-                below = p.1.0;
-                spelled = sym prefix.is ∙ ap (λ (m : ℕ). take m path) all;
-                ends = rw all at prefix.ends;
-              } p.0)
-        ];
-  }
-
-  -- where the one that ends here doesn't change, none does
-  pub others_stay : (n : ℕ) (r : Renaming) → EndsBelow rs s path n r → changes r ≡ false → (x : Renaming) → EndsBelow rs s path n x → changes x ≡ true → ⊥
-  others_stay n r at stays x at_x moves =
-      let same : x ≡ r = one_source rs table s h path x r (one_of rs x at_x.there) (one_of rs r at.there) true at_x.below at.below (at_x.spelled ∙ sym at.spelled) in
-      both_ways (changes x) (ap changes same ∙ stays) moves
-
   pub changing_at : (n : ℕ) → n ≤ length path → (r : Renaming) → EndsBelow rs s path n r → changes r ≡ true → IsChanging rs (segments s path) r
   changing_at n within r at moves =
       let fine = formed rs table s h path r (one_of rs r at.there) in

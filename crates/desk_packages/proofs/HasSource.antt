@@ -1,12 +1,12 @@
 -- Whether a package is the source of a rename, and which rename is picked for it then.
-use Rattle.std.proofs.Common.{◌≡◌, ◌<◌, ◌≤◌, ℕ, Bool, true, false, cond, not, ◌&&◌, ◌||◌, List, [], ◌∷◌, ◌++◌, length, drop, Option, Some, None, refl, sym, ap, ◌∙◌, inl, inr, arith, length-append}
+use Rattle.std.proofs.Common.{◌≡◌, ◌≤◌, ℕ, Bool, true, false, not, ◌&&◌, ◌||◌, List, [], ◌∷◌, ◌++◌, length, drop, Option, Some, None, refl, sym, ap, ◌∙◌, inl, inr, arith, length-append}
 use Rattle.std.specs.Prelude.{MatchOption, is_some}
-use Rattle.std.specs.List.{find, list_any, list_all, Contains}
+use Rattle.std.specs.List.{list_any}
 use Rattle.std.proofs.lemmas.Bool.{and_parts, and_from, or_left, or_right, both_ways, cases_Bool, false_from_ne_true, not_from_false}
 use Rattle.std.proofs.lemmas.List.{append-nil}
 use Rattle.std.proofs.lemmas.Slice.Eq.{bytes_eq-Decides}
 use Rattle.desk_base.specs.Names.{Text, Package, segments, written, same, is_identifier}
-use Rattle.desk_packages.specs.Renames.{Renaming, has_source, in_scope, covers, exact, longest, or_else, pick, renamed_by, is_rename}
+use Rattle.desk_packages.specs.Renames.{Renaming, has_source, in_scope, covers, exact, longest, or_else, pick, is_rename}
 use Rattle.desk_packages.specs.Keys.{is_separator, IsTable, IsSource, NoSource}
 use Rattle.desk_packages.proofs.Same.{same_is, same_from, begins_from, covers_is}
 use Rattle.desk_packages.proofs.Picks.{In, Found, find_Some, find_None, longest_Some, fits_below, all_In}

@@ -8,6 +8,9 @@ pub mod Lookup
 pub mod Joined
 pub mod Sources
 pub mod Ranges
+pub mod Narrowed
+pub mod Along
+pub mod LastBelow
 pub mod Segments
 pub mod Changed
 pub mod HasSource

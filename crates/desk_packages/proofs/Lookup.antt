@@ -1,12 +1,12 @@
 -- A rename is found by the bytes of a path as it is picked for the path's package.
-use Rattle.std.proofs.Common.{◌≡◌, ◌<◌, ◌≤◌, ◌+◌, ◌-◌, ℕ, Bool, true, false, cond, not, ◌&&◌, ◌==◌, List, [], ◌∷◌, ◌++◌, length, take, drop, Option, Some, None, nat_lt, refl, sym, ap, ◌∙◌, ◌⊎◌, inl, inr, arith, length-append}
+use Rattle.std.proofs.Common.{◌≡◌, ◌<◌, ◌≤◌, ◌+◌, ℕ, Bool, true, false, cond, not, ◌&&◌, ◌==◌, List, [], ◌∷◌, ◌++◌, length, take, drop, Option, Some, None, nat_lt, refl, sym, ap, ◌∙◌, ◌⊎◌, inl, inr, arith, length-append}
 use Rattle.std.specs.List.{list_all, slice_split, Contains}
 use Rattle.std.proofs.lemmas.Bool.{and_parts, and_from, both_ways, cases_lt, ltb-true, ltb-false, not-true}
 use Rattle.std.proofs.lemmas.Slice.Eq.{bytes_eq-Decides}
 use Rattle.std.proofs.lemmas.List.{append-nil, append_assoc, take_at, take_all, take-append-drop, drop_more, get_or_at, length-take-le}
 use Rattle.desk_base.specs.Names.{Text, Package, segments, written, is_identifier, is_empty}
 use Rattle.desk_packages.specs.Renames.{Renaming, key_of, is_rename, in_scope, covers, exact, longest, longer}
-use Rattle.desk_packages.specs.Keys.{is_separator, wanted, IsTable, IsSource, NoSource, EndsAt, EndsBelow, NoneEnds}
+use Rattle.desk_packages.specs.Keys.{is_separator, wanted, IsTable, IsSource, NoSource, EndsAt, EndsBelow}
 use Rattle.desk_packages.proofs.Same.{same_is, same_from, begins_from, covers_is, Longer, nested_by}
 use Rattle.desk_packages.proofs.Picks.{In, Found, longest_Some, fits_below, all_In}
 use Rattle.desk_packages.proofs.Cuts.{segments_written, segments_behind, written-segments}
@@ -200,36 +200,6 @@ module _ (rs : List Renaming) (table : IsTable rs) (s : ℕ) (h : is_separator s
   -- a below rename that fits is written as a prefix of the path
   pub fitting : (x : Renaming) → In rs x → fits_below (segments s path) x ≡ true → Prefix s path (written s x.source)
   fitting x is fits = start_prefix s path x.source (formed x is).0 _ (covers_is x.below x.source (segments s path) (and_parts _ _ fits).1)
-
-  pub shorter_first : IsRuledOut rs s path (length path)
-  shorter_first = record { shorter = λ x is fits. (fitting x is fits).within }
-
-  pub shorter_next : (n : ℕ) → IsRuledOut rs s path n → NoneEnds rs s path n → IsRuledOut rs s path (n - 1)
-  shorter_next n known none = record {
-    shorter = λ x is fits.
-        let prefix = fitting x is fits in
-        let most : length (written s x.source) ≤ n = known.shorter x is fits in
-        elim (cases_lt (length (written s x.source)) n) [
-          | inl lt ↦ omega arith
-          | inr ge ↦
-              let all : length (written s x.source) ≡ n = omega arith in
-              absurd (none x record {
-                there = contained rs x is;
-                below = (and_parts _ _ fits).0;
-                spelled = sym prefix.is ∙ ap (λ (m : ℕ). take m path) all;
-                ends = rw all at prefix.ends;
-              })
-        ];
-  }
-
-  pub shorter_none : IsRuledOut rs s path 0 → longest rs (segments s path) ≡ None
-  shorter_none known = longest_nothing rs (segments s path) (λ x is fits.
-      let most : length (written s x.source) ≤ 0 = known.shorter x is fits in
-      nothing_written x.source (formed x is).0 (formed x is).1 most)
-    where
-      nothing_written : (p : Package) → not (is_empty p) ≡ true → list_all is_identifier p ≡ true → length (written s p) ≤ 0 → ⊥
-      nothing_written [] filled all most = absurd cc
-      nothing_written (x ∷ xs) filled all most = omega (arith, written_filled s x xs (and_parts _ _ all).0)
 
   -- the one that ends where no longer one does is the longest
   pub longest_at : (n : ℕ) → n ≤ length path → IsRuledOut rs s path n → (r : Renaming) → EndsBelow rs s path n r → longest rs (segments s path) ≡ Some r

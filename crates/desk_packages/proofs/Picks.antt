@@ -1,7 +1,7 @@
 -- What is picked is one of the renames and fits; and which one is picked.
-use Rattle.std.proofs.Common.{◌≡◌, Bool, true, false, cond, not, ◌&&◌, List, [], ◌∷◌, length, Option, Some, None, nat_lt, refl, ap, ◌∙◌, ◌⊎◌, inl, inr}
-use Rattle.std.specs.List.{list_all, find}
-use Rattle.std.proofs.lemmas.Bool.{and_parts}
+use Rattle.std.proofs.Common.{◌≡◌, Bool, true, false, cond, not, ◌&&◌, List, [], ◌∷◌, length, Option, Some, None, nat_lt, refl, sym, ap, subst, ◌∙◌, ◌⊎◌, inl, inr}
+use Rattle.std.specs.List.{list_all, find, filter}
+use Rattle.std.proofs.lemmas.Bool.{and_parts, both_ways, cases_Bool}
 use Rattle.desk_base.specs.Names.{Package}
 use Rattle.desk_packages.specs.Renames.{Renaming, in_scope, longer, longest, exact, or_else, pick}
 
@@ -39,6 +39,23 @@ pub all_In : {A : Type 0} (test : A → Bool) (xs : List A) (x : A) → list_all
 all_In test [] x h is = absurd is
 all_In test (y ∷ ys) x h (inl same) = rw (← same) (and_parts _ _ h).0
 all_In test (y ∷ ys) x h (inr later) = all_In test ys x (and_parts _ _ h).1 later
+
+-- what passes and is one of a list is left of it, and what is left is one of it and passes
+pub in_filter : {A : Type 0} (test : A → Bool) (xs : List A) (x : A) → In xs x → test x ≡ true → In (filter test xs) x
+in_filter test [] x is h = is
+in_filter {A} test (y ∷ ys) x is h = elim (cases_Bool (test y)) [
+  | inl passes ↦ subst (λ (b : Bool). In (cond b (y ∷ filter test ys) (filter test ys)) x) (sym passes) (elim is [ inl e ↦ inl e | inr later ↦ inr (in_filter test ys x later h) ])
+  | inr fails ↦ subst (λ (b : Bool). In (cond b (y ∷ filter test ys) (filter test ys)) x) (sym fails) (elim is [ inl e ↦ absurd (both_ways (test y) fails (ap test e ∙ h)) | inr later ↦ in_filter test ys x later h ])
+]
+
+pub from_filter : {A : Type 0} (test : A → Bool) (xs : List A) (x : A) → In (filter test xs) x → In xs x × (test x ≡ true)
+from_filter test [] x is = absurd is
+from_filter {A} test (y ∷ ys) x is = by (λ later. from_filter test ys x later) (test y) refl is
+  where
+    by : (In (filter test ys) x → In ys x × (test x ≡ true)) → (b : Bool) → test y ≡ b → In (cond b (y ∷ filter test ys) (filter test ys)) x → In (y ∷ ys) x × (test x ≡ true)
+    by rest true q (inl e) = (inl e, ap test (sym e) ∙ q)
+    by rest true q (inr later) = let f = rest later in (inr f.0, f.1)
+    by rest false q later = let f = rest later in (inr f.0, f.1)
 
 -- a below rename that fits
 abbrev pub fits_below : Package → Renaming → Bool

@@ -15,11 +15,11 @@ use Rattle.desk_base.specs.Names.{Text}
 use Rattle.desk_base.proofs.Orderings.{less_is, then_is}
 use Rattle.desk_packages.specs.Keys.{RiseBy, IsNowhere, IsPlaceOf, IsCutAt, IsLeading}
 
-tied : (x c : ℕ) → c ≡ x → nat_cmp x c ≡ Equal
+pub tied : (x c : ℕ) → c ≡ x → nat_cmp x c ≡ Equal
 tied x c same = rw same (tied_itself nat_cmp_total x)
 
 -- what begins with a text doesn't stand before it
-before_none : (key start : Text) → is_lt (slice_cmp nat_cmp key start) ≡ true → starts_with ◌==◌ key start ≡ false
+pub before_none : (key start : Text) → is_lt (slice_cmp nat_cmp key start) ≡ true → starts_with ◌==◌ key start ≡ false
 before_none [] [] less = absurd cc
 before_none (x ∷ xs) [] less = absurd cc
 before_none [] (c ∷ cs) less = refl
@@ -58,7 +58,7 @@ behind_none (c ∷ cs) (x ∷ xs) (y ∷ ys) from apart more = elim (cases_Bool 
 ]
 
 -- the items from i on, n of them, are those that pass
-filtered : {A : Type 0} (test : A → Bool) (xs : List A) (i n : ℕ) → i + n ≤ length xs
+pub filtered : {A : Type 0} (test : A → Bool) (xs : List A) (i n : ℕ) → i + n ≤ length xs
     → ((k : ℕ) (d : A) → k < i → test (get_or xs k d) ≡ false)
     → ((k : ℕ) (d : A) → i ≤ k → k < i + n → test (get_or xs k d) ≡ true)
     → ((k : ℕ) (d : A) → i + n ≤ k → k < length xs → test (get_or xs k d) ≡ false)

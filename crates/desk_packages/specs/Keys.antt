@@ -74,6 +74,11 @@ pub record IsLeading {A : Type 0} (key : A → Text) (items : List A) (start : T
   pub all : AllBegin key items start n
   pub next : (d : A) → n < length items → starts_with ◌==◌ (key (slice_index_or items n d)) start ≡ false
 
+-- whether a text has ended, or goes on with a byte below a limit
+abbrev pub goes_on_below : ℕ → Text → Bool
+goes_on_below limit [] = true
+goes_on_below limit (byte ∷ rest) = nat_lt byte limit
+
 -- the renames stand in byte order of their keys, each key once
 abbrev pub KeysRise : List Renaming → Type 0
 KeysRise = RiseBy key_of

@@ -1,3 +1,4 @@
 pub mod Renames
 pub mod Keys
+pub mod Sought
 pub mod Fronts

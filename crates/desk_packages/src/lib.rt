@@ -9,6 +9,7 @@
 
 mod fronts;
 mod keyed;
+mod narrowing;
 mod picking;
 mod rename;
 

@@ -1,13 +1,16 @@
 //! Which rename is picked for a package.
 
-ghost use Rattle.std.specs.Prelude.{◌≡◌, ◌≤◌, None, Some, MatchOption, length};
+ghost use Rattle.std.specs.Prelude.{◌≡◌, ◌≤◌, ◌<◌, ◌+◌, ◌==◌, None, Some, MatchOption, length, take, map};
+ghost use Rattle.std.specs.List.{filter, starts_with};
 ghost use Rattle.std.specs.Cmp.Lexicographic.{slice_cmp};
 ghost use Rattle.std.specs.Ordering.{nat_cmp};
 ghost use Rattle.desk_base.specs.Names.{segments};
-ghost use Rattle.desk_packages.specs.Renames.{exact, has_source, longest, pick};
-ghost use Rattle.desk_packages.specs.Keys.{byte_of, goes_below, spelled, wanted, wanted_tail, IsTable, IsSource, NoSource, EndsBelow, NoneEnds, IsChanging, NoneChanging, IsNoneBeyond};
+ghost use Rattle.desk_packages.specs.Renames.{exact, has_source, key_of, longest, pick};
+ghost use Rattle.desk_packages.specs.Keys.{byte_of, goes_below, spelled, wanted, wanted_tail, IsTable, IsSource, NoSource, AllBegin, EndsBelow, NoneEnds, IsChanging, NoneChanging, IsNoneBeyond};
+ghost use Rattle.desk_packages.specs.Sought.{is_sought, IsLastBelow, NoneBelow};
 
 use crate::keyed::Keyed;
+use crate::narrowing::narrowed;
 use crate::{PackageRename, Reach, Separator};
 use std::cmp::Ordering;
 
@@ -104,7 +107,29 @@ pub fn is_source(renames: &[PackageRename], path: &[u8], separator: Separator) -
     }
 }
 
-/// The below rename whose source is a path up to a place, where a segment ends there.
+/// Which below renames are looked for.
+#[derive(Clone, Copy, Debug)]
+enum Sought {
+    /// Each of them.
+    All,
+    /// Those that change.
+    Changing,
+}
+
+impl Sought {
+    /// Whether a rename is looked for.
+    fn is_met_by(self, rename: &PackageRename) -> bool
+        ensures { result ≡ is_sought self rename.now }
+    {
+        match self {
+            Sought::All => true,
+            Sought::Changing => rename.changes(),
+        }
+    }
+}
+
+/// The below rename whose source is a path up to a place, where a segment ends there, among renames whose keys begin with what
+/// stands before that place.
 fn below_at<'r>(
     renames: &'r [PackageRename],
     path: &[u8],
@@ -113,6 +138,7 @@ fn below_at<'r>(
 ) -> Option<&'r PackageRename>
     requires table { IsTable renames.now }
     requires within { end ≤ length path.now }
+    requires alike { AllBegin key_of renames.now (map (spelled (byte_of separator)) (take end path.now)) (length renames.now) }
     ensures { MatchOption result
         (NoneEnds renames.now (byte_of separator) path.now end)
         (λ r. EndsBelow renames.now (byte_of separator) path.now end r.now) }
@@ -120,7 +146,59 @@ fn below_at<'r>(
     if end < path.len() && path[end] != separator.byte() {
         return None;
     }
-    find(renames, &path[..end], separator, Reach::Below)
+    let dotted = narrowed(renames, end, b'.');
+    match narrowed(dotted, end + 1, b'*') {
+        [rename, ..] => Some(rename),
+        [] => None,
+    }
+}
+
+/// The renames whose keys go on as a path does at a place, among renames whose keys begin with what stands before it; all of them
+/// where the path ends there.
+fn going_on<'r>(
+    renames: &'r [PackageRename],
+    path: &[u8],
+    separator: Separator,
+    end: usize,
+) -> &'r [PackageRename]
+    requires table { IsTable renames.now }
+    requires within { end ≤ length path.now }
+    requires alike { AllBegin key_of renames.now (map (spelled (byte_of separator)) (take end path.now)) (length renames.now) }
+    ensures table { IsTable result.now }
+    ensures begin { result.now ≡ filter (λ r. starts_with ◌==◌ (key_of r) (map (spelled (byte_of separator)) (take (end + 1) path.now))) renames.now }
+{
+    if end == path.len() {
+        return renames;
+    }
+    narrowed(renames, end, spelled(separator.byte(), path[end]))
+}
+
+/// The below rename with the longest source that fits a package that is written with a separator, of those that are looked for.
+/// The path is read once, as far as a key begins with it.
+fn longest_sought<'r>(
+    renames: &'r [PackageRename],
+    path: &[u8],
+    separator: Separator,
+    sought: Sought,
+) -> Option<&'r PackageRename>
+    requires { IsTable renames.now }
+    ensures { MatchOption result
+        (NoneBelow renames.now (byte_of separator) path.now sought (length path.now + 1))
+        (λ r. IsLastBelow renames.now (byte_of separator) path.now sought (length path.now + 1) r.now) }
+{
+    let mut rest = renames;
+    let mut found = None;
+    for end in 0..=path.len() {
+        if rest.is_empty() {
+            return found;
+        }
+        found = match below_at(rest, path, separator, end) {
+            Some(rename) if sought.is_met_by(rename) => Some(rename),
+            _ => found,
+        };
+        rest = going_on(rest, path, separator, end);
+    }
+    found
 }
 
 /// The below rename with the longest source that fits a package that is written with a separator, among renames in byte order of
@@ -135,14 +213,7 @@ pub fn longest_of<'r>(
         (longest renames.now (segments (byte_of separator) path.now) ≡ None)
         (λ r. longest renames.now (segments (byte_of separator) path.now) ≡ Some r.now) }
 {
-    let mut end = path.len();
-    while end > 0 {
-        if let Some(rename) = below_at(renames, path, separator, end) {
-            return Some(rename);
-        }
-        end -= 1;
-    }
-    None
+    longest_sought(renames, path, separator, Sought::All)
 }
 
 /// The rename that is picked for a package that is written with a separator, among renames in byte order of their keys: the
@@ -174,14 +245,7 @@ fn changing_below<'r>(
         (IsNoneBeyond renames.now (byte_of separator) path.now 0)
         (λ r. IsChanging renames.now (segments (byte_of separator) path.now) r.now) }
 {
-    let mut end = path.len();
-    while end > 0 {
-        match below_at(renames, path, separator, end) {
-            Some(rename) if rename.changes() => return Some(rename),
-            _ => end -= 1,
-        }
-    }
-    None
+    longest_sought(renames, path, separator, Sought::Changing)
 }
 
 /// A rename that changes and fits a package that is written with a separator, among renames in byte order of their keys;

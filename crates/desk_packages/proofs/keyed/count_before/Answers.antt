@@ -1,4 +1,4 @@
-use Rattle.std.proofs.Common.{ap, sym, ◌∙◌, arith}
+use Rattle.std.proofs.Common.{ap, arith}
 use Rattle.std.specs.Ordering.{is_lt}
 use Rattle.desk_packages.proofs.Searched.{at_place}
 use Rattle.desk_packages.proofs.Ranges.{before_still, behind_still}

@@ -1,6 +1,5 @@
 use Rattle.std.proofs.Common.{sym, ◌∙◌, Option, Some, None, MatchOption}
 use Rattle.desk_base.specs.Names.{segments}
-use Rattle.desk_packages.specs.Renames.{Renaming}
 use Rattle.desk_packages.specs.Keys.{byte_of, IsChanging, NoneChanging, IsNoneBeyond}
 use Rattle.desk_packages.proofs.Sources.{separates}
 use Rattle.desk_packages.proofs.Changed.{changing_exact, none_at_all, none_but}
