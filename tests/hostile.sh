@@ -1016,6 +1016,15 @@ for files in $(seq 3 12); do
   [ "$status" = 127 ] || bounded "$files open files"
 done
 
+# With too small a stack the system ends the program by a signal; a stack of 1 MiB is enough.
+for kib in 64 256; do
+  with -s "$kib"
+  check "a stack of $kib KiB: a true ledger" '' "$(seen | grep untrue)"
+done
+with -s 1024
+check 'a stack of 1 MiB' 0 "$status"
+gone 'a stack of 1 MiB'
+
 # With little memory the workers are fewer: where one is enough, 64 are.
 fresh
 for i in $(seq 3000); do mkdir -p "app/l$i.jar/web"; cp app/WEB-INF/classes/web/Hello.class "app/l$i.jar/web"; done
