@@ -5,7 +5,8 @@ import os
 import shutil
 import subprocess
 import sys
-import time
+
+from timing import timed
 
 ROUNDS, READINGS = 5, 10
 LONG = 60000
@@ -97,12 +98,10 @@ def seconds_of(program, place, content):
         file.write(content)
     with open(f"{place}/list", "w") as paths:
         paths.write(f"{place}/some.class\n" * READINGS)
-    start = time.perf_counter()
-    told = subprocess.run([program, "scan", f"{place}/list"], stdout=subprocess.PIPE, check=True).stdout
-    seconds = time.perf_counter() - start
-    if f"classes {READINGS}\n".encode() not in told:
-        sys.exit(f"a class has a fault: {told.decode()}")
-    return seconds / READINGS
+    run = timed([program, "scan", f"{place}/list"], stdout=subprocess.PIPE)
+    if f"classes {READINGS}\n".encode() not in run.out:
+        sys.exit(f"a class has a fault: {run.out.decode()}")
+    return run.seconds / READINGS
 
 
 def renamed_members(hostile):
@@ -125,12 +124,10 @@ def seconds_to_migrate(program, place, content):
         with open(f"{place}/app/some{number}.class", "wb") as file:
             file.write(content)
     words = [program, "run", "--rules", f"{place}/rules", "--from", f"{place}/app", "--to", f"{place}/out", "--ledger", f"{place}/ledger"]
-    start = time.perf_counter()
-    told = subprocess.run(words, stdout=subprocess.PIPE, check=True).stdout
-    seconds = time.perf_counter() - start
-    if f"written={READINGS} ".encode() not in told:
-        sys.exit(f"a class isn't written: {told.decode()}")
-    return seconds / READINGS
+    run = timed(words, stdout=subprocess.PIPE)
+    if f"written={READINGS} ".encode() not in run.out:
+        sys.exit(f"a class isn't written: {run.out.decode()}")
+    return run.seconds / READINGS
 
 
 def compare(name, make, seconds_to_do):

@@ -5,7 +5,8 @@ import os
 import shutil
 import subprocess
 import sys
-import time
+
+from timing import timed
 
 FILES, ROWS, ROUNDS = 30000, 20000, 5
 
@@ -23,11 +24,8 @@ def make(place):
 
 def run(words):
     """How long the program ran, and what it wrote to standard error."""
-    start = time.perf_counter()
-    ended = subprocess.run(words, stdout=subprocess.DEVNULL, stderr=subprocess.PIPE)
-    if ended.returncode:
-        sys.exit(f"{words[0]} ended with {ended.returncode}")
-    return time.perf_counter() - start, ended.stderr
+    ended = timed(words, stderr=subprocess.PIPE)
+    return ended.seconds, ended.out
 
 
 def words_of(place):

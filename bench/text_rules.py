@@ -7,7 +7,8 @@ import os
 import random
 import subprocess
 import sys
-import time
+
+from timing import timed
 
 HALF = 50_000_000
 RUNS = 3
@@ -37,12 +38,8 @@ def text(names):
 
 def best(words):
     """The least time of some runs, in seconds, and what the last wrote."""
-    times = []
-    for _ in range(RUNS):
-        start = time.perf_counter()
-        done = subprocess.run(words, check=True, stdout=subprocess.PIPE)
-        times.append(time.perf_counter() - start)
-    return min(times), done.stdout
+    runs = [timed(words, stdout=subprocess.PIPE) for _ in range(RUNS)]
+    return min(run.seconds for run in runs), runs[-1].out
 
 
 def write(path, content):

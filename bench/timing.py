@@ -18,15 +18,16 @@ class Timed(NamedTuple):
     peak: int
     # The exit status.
     status: int
-    # What it wrote to its standard output, where that was asked for.
+    # What it wrote to its standard output or, where that wasn't asked for, to its standard error.
     out: bytes
 
 
-def timed(words, stdin=None, stdout=subprocess.DEVNULL, may_fail=False):
+def timed(words, stdin=None, stdout=subprocess.DEVNULL, stderr=None, may_fail=False):
     """Runs a program, and ends the bench where it fails and may not."""
     start = time.perf_counter()
-    process = subprocess.Popen(words, stdin=stdin, stdout=stdout)
-    out = process.stdout.read() if process.stdout else b""
+    process = subprocess.Popen(words, stdin=stdin, stdout=stdout, stderr=stderr)
+    told = process.stdout or process.stderr
+    out = told.read() if told else b""
     _, ended, usage = os.wait4(process.pid, 0)
     seconds = time.perf_counter() - start
     status = process.returncode = os.waitstatus_to_exitcode(ended)
