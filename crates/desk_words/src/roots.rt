@@ -251,8 +251,13 @@ fn first_nested(alloc: Global, roots: &RunRoots) -> Result<Option<RootsFault>, M
 
 /// The roots of a run as they are written.
 fn written_roots(alloc: Global, roots: &RunRoots) -> Result<Roots, Memory>
-    ensures { IfOk result (λ given. given ≡ record { rules = written roots.now.rules; from = written roots.now.from; to = written roots.now.to;
-        ledger = written roots.now.ledger; verify = roots.now.verify }) }
+    ensures { IfOk result (λ given. given ≡ record {
+      rules = written roots.now.rules;
+      from = written roots.now.from;
+      to = written roots.now.to;
+      ledger = written roots.now.ledger;
+      verify = roots.now.verify;
+    }) }
 {
     let rules = roots.rules.written(alloc)?;
     let from = roots.from.written(alloc)?;
