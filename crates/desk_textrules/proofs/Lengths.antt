@@ -1,12 +1,12 @@
 -- The length of a text with each source exchanged, measured from one source to the next.
-use Rattle.std.proofs.Common.{◌≡◌, ◌<◌, ◌≤◌, ◌+◌, ◌-◌, ℕ, List, [], ◌∷◌, ◌++◌, map, length, drop, ap, ◌∙◌, arith}
+use Rattle.std.proofs.Common.{◌≡◌, ◌<◌, ◌≤◌, ◌+◌, ◌-◌, ℕ, List, [], ◌∷◌, ◌++◌, length, drop, ap, ◌∙◌, arith}
 use Rattle.std.proofs.lemmas.List.{length-append}
 use Rattle.desk_base.specs.Names.{Text}
 use Rattle.desk_base.specs.Limits.{file_size}
 use Rattle.desk_patterns.specs.TextRules.{TextRule}
 use Rattle.desk_patterns.specs.Seen.{NoHits}
 use Rattle.desk_textrules.specs.TextImages.{Piece, pieces, written, replaced}
-use Rattle.desk_textrules.specs.TextImages.Piece.{stays, exchanged}
+use Rattle.desk_textrules.specs.TextImages.Piece.{exchanged}
 use Rattle.desk_textrules.proofs.Pieces.{IsSourceAt, bytes_in, source_in, next_pieces, written_bytes, last_bytes, bytes_length}
 
 -- how many bytes the rest of a text gives

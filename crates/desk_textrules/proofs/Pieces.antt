@@ -1,16 +1,13 @@
 -- The pieces of a text, from one source to the next.
-use Rattle.std.proofs.Common.{◌≡◌, ◌<◌, ◌≤◌, ◌+◌, ◌-◌, ℕ, zero, suc, Bool, true, false, cond, not, List, [], ◌∷◌, ◌++◌, map, length, take, drop, Option, Some, None, Result, Ok, refl, sym, ap, ◌∙◌, arith, append_assoc, add-zero}
+use Rattle.std.proofs.Common.{◌≡◌, ◌<◌, ◌≤◌, ◌+◌, ◌-◌, ℕ, zero, suc, Bool, true, false, cond, not, List, [], ◌∷◌, ◌++◌, map, length, take, drop, Option, Some, None, refl, sym, ap, ◌∙◌, arith, append_assoc, add-zero}
 use Rattle.std.specs.Str.{bytes_eq}
-use Rattle.std.proofs.lemmas.List.{drop_all, take_all, length-drop, length-take, drop-drop}
-use Rattle.std.proofs.lemmas.Slice.Eq.{bytes_eq-Decides}
-use Rattle.std.proofs.lemmas.Bool.{both_ways, not-false, not-true}
+use Rattle.std.proofs.lemmas.List.{drop_all, length-drop, length-take, drop-drop}
+use Rattle.std.proofs.lemmas.Bool.{not-false, not-true}
 use Rattle.desk_base.specs.Names.{Text}
-use Rattle.desk_base.specs.declared.Changed.{Changed}
-use Rattle.desk_patterns.specs.TextRules.{TextRule, Hit, longest, HaveSources}
+use Rattle.desk_patterns.specs.TextRules.{TextRule, Hit, longest}
 use Rattle.desk_patterns.specs.Seen.{NoHits, IsPlaceFrom}
 use Rattle.desk_patterns.specs.declared.text_rules.TextPlace.{TextPlace}
-use Rattle.desk_patterns.proofs.Sizes.{IsSized, hit_is_sized}
-use Rattle.desk_textrules.specs.TextImages.{Piece, cut_at, pieces_behind, pieces, written, count_changed, first_changed, replaced, unsettled, unless_unsettled, text_image, TextStays}
+use Rattle.desk_textrules.specs.TextImages.{Piece, cut_at, pieces_behind, pieces, written, count_changed, first_changed, replaced, unsettled}
 use Rattle.desk_textrules.specs.TextImages.Piece.{stays, exchanged}
 
 -- bytes that are passed over

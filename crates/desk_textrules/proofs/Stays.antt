@@ -1,12 +1,11 @@
 -- A text whose sources are exchanged for themselves alone is its own image.
-use Rattle.std.proofs.Common.{◌≡◌, ◌<◌, ◌≤◌, ◌+◌, ◌-◌, ℕ, zero, suc, Bool, true, false, cond, List, [], ◌∷◌, ◌++◌, length, take, drop, Option, Some, None, Result, Ok, Err, refl, sym, ap, ◌∙◌, arith}
+use Rattle.std.proofs.Common.{◌≡◌, ◌<◌, ◌≤◌, ◌+◌, ◌-◌, ℕ, zero, suc, Bool, true, false, cond, List, [], ◌∷◌, ◌++◌, length, take, drop, Option, Some, None, Ok, refl, ap, ◌∙◌, arith}
 use Rattle.std.specs.Str.{bytes_eq}
 use Rattle.std.proofs.lemmas.Slice.Eq.{bytes_eq-Decides}
 use Rattle.desk_base.specs.Names.{Text}
-use Rattle.desk_base.specs.declared.Changed.{Changed}
 use Rattle.desk_patterns.specs.TextRules.{TextRule, Hit, longest, HaveSources}
-use Rattle.desk_patterns.proofs.Sizes.{Sized, IsSized, longest_sized}
-use Rattle.desk_textrules.specs.TextImages.{Piece, cut_at, pieces_behind, pieces, written, count_changed, first_changed, replaced, unsettled, unless_unsettled, text_image, TextStays}
+use Rattle.desk_patterns.proofs.Sizes.{Sized, longest_sized}
+use Rattle.desk_textrules.specs.TextImages.{Piece, cut_at, pieces_behind, pieces, written, count_changed, first_changed, replaced, unsettled, unless_unsettled, TextStays}
 use Rattle.desk_textrules.specs.TextImages.Piece.{stays, exchanged}
 
 -- the text that was cut

@@ -1,6 +1,4 @@
-use Rattle.std.proofs.Common.{◌≡◌, ◌≤◌, ◌<◌, ◌+◌, ◌-◌, ℕ, Option, None, SomeIff, length, sym, subst, arith}
-use Rattle.desk_base.specs.Limits.{file_size}
-use Rattle.desk_textrules.specs.TextImages.{replaced}
+use Rattle.std.proofs.Common.{◌≡◌, ◌<◌, ◌+◌, ◌-◌, ℕ, Option, None, SomeIff, length, sym, subst, arith}
 use Rattle.desk_textrules.proofs.Pieces.{source_found}
 use Rattle.desk_textrules.proofs.Lengths.{measured_more, too_long, end_too_long, measured_whole}
 use Rattle.desk_textrules.proofs.texts.image_length.Goals as goal

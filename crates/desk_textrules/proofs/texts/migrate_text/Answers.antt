@@ -1,5 +1,4 @@
-use Rattle.std.proofs.Common.{◌≡◌, ◌∙◌, None, ap, sym}
-use Rattle.desk_base.specs.Names.{Text}
+use Rattle.std.proofs.Common.{◌∙◌, ap, sym}
 use Rattle.desk_textrules.specs.TextImages.{unsettled}
 use Rattle.desk_textrules.proofs.Stays.{text_stays}
 use Rattle.desk_textrules.proofs.texts.migrate_text.Goals as goal

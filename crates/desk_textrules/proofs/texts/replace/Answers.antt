@@ -1,4 +1,4 @@
-use Rattle.std.proofs.Common.{◌≡◌, ◌+◌, ◌++◌, ◌∙◌, ℕ, Bool, cond, ap, sym, add-zero}
+use Rattle.std.proofs.Common.{◌+◌, ◌++◌, ◌∙◌, Bool, cond, ap, sym, add-zero}
 use Rattle.desk_base.specs.Names.{Text}
 use Rattle.desk_textrules.proofs.Pieces.{source_found, replaced_more, all_replaced, all_counted}
 use Rattle.desk_textrules.proofs.texts.replace.Goals as goal
