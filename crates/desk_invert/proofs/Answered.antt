@@ -4,7 +4,7 @@ use Rattle.std.specs.List.{filter}
 use Rattle.desk_base.specs.Names.{Text}
 use Rattle.desk_packages.specs.Renames.{Renaming, changes}
 use Rattle.desk_packages.specs.Keys.{IsTable}
-use Rattle.desk_packages.proofs.Picks.{In, from_filter}
+use Rattle.desk_packages.proofs.Picks.{In}
 use Rattle.desk_packages.proofs.Lookup.{one_of, contained}
 use Rattle.desk_rules.specs.Rules.{Rules}
 use Rattle.desk_rules.specs.RuleSets.{IsRuleSet}
@@ -13,7 +13,7 @@ use Rattle.desk_invert.specs.Inverse.{inverse, flipped}
 use Rattle.desk_invert.specs.Files.{only_renames}
 use Rattle.desk_invert.specs.Answers.{inverted}
 use Rattle.desk_invert.specs.Laws.{inverse_rules, TakesPackagesBack}
-use Rattle.desk_invert.proofs.Inverses.{IsInverse}
+use Rattle.desk_invert.proofs.Inverses.{IsInverse, from_filter}
 use Rattle.desk_invert.proofs.Made.{inverse_made, inverse_again}
 use Rattle.desk_invert.proofs.Settled.{rule_set}
 use Rattle.desk_invert.proofs.Built.{file_builds}

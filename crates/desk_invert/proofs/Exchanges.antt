@@ -10,11 +10,11 @@ use Rattle.desk_base.specs.Names.{Package, same, is_package}
 use Rattle.desk_packages.specs.Renames.{Renaming, changes, key_of, is_rename}
 use Rattle.desk_packages.specs.Keys.{IsTable, RiseBy}
 use Rattle.desk_packages.proofs.Same.{same_is}
-use Rattle.desk_packages.proofs.Picks.{In, all_In, in_filter, from_filter}
+use Rattle.desk_packages.proofs.Picks.{In, all_In}
 use Rattle.desk_packages.proofs.Lookup.{one_of, contained}
 use Rattle.desk_invert.specs.Inverse.{flipped, first_overlap, differ}
 use Rattle.desk_invert.specs.Exchanged.{takes_back, IsTakenBack, AreExchanged, IsParted, HasKey}
-use Rattle.desk_invert.proofs.Inverses.{IsInverse, all_true, in_flips, from_flips, flip_changes, one_source, one_target}
+use Rattle.desk_invert.proofs.Inverses.{IsInverse, all_true, in_flips, from_flips, flip_changes, one_source, one_target, in_filter, from_filter}
 
 agree : (a b : Bool) → cond a b (not b) ≡ true → a ≡ b
 agree true true h = refl

@@ -10,7 +10,7 @@ use Rattle.desk_entries.specs.Forms.{is_below, source_text}
 use Rattle.desk_packages.specs.Renames.{Renaming, changes, key_of, is_rename}
 use Rattle.desk_packages.specs.Keys.{IsTable}
 use Rattle.desk_packages.proofs.Same.{same_is, same_from}
-use Rattle.desk_packages.proofs.Picks.{In, in_filter, from_filter}
+use Rattle.desk_packages.proofs.Picks.{In}
 use Rattle.desk_packages.proofs.Searched.{one_key}
 use Rattle.desk_chains.proofs.Chains.{package_named}
 use Rattle.desk_rules.proofs.Twice.{first_pair_None}
@@ -41,6 +41,22 @@ pub flip_changes : (r : Renaming) → changes r ≡ true → changes (flipped r)
 flip_changes r h = not_from_false _ (false_from_ne_true (same r.target r.source) (λ e. both_ways (same r.source r.target) (not-true _ h) (same_from r.source r.target (sym (same_is r.target r.source e)))))
 
 -- ---- members
+
+pub in_filter : {A : Type 0} (test : A → Bool) (xs : List A) (x : A) → In xs x → test x ≡ true → In (filter test xs) x
+in_filter test [] x is h = is
+in_filter {A} test (y ∷ ys) x is h = elim (cases_Bool (test y)) [
+  | inl passes ↦ subst (λ (b : Bool). In (cond b (y ∷ filter test ys) (filter test ys)) x) (sym passes) (elim is [ inl e ↦ inl e | inr later ↦ inr (in_filter test ys x later h) ])
+  | inr fails ↦ subst (λ (b : Bool). In (cond b (y ∷ filter test ys) (filter test ys)) x) (sym fails) (elim is [ inl e ↦ absurd (both_ways (test y) fails (ap test e ∙ h)) | inr later ↦ in_filter test ys x later h ])
+]
+
+pub from_filter : {A : Type 0} (test : A → Bool) (xs : List A) (x : A) → In (filter test xs) x → In xs x × (test x ≡ true)
+from_filter test [] x is = absurd is
+from_filter {A} test (y ∷ ys) x is = by (λ later. from_filter test ys x later) (test y) refl is
+  where
+    by : (In (filter test ys) x → In ys x × (test x ≡ true)) → (b : Bool) → test y ≡ b → In (cond b (y ∷ filter test ys) (filter test ys)) x → In (y ∷ ys) x × (test x ≡ true)
+    by rest true q (inl e) = (inl e, ap test (sym e) ∙ q)
+    by rest true q (inr later) = let f = rest later in (inr f.0, f.1)
+    by rest false q later = let f = rest later in (inr f.0, f.1)
 
 pub in_map : {A B : Type 0} (f : A → B) (xs : List A) (x : A) → In xs x → In (map f xs) (f x)
 in_map f [] x h = h

@@ -8,11 +8,11 @@ use Rattle.std.proofs.lemmas.Bool.{and_parts, and_from}
 use Rattle.desk_base.specs.Names.{is_package}
 use Rattle.desk_packages.specs.Renames.{Renaming, changes, key_of, is_rename}
 use Rattle.desk_packages.specs.Keys.{IsTable, RiseBy}
-use Rattle.desk_packages.proofs.Picks.{In, all_In, in_filter, from_filter}
+use Rattle.desk_packages.proofs.Picks.{In, all_In}
 use Rattle.desk_packages.proofs.Searched.{in_at, at_in}
 use Rattle.desk_packages.proofs.Lookup.{one_of, contained}
 use Rattle.desk_invert.specs.Inverse.{flipped, inverse, first_overlap}
-use Rattle.desk_invert.proofs.Inverses.{IsInverse, all_true, in_flips, from_flips, flip_changes, one_source, one_target}
+use Rattle.desk_invert.proofs.Inverses.{IsInverse, all_true, in_flips, from_flips, in_filter, from_filter, flip_changes, one_source, one_target}
 use Rattle.desk_invert.proofs.Keyed.{by_key_is, by_key_in, by_key_rises, by_key_all}
 
 -- ---- renames that rise, and some of them
