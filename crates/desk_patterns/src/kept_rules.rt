@@ -1,6 +1,6 @@
 //! Text rules as they are held: the texts of all in one, one behind the other.
 
-ghost use Rattle.std.specs.Prelude.{◌≡◌, ◌<◌, ◌+◌, ◌∷◌, ◌++◌, [], length, slice_index, OnOk, OnErr, IfSome};
+ghost use Rattle.std.specs.Prelude.{◌≡◌, ◌<◌, ◌+◌, ◌∷◌, ◌++◌, [], length, slice_index, OnOk, OnErr, IfOk, IfSome};
 ghost use Rattle.desk_patterns.specs.TextRules.{source_at};
 ghost use Rattle.desk_patterns.specs.Tables.{target_at};
 ghost use Rattle.desk_patterns.specs.Seen.{rules_seen, shorter_seen};
@@ -56,17 +56,6 @@ fn new_part(start: usize, source: usize, target: usize, shorter: usize) -> Optio
     })
 }
 
-/// Makes room for a part more where there is none: for a quarter more of them, and not for as many again. The only error is
-/// want of memory.
-fn grow(parts: &mut Vec<Part>) -> Result<(), Memory>
-    ensures { parts.new.items ≡ parts.old.items }
-{
-    if parts.len() == parts.capacity() {
-        parts.reserve_exact(parts.len() / 4 + 1)?;
-    }
-    Ok(())
-}
-
 impl KeptRules {
     /// No rules. It takes no memory.
     pub(crate) fn none(alloc: Global) -> KeptRules
@@ -76,6 +65,15 @@ impl KeptRules {
             texts: Vec::new(alloc),
             parts: Vec::new(alloc),
         }
+    }
+
+    /// No rules, with room for so many, whose sources and targets have so many bytes together. The only error is want of memory.
+    pub(crate) fn with_room(alloc: Global, rules: usize, bytes: usize) -> Result<KeptRules, Memory>
+        ensures { IfOk result (λ kept. kept ≡ []) }
+    {
+        let texts = Vec::with_capacity(alloc, bytes)?;
+        let parts = Vec::with_capacity(alloc, rules)?;
+        Ok(KeptRules { texts, parts })
     }
 
     /// How many rules there are.
@@ -126,7 +124,6 @@ impl KeptRules {
             None => return Err(Memory),
             Some(part) => part,
         };
-        grow(&mut self.parts)?;
         self.texts.extend_from_slice(source)?;
         self.texts.extend_from_slice(target)?;
         self.parts.push(part)?;

@@ -1,6 +1,6 @@
 //! Rules that exchange texts.
 
-ghost use Rattle.std.specs.Prelude.{◌≡◌, ◌≢◌, ◌≤◌, ◌<◌, ◌∷◌, ◌++◌, [], length, drop, IfSome, MatchOption, OnOk, OnErr};
+ghost use Rattle.std.specs.Prelude.{◌≡◌, ◌≢◌, ◌≤◌, ◌<◌, ◌∷◌, ◌++◌, [], length, drop, IfOk, IfSome, MatchOption, OnOk, OnErr};
 ghost use Rattle.desk_patterns.specs.TextRules.{longest, StandsBehind, HaveSources};
 ghost use Rattle.desk_patterns.specs.Tables.{last_start, IsTable, NotBehind, IsSharedBefore};
 ghost use Rattle.desk_patterns.specs.Seen.{hit_seen, rules_seen, shorter_seen, NoHits, IsStart, IsPlaceFrom};
@@ -99,6 +99,18 @@ impl TextRules {
             rules: KeptRules::none(alloc),
             firsts: FirstBytes::none(),
         }
+    }
+
+    /// Text rules that exchange nothing, with room for so many, whose sources and targets have so many bytes together. The only
+    /// error is want of memory.
+    pub fn with_room(alloc: Global, rules: usize, bytes: usize) -> Result<TextRules, Memory>
+        ensures { IfOk result (λ found. found ≡ []) }
+    {
+        let rules = KeptRules::with_room(alloc, rules, bytes)?;
+        Ok(TextRules {
+            rules,
+            firsts: FirstBytes::none(),
+        })
     }
 
     /// Adds a rule, whose source isn't empty and stands behind all others in byte order. After want of memory, the only

@@ -130,12 +130,23 @@ fn names_of(
     Ok(names)
 }
 
+/// How many bytes the sources and targets of rules have together; 2^64 - 1 where they are more.
+fn room_for(rules: &[TextRule]) -> usize {
+    let mut bytes = 0usize;
+    for rule in rules {
+        bytes = bytes
+            .saturating_add(rule.source().len())
+            .saturating_add(rule.target().len());
+    }
+    bytes
+}
+
 /// Text rules of a file, as they are searched.
 fn rules_from(alloc: Global, rules: &[TextRule]) -> Result<TextRules, Memory>
     requires { RiseBy (λ rule. rule.0) rules.now }
     ensures { IfOk result (λ found. found ≡ rules.now) }
 {
-    let mut found = TextRules::none(alloc);
+    let mut found = TextRules::with_room(alloc, rules.len(), room_for(rules))?;
     for rule in rules {
         let source = Text::from_bytes(alloc, rule.source())?;
         let target = Text::from_bytes(alloc, rule.target())?;

@@ -2,7 +2,6 @@
 use Rattle.std.proofs.Common.{◌≡◌, ◌<◌, ◌≤◌, ◌+◌, ◌-◌, ℕ, List, [], ◌∷◌, ◌++◌, length, drop, ap, ◌∙◌, arith}
 use Rattle.std.proofs.lemmas.List.{length-append}
 use Rattle.desk_base.specs.Names.{Text}
-use Rattle.desk_base.specs.Limits.{file_size}
 use Rattle.desk_patterns.specs.TextRules.{TextRule}
 use Rattle.desk_patterns.specs.Seen.{NoHits}
 use Rattle.desk_textrules.specs.TextImages.{Piece, pieces, written, replaced}
@@ -13,10 +12,10 @@ use Rattle.desk_textrules.proofs.Pieces.{IsSourceAt, bytes_in, source_in, next_p
 abbrev pub rest_length : List TextRule → Text → ℕ → ℕ
 rest_length rules text done = length (written (pieces rules (drop done text)))
 
--- how far a text is measured: so much room is left of a file's
-pub record IsMeasuredTo (rules : List TextRule) (text : Text) (done room : ℕ) : Type 0 where
+-- how far a text is measured: so much room is left of the most bytes that it may have
+pub record IsMeasuredTo (rules : List TextRule) (text : Text) (most done room : ℕ) : Type 0 where
   pub within : done ≤ length text
-  pub room_is : length (replaced rules text) + room ≡ file_size + rest_length rules text done
+  pub room_is : length (replaced rules text) + room ≡ most + rest_length rules text done
 
 pub next_length : (rules : List TextRule) (text : Text) (done at taken : ℕ) (target : Text) → done ≤ length text → IsSourceAt rules text done at taken target → rest_length rules text done ≡ (at - done) + (length target + rest_length rules text (at + taken))
 next_length rules text done at taken target within is =
@@ -31,18 +30,18 @@ last_length rules text done within none =
     let whole : rest_length rules text done ≡ length (bytes ++ []) = ap (λ (ps : List Piece). length (written ps)) (last_bytes rules text done within none) ∙ ap length (written_bytes bytes []) in
     omega (arith, whole, length-append bytes [], bytes_length text done (length text) within (omega arith))
 
-pub measured_more : (rules : List TextRule) (text : Text) (done room at taken next : ℕ) (target : Text) → IsMeasuredTo rules text done room → IsSourceAt rules text done at taken target → next + ((at - done) + length target) ≡ room → IsMeasuredTo rules text (at + taken) next
-measured_more rules text done room at taken next target so is e = record {
+pub measured_more : (rules : List TextRule) (text : Text) (most done room at taken next : ℕ) (target : Text) → IsMeasuredTo rules text most done room → IsSourceAt rules text done at taken target → next + ((at - done) + length target) ≡ room → IsMeasuredTo rules text most (at + taken) next
+measured_more rules text most done room at taken next target so is e = record {
   within = is.inside;
   room_is = omega (arith, so.room_is, next_length rules text done at taken target so.within is);
 }
 
 -- where no room is left for what comes next, the text is too long
-pub too_long : (rules : List TextRule) (text : Text) (done room at taken : ℕ) (target : Text) → IsMeasuredTo rules text done room → IsSourceAt rules text done at taken target → room < (at - done) + length target → length (replaced rules text) ≤ file_size → ⊥
-too_long rules text done room at taken target so is less fits = omega (arith, so.room_is, next_length rules text done at taken target so.within is)
+pub too_long : (rules : List TextRule) (text : Text) (most done room at taken : ℕ) (target : Text) → IsMeasuredTo rules text most done room → IsSourceAt rules text done at taken target → room < (at - done) + length target → length (replaced rules text) ≤ most → ⊥
+too_long rules text most done room at taken target so is less fits = omega (arith, so.room_is, next_length rules text done at taken target so.within is)
 
-pub end_too_long : (rules : List TextRule) (text : Text) (done room : ℕ) → IsMeasuredTo rules text done room → NoHits rules text done (length text) → room < length text - done → length (replaced rules text) ≤ file_size → ⊥
-end_too_long rules text done room so none less fits = omega (arith, so.room_is, last_length rules text done so.within none)
+pub end_too_long : (rules : List TextRule) (text : Text) (most done room : ℕ) → IsMeasuredTo rules text most done room → NoHits rules text done (length text) → room < length text - done → length (replaced rules text) ≤ most → ⊥
+end_too_long rules text most done room so none less fits = omega (arith, so.room_is, last_length rules text done so.within none)
 
-pub measured_whole : (rules : List TextRule) (text : Text) (done room : ℕ) → IsMeasuredTo rules text done room → NoHits rules text done (length text) → length (replaced rules text) + room ≡ file_size + (length text - done)
-measured_whole rules text done room so none = omega (arith, so.room_is, last_length rules text done so.within none)
+pub measured_whole : (rules : List TextRule) (text : Text) (most done room : ℕ) → IsMeasuredTo rules text most done room → NoHits rules text done (length text) → length (replaced rules text) + room ≡ most + (length text - done)
+measured_whole rules text most done room so none = omega (arith, so.room_is, last_length rules text done so.within none)

@@ -10,7 +10,7 @@
 mod texts;
 
 use desk_base::Memory;
-pub use texts::migrate_text;
+pub use texts::{image_length, migrate_text};
 
 /// Why a file with text rules has no image.
 #[derive(Clone, Copy, Debug, PartialEq, Eq)]

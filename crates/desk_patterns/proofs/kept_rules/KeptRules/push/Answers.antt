@@ -2,7 +2,6 @@ use Rattle.std.proofs.Common.{◌≡◌, ℕ, ◌++◌, ◌∷◌, [], List, len
 use Rattle.desk_base.specs.Names.{Text}
 use Rattle.desk_patterns.specs.Seen.{KeptRule}
 use Rattle.desk_patterns.specs.Parts.{kept_seen}
-use Rattle.desk_patterns.specs.declared.kept_rules.Part.{Part}
 use Rattle.desk_patterns.proofs.Parts.{kept_same, parts_stay, kept_added, parts_added, new_part, with_texts}
 use Rattle.desk_patterns.proofs.kept_rules.KeptRules.push.Goals as goal
 
@@ -14,15 +13,14 @@ pub returns-in_err-extend_from_slice-2-clause-err : goal.returns-in_err-extend_f
 returns-in_err-extend_from_slice-2-clause-err c =
     let texts = c.self.inside.texts.items in
     let parts = c.self.inside.parts.items in
-    on_err _ _ (ap (kept_seen c.extend_from_slice-2.new.self.items) c.grow.ensures
-    ∙ ap (λ (t : Text). kept_seen t parts) (c.in_err-extend_from_slice-2.ensures.items ∙ c.in_ok-extend_from_slice.ensures.items)
+    on_err _ _ (ap (λ (t : Text). kept_seen t parts) (c.in_err-extend_from_slice-2.ensures.items ∙ c.in_ok-extend_from_slice.ensures.items)
     ∙ kept_same texts c.args.source.now parts c.self.invariant ∙ c.self.view_is)
 
 pub returns-in_err-push-clause-err : goal.returns-in_err-push-clause-err
 returns-in_err-push-clause-err c =
     let texts = c.self.inside.texts.items in
     let parts = c.self.inside.parts.items in
-    on_err _ _ (ap (kept_seen c.extend_from_slice-2.new.self.items) (c.in_err-push.ensures.items ∙ c.grow.ensures)
+    on_err _ _ (ap (kept_seen c.extend_from_slice-2.new.self.items) c.in_err-push.ensures.items
     ∙ ap (λ (t : Text). kept_seen t parts) (c.in_ok-extend_from_slice-2.ensures.items ∙ ap (λ (t : Text). t ++ c.args.target.now) c.in_ok-extend_from_slice.ensures.items)
     ∙ kept_same (texts ++ c.args.source.now) c.args.target.now parts (parts_stay texts c.args.source.now parts c.self.invariant)
     ∙ kept_same texts c.args.source.now parts c.self.invariant ∙ c.self.view_is)
@@ -35,7 +33,7 @@ invariant_of-self-2 c =
     let is : c.in-Some.part ≡ new_part (length texts) (length c.args.source.now) (length c.args.target.now) c.args.shorter = c.in-Some.ensures ∙ ap (λ (n : ℕ). new_part n (length c.args.source.now) (length c.args.target.now) c.args.shorter) start in
     parts_added texts c.args.source.now c.args.target.now c.extend_from_slice-2.new.self.items parts c.push.new.self.items c.args.shorter c.in-Some.part c.self.invariant is
     (c.in_ok-extend_from_slice-2.ensures.items ∙ ap (λ (t : Text). t ++ c.args.target.now) c.in_ok-extend_from_slice.ensures.items)
-    (c.in_ok-push.ensures.items ∙ ap (λ (ps : List Part). ps ++ c.in-Some.part ∷ []) c.grow.ensures)
+    c.in_ok-push.ensures.items
 
 pub returns-clause-ok : goal.returns-clause-ok
 returns-clause-ok c =
@@ -45,5 +43,5 @@ returns-clause-ok c =
     let is : c.in-Some.part ≡ new_part (length texts) (length c.args.source.now) (length c.args.target.now) c.args.shorter = c.in-Some.ensures ∙ ap (λ (n : ℕ). new_part n (length c.args.source.now) (length c.args.target.now) c.args.shorter) start in
     kept_added texts c.args.source.now c.args.target.now c.extend_from_slice-2.new.self.items parts c.push.new.self.items c.args.shorter c.in-Some.part c.self.invariant is
     (c.in_ok-extend_from_slice-2.ensures.items ∙ ap (λ (t : Text). t ++ c.args.target.now) c.in_ok-extend_from_slice.ensures.items)
-    (c.in_ok-push.ensures.items ∙ ap (λ (ps : List Part). ps ++ c.in-Some.part ∷ []) c.grow.ensures)
+    c.in_ok-push.ensures.items
     ∙ ap (λ (rules : List KeptRule). rules ++ with_texts c.args.shorter c.args.source.now c.args.target.now ∷ []) c.self.view_is
