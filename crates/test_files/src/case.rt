@@ -45,6 +45,7 @@ impl Case {
             Command::Twins => pools::tell_twins(alloc, words, out),
             Command::Body => pools::tell_body(alloc, out),
             Command::Class => put::class(alloc, &mut self.classes, words, out),
+            Command::Classes => put::many(alloc, &mut self.classes, words),
             Command::Scan => put::scanned(alloc, &mut self.classes, words, out),
             _ => self.obey_by_rules(command, words, out),
         }

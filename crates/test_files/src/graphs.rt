@@ -12,9 +12,9 @@ use desk_rules::RuleSet;
 use std::alloc::Global;
 
 /// How many classes a case may have.
-const MOST: usize = 1000;
+const MOST: usize = 100_000;
 
-/// The graph of classes, of which a case has few, or why there is none.
+/// The graph of classes, or why there is none.
 pub fn graph_of(
     alloc: Global,
     rules: &RuleSet,

@@ -18,6 +18,7 @@
 //! rewrite-servlet                            the same of the servlet of `worked_classes`
 //! rewrite-servlet-with-255                   at how many places the servlet is answered with 255 in place of the byte there
 //! class selected|unselected PATH NAME ..     puts a class of this name that holds these names
+//! classes PACKAGE COUNT                      puts so many classes, whose names are the package and a number
 //! scan selected|unselected PATH CONTENT      puts what a scan keeps of a class
 //! graph image|node|links WORD ..             takes the classes that were put, and asks their graph
 //! treated PATH                               where a file goes, how it is treated, and whether it is read whole

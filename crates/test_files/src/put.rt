@@ -1,7 +1,7 @@
 //! Classes that are put into the application of a case.
 
 use crate::told;
-use crate::words::{content, word};
+use crate::words::{content, number, word};
 use desk_base::{Memory, Text};
 use desk_class::HeldNames;
 use desk_file::scan_class;
@@ -63,4 +63,25 @@ pub fn scanned(
         Some(class) => put(classes, class, out),
         None => told::text(out, "no class"),
     }
+}
+
+/// The class of a number, which is selected: its name is a package with `/`, and its number behind that; it holds that name alone.
+fn numbered(alloc: Global, package: &[u8], number: u32) -> Result<Scanned, Memory> {
+    let digits = format!(in alloc; "/{number}")?;
+    let mut name = Text::from_bytes(alloc, package)?;
+    name.append(digits.as_bytes())?;
+    Ok(Scanned {
+        path: name.clone()?,
+        selected: true,
+        held: HeldNames::of(alloc, &[name.as_bytes()])?,
+        name,
+    })
+}
+
+/// Puts classes with numbers from 0 on: the words are their package and how many they are.
+pub fn many(alloc: Global, classes: &mut Vec<Scanned>, words: &[Text]) -> Result<(), Memory> {
+    for i in 0..number(words, 1) {
+        classes.push(numbered(alloc, word(words, 0), i)?)?;
+    }
+    Ok(())
 }
