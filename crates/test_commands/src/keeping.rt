@@ -2,7 +2,7 @@
 
 ghost use Rattle.std.specs.Prelude.{IsSome};
 
-use crate::{append_unknown, append_words, byte_of, number_of};
+use crate::{append_unknown, append_words, byte_of};
 use desk_base::{Memory, Text};
 use desk_ledger::{Digest, Header, Keeper, KeeperFault, Row};
 use std::alloc::Global;
@@ -33,26 +33,6 @@ fn row_of(target: &Text, source: &Text, byte: &Text) -> Result<Row, Memory> {
         digest: Digest([byte; 32]),
         output: Some(Digest([byte ^ 255; 32])),
     })
-}
-
-/// The row of a number: its target and its path are the name with the eight bytes of the number behind it.
-fn numbered_row(name: &Text, number: u64, byte: u8) -> Result<Row, Memory> {
-    let mut target = name.clone()?;
-    target.append(&number.to_be_bytes())?;
-    Ok(Row {
-        source: target.clone()?,
-        target,
-        digest: Digest([byte; 32]),
-        output: Some(Digest([byte ^ 255; 32])),
-    })
-}
-
-/// Whether two rows are the same.
-fn are_same(one: &Row, other: &Row) -> bool {
-    one.target == other.target
-        && one.source == other.source
-        && one.digest == other.digest
-        && one.output == other.output
 }
 
 /// Appends why a call failed.
@@ -133,71 +113,6 @@ impl<K: Keeper + Drop> Attached<K> {
         self.keeper.put(row)
     }
 
-    /// Keeps the row of a number.
-    fn put_numbered(&mut self, name: &Text, number: u64, byte: u8) -> Result<(), KeeperFault> {
-        let row = numbered_row(name, number, byte)?;
-        self.keeper.put(row)
-    }
-
-    /// Keeps the rows of so many numbers, up to the first that isn't kept.
-    fn put_rows(&mut self, name: &Text, count: u64, byte: u8) -> Result<(), KeeperFault> {
-        for number in 0..count {
-            self.put_numbered(name, number, byte)?;
-        }
-        Ok(())
-    }
-
-    /// Whether a number has just that row.
-    fn has_numbered(&mut self, name: &Text, number: u64, byte: u8) -> Result<bool, KeeperFault> {
-        let wanted = numbered_row(name, number, byte)?;
-        match self.keeper.find(&wanted.target)? {
-            Some(row) => Ok(are_same(&row, &wanted)),
-            None => Ok(false),
-        }
-    }
-
-    /// How many of so many numbers have just that row.
-    fn count_rows(&mut self, name: &Text, count: u64, byte: u8) -> Result<u64, KeeperFault> {
-        let mut found = 0_u64;
-        for number in 0..count {
-            if self.has_numbered(name, number, byte)? {
-                found = found.saturating_add(1);
-            }
-        }
-        Ok(found)
-    }
-
-    /// Appends how many of so many numbers have just that row.
-    fn answer_count(
-        &mut self,
-        name: &Text,
-        count: u64,
-        byte: u8,
-        out: &mut String,
-    ) -> Result<(), Memory> {
-        match self.count_rows(name, count, byte) {
-            Ok(found) => Ok(writeln!(out, "  {found} rows")?),
-            Err(fault) => append_fault(fault, out),
-        }
-    }
-
-    /// Appends what a command over the rows of so many numbers answers.
-    fn answer_rows(
-        &mut self,
-        verb: &[u8],
-        name: &Text,
-        count: &Text,
-        byte: &Text,
-        out: &mut String,
-    ) -> Result<(), Memory> {
-        let (count, byte) = (number_of(count.as_bytes()), byte_of(byte.as_bytes()));
-        match verb {
-            b"put-rows" => append_done(self.put_rows(name, count, byte), out),
-            b"count-rows" => self.answer_count(name, count, byte, out),
-            _ => append_unknown(out),
-        }
-    }
-
     /// Makes this the header.
     fn set_header(&mut self, from: &Text, to: &Text, byte: &Text) -> Result<(), KeeperFault> {
         let header = header_of(from, to, byte)?;
@@ -230,7 +145,7 @@ impl<K: Keeper + Drop> Attached<K> {
             [verb, first, second, byte] => match verb.as_bytes() {
                 b"put" => append_done(self.put(first, second, byte), out),
                 b"set-header" => append_done(self.set_header(first, second, byte), out),
-                verb => self.answer_rows(verb, first, second, byte, out),
+                _ => append_unknown(out),
             },
             _ => append_unknown(out),
         }

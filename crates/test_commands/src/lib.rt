@@ -6,8 +6,6 @@
 //! file kind old                     `file`, `folder`, `link` or `nothing`
 //! ledger put one a 1                `ok`, `failed` or `memory`
 //! ledger find one                   target, source, digest and output, or `none`
-//! ledger put-rows r 1025 1          rows of as many targets, `r` and eight bytes of a number; `ok`, `failed` or `memory`
-//! ledger count-rows r 1025 1        how many of these targets have just that row
 //! ```
 #![tactic(auto)]
 
