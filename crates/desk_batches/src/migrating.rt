@@ -14,8 +14,8 @@ use crate::inputs::{Input, read_batch};
 use crate::noted::Noted;
 use crate::replacing::moved;
 use crate::stops::Stop;
-use desk_base::{Memory, Text};
-use desk_file::{FileFault, migrate_file};
+use desk_base::{MAX_FILE_SIZE, Memory, Text};
+use desk_file::{FileFault, migrate_file, outgrows};
 use desk_folders::Folders;
 use desk_graph::ClassGraph;
 use desk_ledger::{Digest, digest_of};
@@ -56,7 +56,8 @@ pub struct Migration<'r> {
     ghost linked: { graph.now.renames ≡ rules.now.renames } by { Coded-set (coded_list renaming_code) graph.now.renames rules.now.renames },
 }
 
-/// The image of a file with this digest along its route, or why it has none.
+/// The image of a file with this digest along its route, or why it has none. The only error is want of memory, which also comes for
+/// a text whose image would have more than 67,108,864 bytes: it is measured before it is made.
 fn image_under(
     alloc: Global,
     rules: &RuleSet,
@@ -69,6 +70,9 @@ fn image_under(
     ensures { IfOk result (λ fate. fate ≡ image_of_input rules.now graph.now.defined input.now) }
 {
     let bytes = input.bytes.as_bytes();
+    if outgrows(rules, &input.route, bytes, MAX_FILE_SIZE) {
+        return Err(Memory);
+    }
     match migrate_file(alloc, rules, graph, &input.route, bytes) {
         Ok(image) => Ok(Ok(DigestedImage::of(image, bytes, digest))),
         Err(FileFault::Refused(reason)) => Ok(Err(reason)),

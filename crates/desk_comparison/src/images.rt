@@ -18,10 +18,11 @@ ghost use Rattle.desk_intake.specs.Limits.{most_files};
 ghost use Rattle.desk_readings.specs.Readings.{scanned_route};
 ghost use Rattle.desk_rename.specs.Images.{cls};
 
+use crate::MAX_BOTH;
 use crate::made::Made;
 use crate::reading::SourceFile;
 use desk_base::{MAX_FILE_SIZE, Memory, Text};
-use desk_file::{FileFault, Image, Treatment, migrate_file, scan_class};
+use desk_file::{FileFault, Image, Treatment, migrate_file, outgrows, scan_class};
 use desk_folders::GenFile;
 use desk_graph::{ClassGraph, Scanned};
 use desk_intake::{Halt, build_graph, limit};
@@ -72,7 +73,8 @@ pub(crate) fn graph_of_files<'r>(
     build_graph(alloc, rules, classes)
 }
 
-/// Adds what a file becomes: the answer is `Limit` where its image has more than 67,108,864 bytes.
+/// Adds what a file becomes: the answer is `Limit` where its image has more than 67,108,864 bytes. The only other halt is want of
+/// memory, which also comes for a text whose image would have more than 1,073,741,824.
 fn make_one(
     alloc: Global,
     rules: &RuleSet,
@@ -86,6 +88,9 @@ fn make_one(
     ensures err { IfErr result (HaltsMaking (image_answer (image_in rules.now graph.now.defined) (file_of file ∷ []))) }
 {
     let SourceFile { route, content } = file;
+    if outgrows(rules, &route, content.as_bytes(), MAX_BOTH as usize) {
+        return Err(Halt::Memory);
+    }
     match migrate_file(alloc, rules, graph, &route, content.as_bytes()) {
         Ok(Image { bytes, .. }) => {
             if bytes.as_bytes().len() > MAX_FILE_SIZE {

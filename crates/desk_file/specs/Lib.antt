@@ -6,3 +6,4 @@ pub mod ClassScans
 pub mod Faults
 pub mod Treatments
 pub mod Routes
+pub mod Outgrown

@@ -1,6 +1,6 @@
 //! The image of a file.
 
-ghost use Rattle.std.specs.Prelude.{◌≡◌, ◌≤◌, Ok, IfOk, IfErr, IsSomeAnd, length, unwrap_or};
+ghost use Rattle.std.specs.Prelude.{◌≡◌, ◌≤◌, ◌&&◌, Ok, IfOk, IfErr, IsSomeAnd, length, unwrap_or};
 ghost use Rattle.desk_base.specs.Limits.{file_size};
 ghost use Rattle.desk_file.specs.Faults.{IsFaultOf, IsFileFault, IsManifestFault, IsServiceFault};
 ghost use Rattle.desk_file.specs.Linked.{image_in};
@@ -8,6 +8,8 @@ ghost use Rattle.desk_file.specs.NewClasses.{IsNewClassOf};
 ghost use Rattle.desk_file.specs.Images.{copied, manifest_image, service_image, texts_image};
 ghost use Rattle.desk_file.specs.Routes.{IsRouteBy, image_along};
 ghost use Rattle.desk_patterns.specs.PatternTexts.{texts_for};
+ghost use Rattle.desk_patterns.specs.SeenTexts.{both_seen};
+ghost use Rattle.desk_file.specs.Outgrown.{is_text, text_outgrows};
 
 use crate::classes::class_image;
 use crate::routes::Route;
@@ -16,9 +18,10 @@ use desk_base::{Changed, Memory, Text};
 use desk_graph::ClassGraph;
 use desk_manifest::{ManifestFault, migrate_manifest};
 use desk_metainf::{ServiceFault, migrate_service};
+use desk_patterns::PathTexts;
 use desk_report::{Detail, Reason};
 use desk_rules::RuleSet;
-use desk_textrules::{TextFault, migrate_text};
+use desk_textrules::{TextFault, image_length, migrate_text};
 use std::alloc::Global;
 
 /// What a file becomes: its new bytes, and what they are made of.
@@ -137,6 +140,33 @@ fn texts_image(
         bytes,
         detail: Detail::Texts { changed },
     }))
+}
+
+/// Whether the text rules of a path give a text an image of more than `most` bytes.
+fn text_outgrows(texts: Option<PathTexts<'_>>, bytes: &[u8], most: usize) -> bool
+    requires { length bytes.now ≤ file_size }
+    ensures { result ≡ text_outgrows (both_seen texts.entry) bytes.now most }
+{
+    match texts {
+        Some(texts) => image_length(bytes, texts.here, most).is_none(),
+        None => false,
+    }
+}
+
+/// Whether a file of at most 67,108,864 bytes is a text along its route, and the text rules of its path give it an image of more
+/// than `most` bytes. The image is measured, and not made. It takes no memory.
+pub fn outgrows(rules: &RuleSet, route: &Route, bytes: &[u8], most: usize) -> bool
+    requires { length bytes.now ≤ file_size }
+    ensures { result ≡ (is_text route.now.treatment && text_outgrows (texts_for rules.now.texts route.now.path route.now.target) bytes.now most) }
+{
+    match route.treatment {
+        Treatment::Texts => text_outgrows(
+            rules.texts_for(route.path.as_bytes(), route.target.as_bytes()),
+            bytes,
+            most,
+        ),
+        _ => false,
+    }
 }
 
 /// The image of a file along its route, and none where it is copied.

@@ -18,7 +18,7 @@ mod scans;
 mod targets;
 mod treatments;
 
-pub use images::{FileFault, Image, migrate_file};
+pub use images::{FileFault, Image, migrate_file, outgrows};
 pub use routes::{Route, route_of};
 pub use scans::scan_class;
 pub use targets::target_of;
