@@ -387,11 +387,11 @@ migrate run --rules rules --from app --to to --ledger ledger
 hasnt 'a rename that a class meets' "$renames"
 
 # a text on both sides of the end of a part of 1,048,576 bytes, and behind the first 67,108,864 bytes of a file, which no rule reads
-for place in 1048570 1048576 2097140 67108850; do
+for offset in 1048570 1048576 2097140 67108850; do
   fresh
-  { head -c "$place" /dev/zero; printf 'javax.servlet'; } >app/readme.txt
+  { head -c "$offset" /dev/zero; printf 'javax.servlet'; } >app/readme.txt
   migrate run --rules rules --from app --to to --ledger ledger
-  hasnt "a text at $place" "$renames"
+  hasnt "a text at $offset" "$renames"
 done
 fresh
 { head -c 67108864 /dev/zero; printf 'javax.servlet'; } >app/readme.txt
