@@ -2,7 +2,7 @@
 #![tactic(auto)]
 
 use desk_outside::{end_unread, follow_words};
-use desk_program::{Streams, exit_of, read_words};
+use desk_program::{Streams, exit_of, read_words, take_stack};
 use desk_report::{Status, StdSink};
 use std::process::ExitCode;
 use std::thread::Threads;
@@ -17,5 +17,6 @@ fn run<R: Threads + Sync>(rt: &HostRuntime, threads: &R) -> Status {
 
 fn main(rt: HostRuntime) -> ExitCode {
     let _streams = Streams::take_places(&rt);
+    take_stack(&rt);
     exit_of(&run(&rt, &rt))
 }
