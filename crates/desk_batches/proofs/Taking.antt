@@ -1,6 +1,6 @@
 -- The files of a batch, those of them that are read whole, and their images.
 use Rattle.std.proofs.Common.{◌≡◌, ℕ, zero, ◌+◌, ◌≤◌, ◌<◌, List, [], ◌∷◌, ◌++◌, Option, Some, None, Bool, refl, sym, ap, ◌∙◌, subst, take, drop, length, true, false, suc, get_or, length-append, append_assoc, arith, ◌-◌, ◌≢◌, inl}
-use Rattle.std.specs.Prelude.{IfSome, map, cond, Result, unwrap_or, All, option_map, IsSome}
+use Rattle.std.specs.Prelude.{IfSome, map, cond, Result, Ok, unwrap_or, All, option_map, IsSome}
 use Rattle.std.proofs.Math.Seq.{get_or-append_seam, take-add}
 use Rattle.std.proofs.lemmas.List.{map-append, length-map, take_more, get_or-drop, take-append-drop, drop_more}
 use Rattle.std.proofs.Math.ListN.{get_or-map}
@@ -8,22 +8,24 @@ use Rattle.desk_ledger.specs.Ledger.{Ledger}
 use Rattle.desk_batches.specs.Stops.{Broken, StoppedAt}
 use Rattle.desk_batches.specs.Works.{files_after, ledger_after, logged, logged_plan, wrote, wrote_plan, Work}
 use Rattle.desk_base.specs.Names.{Text}
-use Rattle.desk_batches.specs.Notes.{IsNoteOf, IsSound}
+use Rattle.desk_batches.specs.Notes.{IsNoteOf, IsSound, StaysAsNoted}
 use Rattle.desk_batches.specs.declared.noted.Outcome.{Outcome}
 use Rattle.desk_base.specs.Paths.{full, is_relative_path}
 use Rattle.desk_file.proofs.Treating.{image_routed}
 use Rattle.desk_file.specs.Linked.{image_in}
-use Rattle.desk_file.specs.Routes.{IsRouteBy}
+use Rattle.desk_file.specs.Routes.{IsRouteBy, image_along}
 use Rattle.desk_file.specs.declared.images.Image.{Image}
 use Rattle.desk_rules.specs.Rules.{Rules}
 use Rattle.desk_folders.specs.Contents.{Contents}
+use Rattle.desk_report.specs.declared.lines.Detail.{Detail}
 use Rattle.desk_report.specs.declared.lines.Reason.{Reason}
 use Rattle.desk_readings.proofs.Fronts.{split_at}
+use Rattle.desk_batches.proofs.Staying.{OfSource}
 use Rattle.desk_batches.proofs.Steps.{files_after-join, ledger_after-join, one_file_more, one_row_more, stopped_here}
 use Rattle.std.proofs.lemmas.Grind.{common_steps}
 use Rattle.std.proofs.lemmas.List.Sums.{sum_by_push}
 use Rattle.std.specs.List.{sum_by, slice_range}
-use Rattle.desk_batches.specs.Turns.{fitting, weight_of, DidWork, HasItsDigest, SourceStays, bytes_of, image_here, image_of_input, input_in, is_migrated, migrated, outcome_of, plan_by, work_by, work_in, work_with, works_in}
+use Rattle.desk_batches.specs.Turns.{fitting, weight_of, DidWork, HasItsDigest, SourceStays, bytes_of, image_here, image_noted, image_of_input, input_in, is_migrated, migrated, outcome_of, plan_by, work_by, work_in, work_with, works_in}
 use Rattle.std.proofs.lemmas.List.Elements.{All-cons, All-drop, All-map, All-nil, All-tail, All-take, All-head}
 use Rattle.std.specs.FinMap as fin
 use Rattle.std.proofs.lemmas.Bool.{le-leb}
@@ -71,19 +73,27 @@ all_migrated P (x ∷ xs) h = one P (is_migrated x.way) x (migrated xs) (All-hea
   one P true x ys p h = All-cons P x ys p h
   one P false x ys p h = h
 
-images_along : (rules : Rules) (defined : List Text) (from : List ℕ) (m : Contents) (xs : List Noted) → All (λ (x : Noted). IsRouteBy rules x.route) xs
+-- what was noted of a file that stays as it is is what it becomes
+noted_same : (bytes : Text) (stays : Option Detail) (made here : Result Image Reason) → here ≡ made → IfSome stays (λ detail. here ≡ Ok (record { bytes = bytes; detail = detail })) → image_noted bytes stays made ≡ here
+noted_same bytes None made here e h = sym e
+noted_same bytes (Some detail) made here e h = sym h
+
+images_along : (rules : Rules) (defined : List Text) (from : List ℕ) (m : Contents) (xs : List Noted) → All (λ (x : Noted). IsRouteBy rules x.route) xs → All (StaysAsNoted (image_in rules defined) from m) xs
     → map (image_of_input rules defined) (map (input_in from m) xs) ≡ map (image_here (image_in rules defined) from m) xs
-images_along rules defined from m [] h = refl
-images_along rules defined from m (x ∷ xs) h =
-    let here = image_routed rules defined x.route (bytes_of from m x) (All-head (λ (x : Noted). IsRouteBy rules x.route) x xs h) in
-    ap (λ y. y ∷ map (image_of_input rules defined) (map (input_in from m) xs)) (sym here)
-    ∙ ap (λ ys. image_here (image_in rules defined) from m x ∷ ys) (images_along rules defined from m xs (All-tail (λ (x : Noted). IsRouteBy rules x.route) x xs h))
+images_along rules defined from m [] h k = refl
+images_along rules defined from m (x ∷ xs) h k =
+    let along = image_routed rules defined x.route (bytes_of from m x) (All-head (λ (x : Noted). IsRouteBy rules x.route) x xs h) in
+    let here = noted_same (bytes_of from m x) x.stays (image_along rules defined x.route (bytes_of from m x)) (image_here (image_in rules defined) from m x) along (All-head (StaysAsNoted (image_in rules defined) from m) x xs k) in
+    ap (λ y. y ∷ map (image_of_input rules defined) (map (input_in from m) xs)) here
+    ∙ ap (λ ys. image_here (image_in rules defined) from m x ∷ ys)
+    (images_along rules defined from m xs (All-tail (λ (x : Noted). IsRouteBy rules x.route) x xs h) (All-tail (StaysAsNoted (image_in rules defined) from m) x xs k))
 
 -- the images of what was read
 pub images_read : (rules : Rules) (defined : List Text) (from : List ℕ) (m : Contents) (xs : List Noted) (inputs : List Input) (images : List (Result Image Reason)) → All (λ (x : Noted). IsRouteBy rules x.route) xs
-    → inputs ≡ map (input_in from m) (migrated xs) → images ≡ map (image_of_input rules defined) inputs → images ≡ map (image_here (image_in rules defined) from m) (migrated xs)
-images_read rules defined from m xs inputs images h read made =
-    made ∙ ap (map (image_of_input rules defined)) read ∙ images_along rules defined from m (migrated xs) (all_migrated (λ (x : Noted). IsRouteBy rules x.route) xs h)
+    → All (StaysAsNoted (image_in rules defined) from m) xs → inputs ≡ map (input_in from m) (migrated xs) → images ≡ map (image_of_input rules defined) inputs → images ≡ map (image_here (image_in rules defined) from m) (migrated xs)
+images_read rules defined from m xs inputs images h k read made =
+    made ∙ ap (map (image_of_input rules defined)) read
+    ∙ images_along rules defined from m (migrated xs) (all_migrated (λ (x : Noted). IsRouteBy rules x.route) xs h) (all_migrated (StaysAsNoted (image_in rules defined) from m) xs k)
 
 -- as many were read as are read whole
 pub inputs_counted : (inputs : List Input) (xs : List Noted) → map (λ (input : Input). input.route) inputs ≡ map (λ (x : Noted). x.route) xs → length inputs ≡ length xs
@@ -220,28 +230,17 @@ by_now P image from f now m xs e s sound h =
     let later = s.told m e in
     subst P (works_same image from m later.m' xs later.same sound) (at_some (λ n. P (works_in image from n xs)) now later.m' later.is h)
 
-notes_all : (from : List ℕ) (m n : Contents) (xs : List Noted) → ((path : List ℕ) → is_relative_path path ≡ true → fin.get n (full from path) ≡ fin.get m (full from path)) → All IsSound xs → All (IsNoteOf from m) xs
-    → All (IsNoteOf from n) xs
-notes_all from m n xs same sound h k d lt =
-    let e = same (get_or xs k d).route.path (sound k d lt).path in
-    let note = h k d lt in
-    record {
-      there = subst IsSome (sym e) note.there;
-      size = note.size ∙ ap (λ o. length (unwrap_or o [])) (sym e);
-      digest = note.digest ∙ ap (λ o. digest (unwrap_or o [])) (sym e);
-    }
-
 -- what was noted stays true
-pub notes_now : (from : List ℕ) (f now : Option Contents) (xs : List Noted) → SourceStays from f now → All IsSound xs → IfSome f (λ m. All (IsNoteOf from m) xs) → IfSome now (λ m. All (IsNoteOf from m) xs)
-notes_now from None now xs s sound h = subst (λ o. IfSome o (λ m. All (IsNoteOf from m) xs)) (sym (s.untold refl)) tt
-notes_now from (Some m) now xs s sound h =
+pub notes_now : (P : Text → Contents → Noted → Type 0) (from : List ℕ) (f now : Option Contents) (xs : List Noted) → OfSource P → SourceStays from f now → All IsSound xs → IfSome f (λ m. All (P from m) xs) → IfSome now (λ m. All (P from m) xs)
+notes_now P from None now xs keeps s sound h = subst (λ o. IfSome o (λ m. All (P from m) xs)) (sym (s.untold refl)) tt
+notes_now P from (Some m) now xs keeps s sound h =
     let later = s.told m refl in
-    subst (λ o. IfSome o (λ m. All (IsNoteOf from m) xs)) (sym later.is) (notes_all from m later.m' xs later.same sound h)
+    subst (λ o. IfSome o (λ m. All (P from m) xs)) (sym later.is) (λ k d lt. keeps from m later.m' (get_or xs k d) (later.same (get_or xs k d).route.path (sound k d lt).path) (h k d lt))
 
 -- and of some of the files
-pub notes_part : (from : List ℕ) (f : Option Contents) (xs : List Noted) (a b : ℕ) → IfSome f (λ m. All (IsNoteOf from m) xs) → IfSome f (λ m. All (IsNoteOf from m) (slice_range xs a b))
-notes_part from None xs a b h = tt
-notes_part from (Some m) xs a b h = All-take (IsNoteOf from m) (b - a) (drop a xs) (All-drop (IsNoteOf from m) a xs h)
+pub notes_part : (P : Contents → Noted → Type 0) (f : Option Contents) (xs : List Noted) (a b : ℕ) → IfSome f (λ m. All (P m) xs) → IfSome f (λ m. All (P m) (slice_range xs a b))
+notes_part P None xs a b h = tt
+notes_part P (Some m) xs a b h = All-take (P m) (b - a) (drop a xs) (All-drop (P m) a xs h)
 
 pub sound_part : (xs : List Noted) (a b : ℕ) → All IsSound xs → All IsSound (slice_range xs a b)
 sound_part xs a b h = All-take IsSound (b - a) (drop a xs) (All-drop IsSound a xs h)

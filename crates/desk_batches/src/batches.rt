@@ -5,7 +5,7 @@ ghost use Rattle.std.specs.List.{slice_range, sum_by};
 ghost use Rattle.desk_base.specs.Limits.{file_size};
 ghost use Rattle.desk_file.specs.Linked.{image_in};
 ghost use Rattle.desk_file.specs.Routes.{IsRouteBy};
-ghost use Rattle.desk_batches.specs.Notes.{IsNoteOf, IsSound};
+ghost use Rattle.desk_batches.specs.Notes.{IsNoteOf, IsSound, StaysAsNoted};
 ghost use Rattle.desk_batches.specs.Stops.{HasCause, StoppedAt};
 ghost use Rattle.desk_batches.specs.Fresh.{IsNotKept, StopsAtFresh};
 ghost use Rattle.desk_batches.specs.Turns.{SourceStays, fitting, image_here, migrated, outcome_of, weight_of, works_in};
@@ -90,6 +90,7 @@ fn write_batch<R: Threads + Sync, F: Folders, K: Keeper, G: Gate + Sync>(
     requires sound { All IsSound batch.now }
     requires routes { All (λ noted. IsRouteBy rules.now noted.route) batch.now }
     requires notes { IfSome (F.told folders.old) (λ m. All (IsNoteOf from.now m) batch.now) }
+    requires stays { IfSome (F.told folders.old) (λ m. All (StaysAsNoted (image_in rules.now graph.now.defined) from.now m) batch.now) }
     requires room { vec_len outcomes.old + length batch.now ≤ vec_capacity outcomes.old }
     ensures folders { OnOk result (IfSome (F.told folders.old) (λ m. F.told folders.new ≡ option_map (files_after to.now (works_in (image_in rules.now graph.now.defined) from.now m batch.now)) (F.told folders.old))) }
     ensures ledger { OnOk result (IfSome (F.told folders.old) (λ m. K.told keeper.new ≡ option_map (ledger_after (works_in (image_in rules.now graph.now.defined) from.now m batch.now)) (K.told keeper.old))) }
@@ -160,6 +161,7 @@ pub fn write_all<R: Threads + Sync, F: Folders, K: Keeper, G: Gate + Sync>(
     requires sound { All IsSound noted.now }
     requires routes { All (λ noted. IsRouteBy rules.now noted.route) noted.now }
     requires notes { IfSome (F.told folders.old) (λ m. All (IsNoteOf from.now m) noted.now) }
+    requires stays { IfSome (F.told folders.old) (λ m. All (StaysAsNoted (image_in rules.now graph.now.defined) from.now m) noted.now) }
     ensures folders { OnOk result (IfSome (F.told folders.old) (λ m. F.told folders.new ≡ option_map (files_after to.now (works_in (image_in rules.now graph.now.defined) from.now m noted.now)) (F.told folders.old))) }
     ensures ledger { OnOk result (IfSome (F.told folders.old) (λ m. K.told keeper.new ≡ option_map (ledger_after (works_in (image_in rules.now graph.now.defined) from.now m noted.now)) (K.told keeper.old))) }
     ensures outcomes { IfOk result (λ outcomes. IfSome (F.told folders.old) (λ m. outcomes.items ≡ map outcome_of (works_in (image_in rules.now graph.now.defined) from.now m noted.now))) }

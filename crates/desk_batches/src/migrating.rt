@@ -56,8 +56,9 @@ pub struct Migration<'r> {
     ghost linked: { graph.now.renames ≡ rules.now.renames } by { Coded-set (coded_list renaming_code) graph.now.renames rules.now.renames },
 }
 
-/// The image of a file with this digest along its route, or why it has none. The only error is want of memory, which also comes for
-/// a text whose image would have more than 67,108,864 bytes: it is measured before it is made.
+/// The image of a file with this digest along its route, or why it has none. A file that is known to stay as it is keeps its bytes. The
+/// only error is want of memory, which also comes for a text whose image would have more than 67,108,864 bytes: it is measured before
+/// it is made.
 fn image_under(
     alloc: Global,
     rules: &RuleSet,
@@ -70,6 +71,10 @@ fn image_under(
     ensures { IfOk result (λ fate. fate ≡ image_of_input rules.now graph.now.defined input.now) }
 {
     let bytes = input.bytes.as_bytes();
+    if let Some(detail) = input.stays {
+        let bytes = Text::from_bytes(alloc, bytes)?;
+        return Ok(Ok(DigestedImage::unchanged(bytes, detail, digest)));
+    }
     if outgrows(rules, &input.route, bytes, MAX_FILE_SIZE) {
         return Err(Memory);
     }

@@ -17,9 +17,11 @@ use Rattle.desk_graph.specs.declared.scanned.Scanned.{Scanned}
 use Rattle.desk_base.proofs.Results.{at_some}
 use Rattle.desk_readings.proofs.Fronts.{all_pushed, if_some}
 use Rattle.desk_readings.proofs.Scans.{scans_more}
-use Rattle.desk_readings.specs.Slices.{IsRead, routes_in}
+use Rattle.desk_rules.specs.Rules.{Rules}
+use Rattle.desk_readings.specs.Slices.{IsRead, NotesHere, routes_in}
 use Rattle.desk_readings.specs.Noting.{IsWithin, NoteFails, NotedTo, NotesOne}
-use Rattle.desk_readings.specs.Readings.{bytes_here, first_large, is_large, kept_in, measured_at, measured_by, scanned_route, scans_at, scans_of, weight_in}
+use Rattle.desk_readings.specs.Readings.{bytes_here, first_large, is_large, kept_in, class_note, measured_at, measured_by, note_at, note_by, scanned_route, scans_at, scans_of, weight_in}
+use Rattle.desk_readings.specs.declared.measured.ClassNote.{ClassNote}
 use Rattle.desk_readings.specs.declared.measured.Measured.{Measured}
 use Rattle.desk_readings.specs.declared.faults.NoteFault.{NoteFault}
 use Rattle.desk_readings.specs.declared.faults.NoteFault.TheVariants.{Memory, Folders, TooLarge}
@@ -141,6 +143,16 @@ pub within_next : (told : Option Contents) (from : Text) (slice new : List Waiti
     → All IsWithin (map measured_by new)
 within_next told from slice new waiting all read grown = batch_within slice new waiting all read.within grown
 
+-- what is noted of the classes among them
+pub notes_next : (from : Text) (told : Option Contents) (m : Contents) (slice new : List WaitingFile) (waiting : WaitingFile) → told ≡ Some m → NotesHere from m slice → IsRead from told waiting → new ≡ slice ++ waiting ∷ []
+    → NotesHere from m new
+notes_next from told m slice new waiting e h read grown = λ rules.
+    let one = at_some (λ m. NotesOne from m waiting.route waiting) told m e read.one in
+    ap (map (note_by rules)) grown ∙ map-append (note_by rules) slice (waiting ∷ []) ∙ ap (λ (ns : List ClassNote). ns ++ note_by rules waiting ∷ []) (h rules)
+    ∙ ap (λ (n : ClassNote). map (note_at rules from m) (routes_in slice) ++ n ∷ []) (ap class_note (one.noted rules))
+    ∙ sym (map-append (note_at rules from m) (routes_in slice) (waiting.route ∷ []))
+    ∙ ap (map (note_at rules from m)) (sym (ap routes_in grown ∙ map-append (λ (w : WaitingFile). w.route) slice (waiting ∷ [])))
+
 -- ---- in a loop over batches
 
 routes_measured : (batch : List WaitingFile) → map (λ (f : Measured). f.route) (map measured_by batch) ≡ routes_in batch
@@ -167,6 +179,14 @@ noted_turned from m files new classes now batch next h k grown kept =
     (subst (λ (fs : List Measured). NotedTo from m (map (λ (f : Measured). f.route) files ++ routes_in batch) fs now) (sym grown)
     (subst (λ (ss : List Scanned). NotedTo from m (map (λ (f : Measured). f.route) files ++ routes_in batch) (files ++ map measured_by batch) ss) (sym kept) h))) k
 
+pub notes_turned : (rules : Rules) (from : Text) (m : Contents) (files new : List Measured) (notes now : List ClassNote) (batch : List WaitingFile) → notes ≡ map (note_at rules from m) (map (λ (f : Measured). f.route) files)
+    → NotesHere from m batch → new ≡ files ++ map measured_by batch → now ≡ notes ++ map (note_by rules) batch → now ≡ map (note_at rules from m) (map (λ (f : Measured). f.route) new)
+notes_turned rules from m files new notes now batch e h grown noted =
+    let note = note_at rules from m in
+    let before = map (λ (f : Measured). f.route) files in
+    noted ∙ ap (λ (ns : List ClassNote). ns ++ map (note_by rules) batch) e ∙ ap (λ (ns : List ClassNote). map note before ++ ns) (h rules)
+    ∙ sym (map-append note before (routes_in batch)) ∙ ap (map note) (sym (files_routes files new batch grown))
+
 pub within_turned : (files new : List Measured) (batch next : List WaitingFile) → All IsWithin (files ++ map measured_by batch) → All IsWithin (map measured_by next) → new ≡ files ++ map measured_by batch
     → All IsWithin (new ++ map measured_by next)
 within_turned files new batch next h k grown = All-append IsWithin new (map measured_by next) (All-same IsWithin new (files ++ map measured_by batch) grown h) k
@@ -189,6 +209,13 @@ noted_end from m all left files classes batch h split none over =
     (subst (λ (fs : List Measured). NotedTo from m (map (λ (f : Measured). f.route) files ++ routes_in batch) fs classes) (files_end files batch none)
     (subst (λ (ss : List Scanned). NotedTo from m (map (λ (f : Measured). f.route) files ++ routes_in batch) (files ++ map measured_by batch) ss)
     (ap (λ (ws : List WaitingFile). classes ++ scans_of ws) none ∙ append-nil classes) h))
+
+pub notes_end : (rules : Rules) (from : Text) (m : Contents) (all left : List Route) (files : List Measured) (notes : List ClassNote) (batch : List WaitingFile) → notes ≡ map (note_at rules from m) (map (λ (f : Measured). f.route) files)
+    → all ≡ (map (λ (f : Measured). f.route) files ++ routes_in batch) ++ left → batch ≡ [] → left ≡ [] → notes ≡ map (note_at rules from m) all
+notes_end rules from m all left files notes batch e split none over =
+    let routes = map (λ (f : Measured). f.route) files in
+    e ∙ ap (map (note_at rules from m))
+    (sym (split ∙ ap (λ (rs : List Route). (routes ++ routes_in batch) ++ rs) over ∙ append-nil (routes ++ routes_in batch) ∙ ap (λ (ws : List WaitingFile). routes ++ routes_in ws) none ∙ append-nil routes))
 
 pub within_end : (files : List Measured) (batch : List WaitingFile) → All IsWithin (files ++ map measured_by batch) → batch ≡ [] → All IsWithin files
 within_end files batch h none = All-same IsWithin files (files ++ map measured_by batch) (sym (files_end files batch none)) h

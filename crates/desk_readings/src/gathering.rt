@@ -5,16 +5,17 @@ ghost use Rattle.std.specs.FinMap as fin;
 ghost use Rattle.desk_base.specs.Paths.{full};
 ghost use Rattle.desk_readings.specs.Slices.{IsAhead, SliceRead, left_in};
 ghost use Rattle.desk_readings.specs.Noting.{NoteFails};
-ghost use Rattle.desk_readings.specs.Readings.{first_large, measured_by, measures_of, scans_of};
+ghost use Rattle.desk_readings.specs.Readings.{all_scanned, first_large, found_in, founds_in, measured_by, note_by, notes_in, scans_of};
 
 use crate::faults::NoteFault;
-use crate::measured::Measured;
-use crate::measuring::{Measures, Measuring, add_files, add_scanned};
+use crate::measured::{ClassNote, Measured};
+use crate::measuring::{Measures, Measuring, add_files, add_notes, add_scanned};
 use crate::unread::{Unread, read_slice};
 use crate::waiting::WaitingFile;
 use desk_base::{Memory, Text};
 use desk_folders::Folders;
 use desk_graph::Scanned;
+use desk_rules::RuleSet;
 use desk_workers::{Gate, map_beside};
 use std::alloc::Global;
 use std::thread::Threads;
@@ -24,6 +25,8 @@ use std::thread::Threads;
 pub struct MeasuredFiles {
     /// Each file with its size and its digest.
     pub files: Vec<Measured>,
+    /// What is noted of each as a class, in the files' order.
+    pub class_notes: Vec<ClassNote>,
     /// What is kept of the well-formed classes among them, in the files' order.
     pub scanned: Vec<Scanned>,
 }
@@ -32,22 +35,27 @@ impl MeasuredFiles {
     /// No files. It takes no memory.
     pub(crate) fn new(alloc: Global) -> MeasuredFiles
         ensures files { result.files.items ≡ [] }
+        ensures notes { result.class_notes.items ≡ [] }
         ensures scanned { result.scanned.items ≡ [] }
     {
         MeasuredFiles {
             files: Vec::new(alloc),
+            class_notes: Vec::new(alloc),
             scanned: Vec::new(alloc),
         }
     }
 
     /// Adds the files of a slice, as the workers measured them.
     fn add(&mut self, slice: Vec<WaitingFile>, found: Vec<Measures>) -> Result<(), Memory>
-        requires { found.items ≡ map measures_of slice.items }
+        requires found { founds_in found.items ≡ map (λ waiting. found_in waiting.read) slice.items }
+        requires classes { all_scanned found.items ≡ scans_of slice.items }
         ensures files { OnOk result (self.new.files.items ≡ self.old.files.items ++ map measured_by slice.items) }
+        ensures notes { OnOk result (self.new.class_notes.items ≡ self.old.class_notes.items ++ notes_in found.items) }
         ensures classes { OnOk result (self.new.scanned.items ≡ self.old.scanned.items ++ scans_of slice.items) }
         ensures few { OnOk result (length self.new.scanned.items ≤ length self.old.scanned.items + length slice.items) }
     {
         add_files(&mut self.files, slice, &found)?;
+        add_notes(&mut self.class_notes, &found)?;
         add_scanned(&mut self.scanned, found)
     }
 
@@ -58,6 +66,7 @@ impl MeasuredFiles {
         alloc: Global,
         folders: &mut F,
         gate: &G,
+        rules: &RuleSet,
         from: &Text,
         workers: u32,
         unread: &mut Unread,
@@ -69,6 +78,7 @@ impl MeasuredFiles {
         requires there { IfSome (F.told folders.old) (λ m. All (λ route. IsSome (fin.get m (full from.now route.path))) unread.old.routes.items) }
         requires ahead { IsAhead from.now (F.told folders.old) unread.old }
         ensures files { OnOk result (self.new.files.items ≡ self.old.files.items ++ map measured_by slice.items) }
+        ensures notes { OnOk result (self.new.class_notes.items ≡ self.old.class_notes.items ++ map (note_by rules.now) slice.items) }
         ensures classes { OnOk result (self.new.scanned.items ≡ self.old.scanned.items ++ scans_of slice.items) }
         ensures few { OnOk result (length self.new.scanned.items ≤ length self.old.scanned.items + length slice.items) }
         ensures told { F.told folders.new ≡ F.told folders.old }
@@ -82,7 +92,7 @@ impl MeasuredFiles {
             rt,
             alloc,
             &slice,
-            &Measuring { alloc },
+            &Measuring { alloc, rules },
             gate,
             workers,
             &mut || -> Result<Vec<WaitingFile>, NoteFault>

@@ -2,9 +2,10 @@
 //! classes are scanned on the workers and dropped.
 //!
 //! ```text
-//! let notes = note_all(&rt, alloc, &mut folders, &gate, &from, workers, routes)?;
-//! notes.files      // of each file, in their order, its route, how many bytes it has, and their digest
-//! notes.scanned    // what is kept of the classes among them
+//! let notes = note_all(&rt, alloc, &mut folders, &gate, &rules, &from, workers, routes)?;
+//! notes.files          // of each file, in their order, its route, how many bytes it has, and their digest
+//! notes.class_notes    // of each file whether it is a class in which nothing changes
+//! notes.scanned        // what is kept of the classes among them
 //! ```
 #![tactic(auto)]
 
@@ -23,7 +24,7 @@ pub use contents::Content;
 use desk_base::MAX_FILE_SIZE;
 pub use faults::NoteFault;
 pub use gathering::MeasuredFiles;
-pub use measured::Measured;
+pub use measured::{ClassNote, Measured};
 pub use noting::note_all;
 pub use paths::full_path;
 pub use reading::{digest_of_front, joined, read_whole};

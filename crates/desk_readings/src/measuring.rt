@@ -1,19 +1,20 @@
-//! Takes the digests of classes that were read whole, and scans them, on the workers.
+//! Takes the digests of classes that were read whole, and notes what is kept of them, on the workers.
 
 ghost use Rattle.std.specs.Prelude.{◌≡◌, ◌≤◌, ◌<◌, ◌+◌, ◌++◌, ◌^◌, IfOk, OnOk, length, map};
 ghost use Rattle.desk_readings.specs.Sizes.{found_of};
-ghost use Rattle.desk_readings.specs.Readings.{all_scanned, first_scanned, kept_in, measured_by, measured_with, measures_of, scans_of};
+ghost use Rattle.desk_readings.specs.Readings.{all_scanned, found_in, founds_in, measured_by, measured_with, measures_of, noted_in, notes_in};
 ghost use Rattle.desk_readings.specs.declared.waiting.FirstRead.TheVariants.{Class};
 ghost use Rattle.desk_file.specs.Treatments.{is_selected_class};
 
 use crate::contents::Content;
-use crate::measured::Measured;
+use crate::measured::{ClassNote, Measured};
 use crate::reading::SizeAndDigest;
 use crate::waiting::{FirstRead, WaitingFile};
 use desk_base::Memory;
-use desk_file::{Route, Treatment, scan_class};
+use desk_file::{NotedClass, Route, Treatment, note_class};
 use desk_graph::Scanned;
 use desk_ledger::digest_of;
+use desk_rules::RuleSet;
 use desk_workers::Job;
 use std::alloc::Global;
 
@@ -22,8 +23,8 @@ use std::alloc::Global;
 pub struct Measures {
     /// Its size and its digest.
     pub found: SizeAndDigest,
-    /// What is kept of a well-formed class; none of any other file.
-    pub class: Option<Scanned>,
+    /// What is noted of a well-formed class; none of any other file.
+    pub class: Option<NotedClass>,
 }
 
 /// Whether a file is a selected class.
@@ -33,14 +34,17 @@ fn is_selected(treatment: Treatment) -> bool
     matches!(treatment, Treatment::Class)
 }
 
-/// What is kept of a class; nothing of bytes that are none.
-#[tactic(auto, using(crate::proofs::Scans::first_of_one))]
-fn scan_read(alloc: Global, route: &Route, bytes: &Content) -> Result<Option<Scanned>, Memory>
-    ensures { IfOk result (λ found. found ≡ first_scanned (kept_in route.now (Class bytes.now))) }
+/// What is noted of a class; nothing of bytes that are none.
+fn note_read(
+    alloc: Global,
+    rules: &RuleSet,
+    route: &Route,
+    bytes: &Content,
+) -> Result<Option<NotedClass>, Memory>
+    ensures { IfOk result (λ found. found ≡ noted_in rules.now route.now (Class bytes.now)) }
 {
     let selected = is_selected(route.treatment);
-    let found = scan_class(alloc, &route.path, selected, bytes.as_bytes())?;
-    Ok(found)
+    note_class(alloc, rules, &route.path, selected, bytes.as_bytes())
 }
 
 /// How many bytes there are, and their digest.
@@ -54,12 +58,12 @@ fn found_of(bytes: &Content) -> SizeAndDigest
 }
 
 /// What a worker finds of a file.
-fn measure(alloc: Global, waiting: &WaitingFile) -> Result<Measures, Memory>
-    ensures { IfOk result (λ measures. measures ≡ measures_of waiting.now) }
+fn measure(alloc: Global, rules: &RuleSet, waiting: &WaitingFile) -> Result<Measures, Memory>
+    ensures { IfOk result (λ measures. measures ≡ measures_of rules.now waiting.now) }
 {
     match &waiting.read {
         FirstRead::Class(bytes) => {
-            let class = scan_read(alloc, &waiting.route, bytes)?;
+            let class = note_read(alloc, rules, &waiting.route, bytes)?;
             Ok(Measures {
                 found: found_of(bytes),
                 class,
@@ -72,20 +76,21 @@ fn measure(alloc: Global, waiting: &WaitingFile) -> Result<Measures, Memory>
     }
 }
 
-/// Takes digests and scans classes.
+/// Takes digests, and notes of classes what is kept of them, under these rules.
 #[derive(Drop)]
-pub(crate) struct Measuring {
+pub(crate) struct Measuring<'r> {
     pub(crate) alloc: Global,
+    pub(crate) rules: &'r RuleSet,
 }
 
-impl Job for Measuring {
+impl Job for Measuring<'_> {
     ghost use Rattle.desk_readings.specs.Readings.{measures_of, weight_in};
 
     type Item = WaitingFile;
 
     type Out = Measures;
 
-    ghost value = { λ _ waiting. measures_of waiting };
+    ghost value = { λ job waiting. measures_of job.rules.now waiting };
 
     ghost weighs = { λ _ waiting. weight_in waiting.read };
 
@@ -94,7 +99,7 @@ impl Job for Measuring {
     }
 
     fn run(&self, waiting: &WaitingFile) -> Result<Measures, Memory> {
-        measure(self.alloc, waiting)
+        measure(self.alloc, self.rules, waiting)
     }
 }
 
@@ -115,11 +120,21 @@ pub(crate) fn add_files(
     batch: Vec<WaitingFile>,
     found: &[Measures],
 ) -> Result<(), Memory>
-    requires { found.now ≡ map measures_of batch.items }
+    requires { founds_in found.now ≡ map (λ waiting. found_in waiting.read) batch.items }
     ensures files { OnOk result (files.new.items ≡ files.old.items ++ map measured_by batch.items) }
 {
     for (i, waiting) in batch.into_iter().enumerate() {
         files.push(measured_with(waiting, found[i].found))?;
+    }
+    Ok(())
+}
+
+/// Adds what was noted of files as classes.
+pub(crate) fn add_notes(notes: &mut Vec<ClassNote>, found: &[Measures]) -> Result<(), Memory>
+    ensures { OnOk result (notes.new.items ≡ notes.old.items ++ notes_in found.now) }
+{
+    for one in found {
+        notes.push(ClassNote::of(&one.class))?;
     }
     Ok(())
 }
@@ -132,7 +147,7 @@ pub(crate) fn add_scanned(scanned: &mut Vec<Scanned>, found: Vec<Measures>) -> R
 {
     for one in found {
         if let Some(class) = one.class {
-            scanned.push(class)?;
+            scanned.push(class.scanned)?;
         }
     }
     Ok(())

@@ -11,7 +11,7 @@ ghost use Rattle.desk_base.specs.Limits.{file_size};
 ghost use Rattle.desk_readings.specs.Sizes.{found_within, large_size, within};
 ghost use Rattle.desk_readings.specs.declared.waiting.FirstRead.TheVariants.{Class, Parts};
 ghost use Rattle.desk_readings.specs.Noting.{IsWithin, NoteFails, NotedTo, NotesOne, first_read};
-ghost use Rattle.desk_readings.specs.Readings.{first_large, found_in, measured_by, most_by};
+ghost use Rattle.desk_readings.specs.Readings.{first_large, found_in, measured_by, most_by, note_at};
 
 use crate::contents::Content;
 use crate::faults::NoteFault;
@@ -24,6 +24,7 @@ use crate::{LARGE, WHOLE};
 use desk_base::{MAX_FILE_SIZE, Text};
 use desk_file::{Route, Treatment};
 use desk_folders::{FolderFault, Folders};
+use desk_rules::RuleSet;
 use desk_workers::Gate;
 use std::alloc::Global;
 use std::collections::VecDeque;
@@ -135,7 +136,8 @@ pub(crate) fn note_one<F: Folders>(
     }
 }
 
-/// Reads all files in their order: how many bytes each has and their digest, and what is kept of the classes among them. A file
+/// Reads all files in their order: how many bytes each has and their digest, what the rules change of the classes among them, and
+/// what is kept of these for the graph. A file
 /// that is read whole has at most 67,108,864 bytes, any other at most 1,099,511,627,776: the answer is `TooLarge` with the first
 /// that has more. The classes are gathered into slices, which end with the class with which they have 8,388,608 bytes or more, and
 /// have at most 67,108,864; those of each are measured by so many workers, while this thread reads the next slice, and then dropped.
@@ -145,6 +147,7 @@ pub fn note_all<R: Threads + Sync, F: Folders, G: Gate + Sync>(
     alloc: Global,
     folders: &mut F,
     gate: &G,
+    rules: &RuleSet,
     from: &Text,
     workers: u32,
     routes: Vec<Route>,
@@ -155,6 +158,7 @@ pub fn note_all<R: Threads + Sync, F: Folders, G: Gate + Sync>(
     requires there { IfSome (F.told folders.old) (λ m. All (λ route. IsSome (fin.get m (full from.now route.path))) routes.items) }
     ensures told { F.told folders.new ≡ F.told folders.old }
     ensures noted { IfOk result (λ notes. IfSome (F.told folders.old) (λ m. NotedTo from.now m routes.items notes.files.items notes.scanned.items)) }
+    ensures class_notes { IfOk result (λ notes. IfSome (F.told folders.old) (λ m. notes.class_notes.items ≡ map (note_at rules.now from.now m) routes.items)) }
     ensures routes { IfOk result (λ notes. map (λ file. file.route) notes.files.items ≡ routes.items) }
     ensures within { IfOk result (λ notes. All IsWithin notes.files.items) }
     ensures few { IfOk result (λ notes. length notes.scanned.items ≤ length routes.items) }
@@ -168,7 +172,17 @@ pub fn note_all<R: Threads + Sync, F: Folders, G: Gate + Sync>(
     let mut notes = MeasuredFiles::new(alloc);
     let mut slice = read_slice(alloc, folders, from, &mut unread)?;
     while !slice.is_empty() {
-        slice = notes.add_and_read(rt, alloc, folders, gate, from, workers, &mut unread, slice)?;
+        slice = notes.add_and_read(
+            rt,
+            alloc,
+            folders,
+            gate,
+            rules,
+            from,
+            workers,
+            &mut unread,
+            slice,
+        )?;
     }
     Ok(notes)
 }

@@ -3,12 +3,13 @@ use Rattle.std.specs.Prelude.{option_map, ◌++◌}
 use Rattle.std.specs.List.{slice_range}
 use Rattle.std.proofs.lemmas.List.{map-append}
 use Rattle.desk_readings.proofs.Fronts.{if_some}
+use Rattle.desk_batches.specs.Notes.{IsNoteOf, StaysAsNoted}
 use Rattle.desk_batches.specs.Stops.{StoppedAt}
 use Rattle.desk_batches.specs.Works.{files_after, ledger_after}
 use Rattle.desk_file.specs.Linked.{image_in}
 use Rattle.desk_batches.specs.Turns.{outcome_of, work_in, works_in}
 use Rattle.desk_batches.proofs.Fresh.{fresh_later}
-use Rattle.desk_batches.proofs.Staying.{stays_same, stays_twice}
+use Rattle.desk_batches.proofs.Staying.{note_of_source, stay_of_source, stays_same, stays_twice}
 use Rattle.desk_batches.proofs.Taking.{batch_files, batch_rows, by_now, front_and_batch, front_batch_rest, length_front, no_file, no_row, notes_now, notes_part, some_left, sound_part, stopped_first, stopped_later}
 use Rattle.desk_batches.proofs.batches.write_all.Goals as goal
 
@@ -34,8 +35,14 @@ loop-at-init g c = record {
 
 pub write_batch-requires-clause-notes : goal.write_batch-requires-clause-notes
 write_batch-requires-clause-notes g c κs within =
-    notes_part c.args.from.now (g.F.Folders.told c.loop-at.folders) c.args.noted.now c.loop-at.at c.batch_end-end.result
-    (notes_now c.args.from.now (g.F.Folders.told c.args.folders.now) (g.F.Folders.told c.loop-at.folders) c.args.noted.now c.loop-at.invariant.stays c.requires.sound c.requires.notes)
+    notes_part (IsNoteOf c.args.from.now) (g.F.Folders.told c.loop-at.folders) c.args.noted.now c.loop-at.at c.batch_end-end.result
+    (notes_now IsNoteOf c.args.from.now (g.F.Folders.told c.args.folders.now) (g.F.Folders.told c.loop-at.folders) c.args.noted.now note_of_source c.loop-at.invariant.stays c.requires.sound c.requires.notes)
+
+pub write_batch-requires-clause-stays : goal.write_batch-requires-clause-stays
+write_batch-requires-clause-stays g c κs within =
+    let image = image_in c.args.rules.now c.args.graph.now.defined in
+    notes_part (StaysAsNoted image c.args.from.now) (g.F.Folders.told c.loop-at.folders) c.args.noted.now c.loop-at.at c.batch_end-end.result
+    (notes_now (StaysAsNoted image) c.args.from.now (g.F.Folders.told c.args.folders.now) (g.F.Folders.told c.loop-at.folders) c.args.noted.now (stay_of_source image) c.loop-at.invariant.stays c.requires.sound c.requires.stays)
 
 pub loop-at-preserved : goal.loop-at-preserved
 loop-at-preserved g c =

@@ -3,7 +3,7 @@ use Rattle.std.specs.Prelude.{All}
 use Rattle.desk_file.specs.Linked.{image_in}
 use Rattle.desk_file.specs.Routes.{IsRouteBy}
 use Rattle.desk_folders.specs.Contents.{Contents}
-use Rattle.desk_batches.specs.Notes.{IsNoteOf, IsSound}
+use Rattle.desk_batches.specs.Notes.{IsNoteOf, IsSound, StaysAsNoted}
 use Rattle.desk_batches.specs.Turns.{HasItsDigest, image_here, image_of_input, migrated}
 use Rattle.desk_batches.specs.declared.noted.Noted.{Noted}
 use Rattle.desk_batches.proofs.images.images_of_batch.Given as goal
@@ -21,6 +21,7 @@ invariant-loop-rest g l = record {
   sound : All IsSound l.rest;
   routes : All (λ (noted : Noted). IsRouteBy l.job.rules.now noted.route) l.rest;
   notes : (m : Contents) → g.F.Folders.told l.fn.folders ≡ Some m → All (IsNoteOf l.from m) l.rest;
+  stays : (m : Contents) → g.F.Folders.told l.fn.folders ≡ Some m → All (StaysAsNoted (image_in l.job.rules.now l.job.graph.now.defined) l.from m) l.rest;
 }
 
 abbrev pub decreases-loop-rest : goal.decreases-loop-rest

@@ -2,10 +2,10 @@ use Rattle.std.proofs.Common.{rules, arith, ◌≡◌, ◌++◌, ◌∙◌, leng
 use Rattle.std.proofs.lemmas.Bool.Decides.{nat_tests}
 use Rattle.std.proofs.lemmas.List.{nil_from_length}
 use Rattle.std.proofs.lemmas.Result.{err_from_is_err_and}
-use Rattle.desk_readings.proofs.FirstReading.{fails_behind, few_turned, noted_end, noted_turned, split_turned, within_end, within_turned}
+use Rattle.desk_readings.proofs.FirstReading.{fails_behind, few_turned, noted_end, noted_turned, notes_end, notes_turned, split_turned, within_end, within_turned}
 use Rattle.desk_base.proofs.Results.{at_some}
 use Rattle.desk_readings.proofs.Fronts.{if_some}
-use Rattle.desk_readings.specs.Slices.{left_in, routes_in}
+use Rattle.desk_readings.specs.Slices.{NotesHere, left_in, routes_in}
 use Rattle.desk_readings.specs.Noting.{NotedTo}
 use Rattle.desk_readings.specs.Readings.{measured_by, scans_of}
 use Rattle.desk_readings.specs.declared.measured.Measured.{Measured}
@@ -34,6 +34,9 @@ loop-alloc-preserved g c =
           (c.loop-alloc.invariant.noted m e)
           (at_some (λ m. NotedTo c.args.from.now m (routes_in c.in_ok-slice-2.slice.items) (map measured_by c.in_ok-slice-2.slice.items) (scans_of c.in_ok-slice-2.slice.items)) (g.F.Folders.told c.loop-alloc.folders) m
           (c.loop-alloc.invariant.told ∙ e) c.in_ok-slice-2.ensures.read.noted) grown kept;
+      class_notes = λ m e. notes_turned c.args.rules.now c.args.from.now m c.loop-alloc.notes.files.items c.add_and_read.new.self.files.items c.loop-alloc.notes.class_notes.items c.add_and_read.new.self.class_notes.items
+          c.loop-alloc.slice.items (c.loop-alloc.invariant.class_notes m e) (c.loop-alloc.invariant.here m e) grown (search rules);
+      here = λ m e. at_some (λ m. NotesHere c.args.from.now m c.in_ok-slice-2.slice.items) (g.F.Folders.told c.loop-alloc.folders) m (c.loop-alloc.invariant.told ∙ e) c.in_ok-slice-2.ensures.read.here;
       some = c.in_ok-slice-2.ensures.read.some;
       there = search rules;
       ahead = search rules;
@@ -45,6 +48,14 @@ returns-clause-noted g c =
     let none = nil_from_length c.loop-alloc.slice.items zero in
     if_some _ (g.F.Folders.told c.args.folders.now) (λ m e.
     noted_end c.args.from.now m c.args.routes.items (left_in c.loop-alloc.unread) c.loop-alloc.notes.files.items c.loop-alloc.notes.scanned.items c.loop-alloc.slice.items (c.loop-alloc.invariant.noted m e)
+    c.loop-alloc.invariant.split none (c.loop-alloc.invariant.some none))
+
+pub returns-clause-class_notes : goal.returns-clause-class_notes
+returns-clause-class_notes g c =
+    let zero : length c.loop-alloc.slice.items ≡ 0 = grind (arith, nat_tests) in
+    let none = nil_from_length c.loop-alloc.slice.items zero in
+    if_some _ (g.F.Folders.told c.args.folders.now) (λ m e.
+    notes_end c.args.rules.now c.args.from.now m c.args.routes.items (left_in c.loop-alloc.unread) c.loop-alloc.notes.files.items c.loop-alloc.notes.class_notes.items c.loop-alloc.slice.items (c.loop-alloc.invariant.class_notes m e)
     c.loop-alloc.invariant.split none (c.loop-alloc.invariant.some none))
 
 pub returns-clause-within : goal.returns-clause-within

@@ -1,6 +1,6 @@
 use Rattle.std.proofs.Common.{rules, ◌≡◌, ◌++◌, ◌∷◌, [], ◌∙◌, refl}
 use Rattle.std.proofs.lemmas.Result.{err_from_is_err_and}
-use Rattle.desk_readings.proofs.FirstReading.{fails_behind, light_more, noted_next, pushed_some, split_more, within_next}
+use Rattle.desk_readings.proofs.FirstReading.{fails_behind, light_more, noted_next, notes_next, pushed_some, split_more, within_next}
 use Rattle.desk_readings.specs.Slices.{left_in, routes_in}
 use Rattle.desk_readings.proofs.unread.read_slice.Goals as goal
 
@@ -25,6 +25,8 @@ loop-room-preserved g c =
       ahead = search rules;
       within = within_next (g.F.Folders.told c.loop-room.folders) c.args.from.now c.loop-room.slice.items c.push.new.self.items c.in-Some.waiting c.loop-room.invariant.within (search rules) grown;
       noted = λ m e. noted_next c.args.from.now (g.F.Folders.told c.loop-room.folders) m c.loop-room.slice.items c.push.new.self.items c.in-Some.waiting (c.loop-room.invariant.told ∙ e) (c.loop-room.invariant.noted m e)
+          (search rules) grown;
+      here = λ m e. notes_next c.args.from.now (g.F.Folders.told c.loop-room.folders) m c.loop-room.slice.items c.push.new.self.items c.in-Some.waiting (c.loop-room.invariant.told ∙ e) (c.loop-room.invariant.here m e)
           (search rules) grown;
       some = λ e. absurd (pushed_some c.loop-room.slice.items c.push.new.self.items c.in-Some.waiting grown e);
       light = light_more c.loop-room.slice.items c.push.new.self.items c.in-Some.waiting c.loop-room.room _ _ grown c.weight-size.ensures.weight (search rules) (search rules) c.loop-room.invariant.light;

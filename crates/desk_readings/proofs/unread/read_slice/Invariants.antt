@@ -6,7 +6,7 @@ use Rattle.desk_base.specs.Limits.{file_size}
 use Rattle.desk_base.specs.Paths.{full}
 use Rattle.desk_file.specs.declared.routes.Route.{Route}
 use Rattle.desk_folders.specs.Contents.{Contents}
-use Rattle.desk_readings.specs.Slices.{IsAhead, left_in, routes_in}
+use Rattle.desk_readings.specs.Slices.{IsAhead, NotesHere, left_in, routes_in}
 use Rattle.desk_readings.specs.Noting.{IsWithin, NotedTo}
 use Rattle.desk_readings.specs.Readings.{measured_by, scans_of, weight_in}
 use Rattle.desk_readings.specs.declared.waiting.WaitingFile.{WaitingFile}
@@ -21,6 +21,7 @@ invariant-loop-room g l = record {
   ahead : IsAhead l.from (g.F.Folders.told l.fn.folders) l.unread;
   within : All IsWithin (map measured_by l.slice.items);
   noted : (m : Contents) → g.F.Folders.told l.fn.folders ≡ Some m → NotedTo l.from m (routes_in l.slice.items) (map measured_by l.slice.items) (scans_of l.slice.items);
+  here : (m : Contents) → g.F.Folders.told l.fn.folders ≡ Some m → NotesHere l.from m l.slice.items;
   some : l.slice.items ≡ [] → l.room ≡ file_size;
   light : l.room + sum_by (λ (w : WaitingFile). weight_in w.read) l.slice.items ≡ file_size;
 }
