@@ -1,5 +1,5 @@
 -- Applications that are told alike.
-use Rattle.std.proofs.Common.{◌≡◌, ℕ, zero, suc, ◌<◌, true, List, [], ◌∷◌, ◌++◌, length, get_or, if◌then◌else◌, sym, ap, ap₂, ◌∙◌, arith}
+use Rattle.std.proofs.Common.{◌≡◌, ℕ, zero, suc, ◌<◌, true, List, [], ◌∷◌, ◌++◌, map, length, get_or, if◌then◌else◌, sym, ap, ap₂, ◌∙◌, arith}
 use Rattle.std.proofs.Math.ListN.{set}
 use Rattle.desk_base.specs.Names.{Text}
 use Rattle.desk_graph.specs.Application.{Pair, defined_names, names_in, names, stranded_at, stranded_among}
@@ -11,6 +11,7 @@ joined xs ys zs a b = record {
   names = a.names ∙ b.names;
   defined = a.defined ∙ b.defined;
   stranded = λ f defined. a.stranded f defined ∙ b.stranded f defined;
+  held = a.held ∙ b.held;
 }
 
 -- a class in front of classes that are alike
@@ -19,6 +20,7 @@ behind x xs ys a = record {
   names = ap (λ (ns : List Text). names_in x ++ ns) a.names;
   defined = ap (λ (ns : List Text). x.name ∷ ns) a.defined;
   stranded = λ f defined. ap (λ (ps : List Pair). (if x.selected then [] else stranded_at f defined x.path x.held) ++ ps) (a.stranded f defined);
+  held = ap (λ (hs : List (List Text)). x.held ∷ hs) a.held;
 }
 
 -- a selected class in front, with another path
@@ -29,6 +31,7 @@ in_front x y xs name held selected is = record {
   stranded = λ f defined.
       ap (λ b. (if b then [] else stranded_at f defined x.path x.held) ++ stranded_among f defined xs) (selected ∙ is)
       ∙ ap (λ b. (if b then [] else stranded_at f defined y.path y.held) ++ stranded_among f defined xs) (sym is);
+  held = ap (λ (h : List Text). h ∷ map (λ (s : Scanned). s.held) xs) held;
 }
 
 -- a selected class whose path is another

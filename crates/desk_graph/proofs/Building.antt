@@ -1,6 +1,6 @@
 -- What a graph is built of.
 use Rattle.std.proofs.Common.{◌≡◌, ℕ, zero, suc, ◌+◌, ◌<◌, ◌≤◌, ◌^◌, Bool, true, false, cond, List, [], ◌∷◌, map, length, get_or, Option, Some, None, option_map, refl, sym, ap, ap₂, subst, ◌∙◌, arith, inl, inr}
-use Rattle.std.specs.List.{filter, list_any, Contains}
+use Rattle.std.specs.List.{filter, list_any, Contains, count_by}
 use Rattle.std.specs.Str.{bytes_eq}
 use Rattle.std.proofs.lemmas.Cmp.{nat_list_cmp_total}
 use Rattle.std.proofs.lemmas.List.Kept.{IsStrictlySortedBy-filter}
@@ -15,7 +15,7 @@ use Rattle.desk_packages.specs.Renames.{Renaming}
 use Rattle.desk_rename.specs.Images.{cls}
 use Rattle.desk_packages.proofs.Picks.{In}
 use Rattle.desk_class.specs.Held.{put_all, ascending}
-use Rattle.desk_graph.specs.Application.{Pair, defined_names, names, with_image, clash_among, name_clash, least_onto, stranded_among, stranded}
+use Rattle.desk_graph.specs.Application.{Pair, defined_names, names, link_count, link_counts, with_image, clash_among, name_clash, least_onto, stranded_among, stranded}
 use Rattle.desk_graph.specs.Tables.{IsKnownBy, as_is, is_defined}
 use Rattle.desk_graph.specs.Nodes.{firsts, nodes_from, defined_of, AreNodes, IsTable}
 use Rattle.desk_graph.proofs.Numbering.{nodes_are, defined_pass, first_at, firsts_long}
@@ -56,14 +56,14 @@ defined_long (s ∷ ss) = ap suc (defined_long ss)
 
 -- ---- the defined names
 
-from_filter : (p : Text → Bool) (xs : List Text) (q : Text) → In (filter p xs) q → (p q ≡ true) × In xs q
+pub from_filter : (p : Text → Bool) (xs : List Text) (q : Text) → In (filter p xs) q → (p q ≡ true) × In xs q
 from_filter p [] q h = absurd h
 from_filter p (x ∷ xs) q h = elim (p x) as (λ (b : Bool). p x ≡ b → In (cond b (x ∷ filter p xs) (filter p xs)) q → (p q ≡ true) × In (x ∷ xs) q) [
   | true ↦ λ e k. elim k [ inl same ↦ (ap p (sym same) ∙ e, inl same) | inr later ↦ let r = from_filter p xs q later in (r.0, inr r.1) ]
   | false ↦ λ e k. let r = from_filter p xs q k in (r.0, inr r.1)
 ] refl h
 
-to_filter : (p : Text → Bool) (xs : List Text) (q : Text) → p q ≡ true → In xs q → In (filter p xs) q
+pub to_filter : (p : Text → Bool) (xs : List Text) (q : Text) → p q ≡ true → In xs q → In (filter p xs) q
 to_filter p [] q e h = absurd h
 to_filter p (x ∷ xs) q e (inl same) =
     let here : p x ≡ true = ap p same ∙ e in
@@ -143,8 +143,30 @@ graph_made renames ss known nodes b h =
       few = omega (arith, defined_long ss);
     }
 
-pub graph_is : (renames : List Renaming) (ss : List Scanned) (known : List Pair) (nodes : List (Option ℕ)) → IsBuilt (cls renames) ss known nodes → record { renames = renames; defined = defined_of (firsts known) nodes; names = firsts known } ≡ graph_of renames ss
-graph_is renames ss known nodes b = ap₂ (λ (ds ns : List Text). record { renames = renames; defined = ds; names = ns }) b.defined b.names
+-- classes that are told alike are counted alike
+counted_alike : (defined : List Text) (xs ys : List Scanned) → AreAlike xs ys → map (link_count defined) xs ≡ map (link_count defined) ys
+counted_alike defined xs ys alike = held_counts xs ∙ ap (map count) alike.held ∙ sym (held_counts ys)
+  where
+    count : List Text → ℕ
+    count held = count_by (λ (t : Text). list_any (bytes_eq t) defined) held
+
+    held_counts : (zs : List Scanned) → map (link_count defined) zs ≡ map count (map (λ (s : Scanned). s.held) zs)
+    held_counts [] = refl
+    held_counts (z ∷ zs) = ap (λ (ns : List ℕ). link_count defined z ∷ ns) (held_counts zs)
+
+pub counts_are : (f : Text → Text) (ss classes : List Scanned) (known known' : List Pair) (nodes nodes' : List (Option ℕ)) (counts : List ℕ) → IsBuilt f ss known nodes → AreAlike classes ss → known' ≡ known → nodes' ≡ nodes
+    → counts ≡ map (link_count (defined_of (firsts known') nodes')) classes → counts ≡ link_counts ss
+counts_are f ss classes known known' nodes nodes' counts b alike k n is =
+    is
+    ∙ ap₂ (λ (ks : List Pair) (os : List (Option ℕ)). map (link_count (defined_of (firsts ks) os)) classes) k n
+    ∙ counted_alike (defined_of (firsts known) nodes) classes ss alike
+    ∙ ap (λ (ds : List Text). map (link_count ds) ss) b.defined
+
+pub graph_is : (renames : List Renaming) (ss : List Scanned) (known : List Pair) (nodes : List (Option ℕ)) (counts : List ℕ) → IsBuilt (cls renames) ss known nodes → counts ≡ link_counts ss
+    → record { renames = renames; defined = defined_of (firsts known) nodes; names = firsts known; link_counts = counts } ≡ graph_of renames ss
+graph_is renames ss known nodes counts b c =
+    ap₂ (λ (ds ns : List Text). record { renames = renames; defined = ds; names = ns; link_counts = counts }) b.defined b.names
+    ∙ ap (λ (cs : List ℕ). record { renames = renames; defined = ascending (defined_names ss); names = ascending (names ss); link_counts = cs }) c
 
 -- ---- what was found
 

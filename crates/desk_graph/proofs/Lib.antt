@@ -7,5 +7,6 @@ pub mod Alike
 pub mod Building
 pub mod Stranding
 pub mod Links
+pub mod Counting
 pub mod Kept
 mod Lately

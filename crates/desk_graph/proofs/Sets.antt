@@ -89,7 +89,7 @@ holds_is set t =
     (λ e. tested set.keys t (from_ascending set.keys t (from_tested (ascending set.keys) t e)))
 
 -- texts that a set has in order stand there once
-distinct_by : (e f : Text → Text → Bool) → ((x y : Text) → e x y ≡ f x y) → (ks : List Text) → IsDistinct e ks → IsDistinct f ks
+pub distinct_by : (e f : Text → Text → Bool) → ((x y : Text) → e x y ≡ f x y) → (ks : List Text) → IsDistinct e ks → IsDistinct f ks
 unfolding IsDistinct
 distinct_by e f same [] d = tt
 distinct_by e f same (k ∷ ks) d = (all_by ks d.0, distinct_by e f same ks d.1)

@@ -1,6 +1,6 @@
 -- The classes of an application: what they define and hold, the first two names that would become one, and the first class
 -- that would be left behind.
-use Rattle.std.specs.Prelude.{◌≡◌, Bool, false, not, ◌&&◌, List, [], ◌∷◌, ◌++◌, Option, Some, None, if◌then◌else◌, Contains}
+use Rattle.std.specs.Prelude.{◌≡◌, ℕ, Bool, false, not, ◌&&◌, List, [], ◌∷◌, ◌++◌, map, count_by, Option, Some, None, if◌then◌else◌, Contains}
 use Rattle.std.specs.List.{find, list_any}
 use Rattle.std.specs.Str.{bytes_eq}
 use Rattle.std.specs.Ordering.{nat_cmp, ordering_then, is_lt}
@@ -28,6 +28,18 @@ names_in s = s.name ∷ (if s.selected then s.held else [])
 abbrev pub names : List Scanned → List Text
 names [] = []
 names (s ∷ ss) = names_in s ++ names ss
+
+-- ---- links
+
+-- how many of the names that a class holds are among these
+abbrev pub link_count : List Text → Scanned → ℕ
+link_count defined s = count_by (λ name. list_any (bytes_eq name) defined) s.held
+
+-- of each class, how many defined names it holds
+abbrev pub link_counts : List Scanned → List ℕ
+link_counts ss = map (link_count (ascending (defined_names ss))) ss
+
+-- ---- images
 
 -- a name with its image
 abbrev pub with_image : (Text → Text) → Text → Pair

@@ -10,6 +10,7 @@ ghost use Rattle.desk_graph.specs.Refusals.{Refuses};
 ghost use Rattle.desk_graph.specs.declared.graph.GraphFault.TheVariants as graph_faults;
 
 use crate::clashes::first_clash;
+use crate::counts::count_links;
 use crate::known::{NameAndImage, known_of};
 use crate::names::{all_names, held_in_order};
 use crate::nodes::{node_in, nodes_of};
@@ -50,12 +51,14 @@ impl From<Memory> for GraphFault {
 }
 
 /// The names of an application under a rule set: those that its classes define, and all names with their images. Contracts
-/// see the renames and both lists of names. No call but `build` and `links` takes memory.
+/// see the renames, both lists of names, and how many defined names each class holds. No call but `build` and `links` takes
+/// memory.
 #[derive(Drop)]
 pub struct ClassGraph<'r> {
     rules: &'r RuleSet,
     known: Vec<NameAndImage>,
     nodes: Vec<Option<u32>>,
+    counts: Vec<u32>,
 }
 
 impl<'r> Model for ClassGraph<'r> {
@@ -66,7 +69,7 @@ impl<'r> Model for ClassGraph<'r> {
 
     ghost coded = { graph_code };
 
-    ghost view = { λ g. record { renames = g.rules.now.renames; defined = defined_of (firsts g.known.items) g.nodes.items; names = firsts g.known.items } };
+    ghost view = { λ g. record { renames = g.rules.now.renames; defined = defined_of (firsts g.known.items) g.nodes.items; names = firsts g.known.items; link_counts = g.counts.items } };
 
     ghost invariant = { λ g. IsGraph g.rules.now.renames g.known.items g.nodes.items };
 }
@@ -106,11 +109,21 @@ impl<'r> ClassGraph<'r> {
                 name: Text::from_bytes(alloc, one.name)?,
             });
         }
+        let counts = count_links(alloc, known.as_slice(), nodes.as_slice(), classes)?;
         Ok(ClassGraph {
             rules,
             known,
             nodes,
+            counts,
         })
+    }
+
+    /// Of each class of the application, in the order in which they were given, how many defined names it holds, its own
+    /// included.
+    pub fn link_counts(&self) -> &[u32]
+        ensures { result.now ≡ self.now.link_counts }
+    {
+        self.counts.as_slice()
     }
 
     /// The place of a defined name among the defined names in byte order, each counted once; none exactly where the name is

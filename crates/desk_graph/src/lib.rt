@@ -3,6 +3,7 @@
 #![tactic(auto)]
 
 mod clashes;
+mod counts;
 mod graph;
 mod known;
 mod name;

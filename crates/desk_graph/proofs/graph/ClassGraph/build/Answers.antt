@@ -7,7 +7,7 @@ use Rattle.desk_graph.specs.Clashes.{clash_pair}
 use Rattle.desk_graph.specs.Strandings.{stranding_pair}
 use Rattle.desk_graph.specs.Tables.{IsKnownBy}
 use Rattle.desk_graph.specs.declared.clashes.NameClash.{NameClash}
-use Rattle.desk_graph.proofs.Building.{built, graph_made, graph_is, clash_told, stranding_told, clash_found, stranding_found, known_image}
+use Rattle.desk_graph.proofs.Building.{built, graph_made, counts_are, graph_is, clash_told, stranding_told, clash_found, stranding_found, known_image}
 use Rattle.desk_graph.proofs.Laws.{one_image, none_stranded}
 use Rattle.desk_graph.proofs.graph.ClassGraph.build.Goals as goal
 
@@ -22,6 +22,12 @@ first_stranded-requires c =
     let b = built (cls c.args.rules.now.renames) c.args.scanned.items c.as_slice-classes.result.now c.in_ok-names.names.items c.as_slice.result.now c.in_ok-known.known.items c.in_ok-nodes.nodes.items (rw c.as_slice-classes.ensures.value c.without_paths-kept.ensures)
     c.in_ok-names.ensures c.in_ok-known.ensures c.as_slice.ensures.value c.in_ok-nodes.ensures in
     rw (c.as_slice-4.ensures.value, c.as_slice-5.ensures.value) b.table
+
+pub count_links-requires : goal.count_links-requires
+count_links-requires c =
+    let b = built (cls c.args.rules.now.renames) c.args.scanned.items c.as_slice-classes.result.now c.in_ok-names.names.items c.as_slice.result.now c.in_ok-known.known.items c.in_ok-nodes.nodes.items (rw c.as_slice-classes.ensures.value c.without_paths-kept.ensures)
+    c.in_ok-names.ensures c.in_ok-known.ensures c.as_slice.ensures.value c.in_ok-nodes.ensures in
+    rw (c.as_slice-6.ensures.value, c.as_slice-7.ensures.value) b.table
 
 pub returns-in-Some-clause-fault : goal.returns-in-Some-clause-fault
 returns-in-Some-clause-fault c =
@@ -55,7 +61,9 @@ pub returns-clause-graph : goal.returns-clause-graph
 returns-clause-graph c =
     let b = built (cls c.args.rules.now.renames) c.args.scanned.items c.as_slice-classes.result.now c.in_ok-names.names.items c.as_slice.result.now c.in_ok-known.known.items c.in_ok-nodes.nodes.items (rw c.as_slice-classes.ensures.value c.without_paths-kept.ensures)
     c.in_ok-names.ensures c.in_ok-known.ensures c.as_slice.ensures.value c.in_ok-nodes.ensures in
-    graph_is c.args.rules.now.renames c.args.scanned.items c.in_ok-known.known.items c.in_ok-nodes.nodes.items b
+    graph_is c.args.rules.now.renames c.args.scanned.items c.in_ok-known.known.items c.in_ok-nodes.nodes.items c.in_ok-counts.counts.items b
+    (counts_are (cls c.args.rules.now.renames) c.args.scanned.items c.as_slice-classes.result.now c.in_ok-known.known.items c.as_slice-6.result.now c.in_ok-nodes.nodes.items c.as_slice-7.result.now c.in_ok-counts.counts.items b
+    (rw c.as_slice-classes.ensures.value c.without_paths-kept.ensures) c.as_slice-6.ensures.value c.as_slice-7.ensures.value c.in_ok-counts.ensures)
 
 no_clash_found : (c : goal.After-drop-kept-2) → name_clash (cls c.args.rules.now.renames) c.args.scanned.items ≡ None
 no_clash_found c =
