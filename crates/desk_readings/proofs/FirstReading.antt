@@ -210,6 +210,15 @@ noted_end from m all left files classes batch h split none over =
     (subst (λ (ss : List Scanned). NotedTo from m (map (λ (f : Measured). f.route) files ++ routes_in batch) (files ++ map measured_by batch) ss)
     (ap (λ (ws : List WaitingFile). classes ++ scans_of ws) none ∙ append-nil classes) h))
 
+pub notes_counted : (rules : Rules) (files new : List Measured) (notes now : List ClassNote) (batch : List WaitingFile) → length notes ≡ length files → new ≡ files ++ map measured_by batch → now ≡ notes ++ map (note_by rules) batch
+    → length now ≡ length new
+notes_counted rules files new notes now batch e grown noted =
+    let more = ap length grown ∙ length-append files (map measured_by batch) in
+    let longer = ap length noted ∙ length-append notes (map (note_by rules) batch) in
+    let some = length-map batch measured_by in
+    let same = length-map batch (note_by rules) in
+    omega (arith, e, more, longer, some, same)
+
 pub notes_end : (rules : Rules) (from : Text) (m : Contents) (all left : List Route) (files : List Measured) (notes : List ClassNote) (batch : List WaitingFile) → notes ≡ map (note_at rules from m) (map (λ (f : Measured). f.route) files)
     → all ≡ (map (λ (f : Measured). f.route) files ++ routes_in batch) ++ left → batch ≡ [] → left ≡ [] → notes ≡ map (note_at rules from m) all
 notes_end rules from m all left files notes batch e split none over =

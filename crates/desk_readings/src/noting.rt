@@ -160,6 +160,7 @@ pub fn note_all<R: Threads + Sync, F: Folders, G: Gate + Sync>(
     ensures noted { IfOk result (λ notes. IfSome (F.told folders.old) (λ m. NotedTo from.now m routes.items notes.files.items notes.scanned.items)) }
     ensures class_notes { IfOk result (λ notes. IfSome (F.told folders.old) (λ m. notes.class_notes.items ≡ map (note_at rules.now from.now m) routes.items)) }
     ensures routes { IfOk result (λ notes. map (λ file. file.route) notes.files.items ≡ routes.items) }
+    ensures count { IfOk result (λ notes. length notes.class_notes.items ≡ length notes.files.items) }
     ensures within { IfOk result (λ notes. All IsWithin notes.files.items) }
     ensures few { IfOk result (λ notes. length notes.scanned.items ≤ length routes.items) }
     ensures counts { F.faults folders.old ≤ F.faults folders.new }

@@ -9,7 +9,8 @@ use Rattle.desk_base.proofs.Results.{at_some}
 use Rattle.desk_readings.proofs.Fronts.{if_some}
 use Rattle.desk_readings.specs.Sizes.{large_size}
 use Rattle.desk_readings.specs.Noting.{IsWithin, NoteFails, NotedTo}
-use Rattle.desk_readings.specs.Readings.{bytes_here, first_large, is_large, measured_at, most_by, scans_at}
+use Rattle.desk_readings.specs.Readings.{bytes_here, first_large, is_large, measured_at, most_by, note_at, scans_at}
+use Rattle.desk_readings.specs.declared.measured.ClassNote.{ClassNote}
 use Rattle.desk_readings.specs.declared.measured.Measured.{Measured}
 use Rattle.desk_readings.specs.declared.faults.NoteFault.{NoteFault}
 use Rattle.desk_readings.specs.declared.faults.NoteFault.TheVariants as note
@@ -29,7 +30,7 @@ use Rattle.desk_second.specs.Applications.{classes_of}
 use Rattle.desk_intake.proofs.Listed.{scanned_routed}
 use Rattle.desk_intake.specs.Halts.{HaltsWith}
 use Rattle.desk_intake.specs.Limits.{most_size, size_answer}
-use Rattle.desk_run.specs.Notes.{IsRead, measured_of}
+use Rattle.desk_run.specs.Notes.{IsRead, class_note_of, measured_of}
 use Rattle.desk_intake.specs.Routes.{IsRelativeRoute}
 use Rattle.desk_intake.specs.Faults.{halt_of_note}
 
@@ -46,6 +47,17 @@ scans_routed rules from m [] = refl
 scans_routed rules from m (path ∷ paths) =
     ap (λ (ss : List Scanned). ss ++ scans_at from m (map (route_of rules) paths)) (scanned_routed rules path (bytes_at m (full from path)))
     ∙ ap (λ (ss : List Scanned). scanned_at rules path (bytes_at m (full from path)) ++ ss) (scans_routed rules from m paths)
+
+notes_routed : (rules : Rules) (from : Text) (m : Contents) (paths : List Text) → map (note_at rules from m) (map (route_of rules) paths) ≡ map (class_note_of rules) (map (file_at from m) paths)
+notes_routed rules from m [] = refl
+notes_routed rules from m (path ∷ paths) = ap (λ (ns : List ClassNote). class_note_of rules (file_at from m path) ∷ ns) (notes_routed rules from m paths)
+
+pub notes_told : (rules : Rules) (from : Text) (told mid : Option Contents) (routes : List Route) (notes : List ClassNote) → mid ≡ told → IfSome told (λ m. routes ≡ map (route_of rules) (paths_below from m))
+    → IfSome mid (λ m. notes ≡ map (note_at rules from m) routes) → IfSome told (λ m. notes ≡ map (class_note_of rules) (files_below from m))
+notes_told rules from told mid routes notes same listed noted = if_some _ told (λ m t.
+    at_some (λ m. notes ≡ map (note_at rules from m) routes) mid m (same ∙ t) noted
+    ∙ ap (map (note_at rules from m)) (at_some (λ m. routes ≡ map (route_of rules) (paths_below from m)) told m t listed)
+    ∙ notes_routed rules from m (paths_below from m))
 
 -- ---- bytes
 

@@ -29,7 +29,7 @@ use Rattle.desk_intake.specs.Limits.{paths_answer, size_answer}
 use Rattle.desk_run.specs.Meaning.{header_of, run_of, run_by_roots, run_by_rules, run_of_asked}
 use Rattle.desk_intake.specs.Rulings.{ruled}
 use Rattle.desk_run.specs.Asked.{Asked, asked_roots}
-use Rattle.desk_run.specs.Notes.{IsRead, measured_of}
+use Rattle.desk_run.specs.Notes.{IsRead, class_note_of, measured_of}
 use Rattle.desk_run.specs.Reports.{ending}
 use Rattle.desk_run.specs.declared.gather.Gathered.{Gathered}
 use Rattle.desk_intake.specs.declared.rules.Ruled.{Ruled}
@@ -159,17 +159,20 @@ err_reading asked names told f f' (Err h) e g = halts_reading asked names told f
 -- what was gathered
 pub ok_gathered : (names : Roots) (told : Option Contents) (r : Result Gathered Halt) → IfOk r (λ g. g.header ≡ header_of names g.ruled.value) → IfOk r (λ g. IfSome told (λ m. ruled names.rules (files_below names.rules m) ≡ Ok g.ruled.value))
     → IfOk r (λ g. AreRules g.ruled.value.rules) → IfOk r (λ g. IfSome told (λ m. AreRead g.ruled.value.rules names.from m g.notes.files.items g.notes.scanned.items)) → IfOk r (λ g. All (IsRead g.ruled.value.rules) g.notes.files.items)
+    → IfOk r (λ g. IfSome told (λ m. g.notes.class_notes.items ≡ map (class_note_of g.ruled.value.rules) (files_below names.from m))) → IfOk r (λ g. length g.notes.class_notes.items ≡ length g.notes.files.items)
     → IfOk r (λ g. length g.notes.files.items < 2 ^ 32) → IfOk r (λ g. length g.notes.scanned.items < 2 ^ 32) → IfOk r (HasGathered names told)
-ok_gathered names told (Ok g) header rules are files read few few_classes = record {
+ok_gathered names told (Ok g) header rules are files read notes count few few_classes = record {
   header = header;
   are = are;
   read = read;
+  count = count;
   few = few;
   few_classes = few_classes;
   told_of = if_some _ told (λ m t. record {
     rules = at_some (λ m. ruled names.rules (files_below names.rules m) ≡ Ok g.ruled.value) told m t rules;
     run = at_some (λ m. run_of_asked (asked_roots names) m ≡ Ok (run_of names g.ruled.value m)) told m t (run_read (asked_roots names) names g.ruled.value told refl rules);
     files = at_some (λ m. AreRead g.ruled.value.rules names.from m g.notes.files.items g.notes.scanned.items) told m t files;
+    class_notes = at_some (λ m. g.notes.class_notes.items ≡ map (class_note_of g.ruled.value.rules) (files_below names.from m)) told m t notes;
   });
 }
-ok_gathered names told (Err x) header rules are files read few few_classes = tt
+ok_gathered names told (Err x) header rules are files read notes count few few_classes = tt

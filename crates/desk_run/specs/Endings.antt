@@ -30,7 +30,7 @@ use Rattle.desk_run.specs.Runs.{Run, FindsIn, TargetsApart}
 use Rattle.desk_run.specs.Works.{works_of}
 use Rattle.desk_run.specs.Truth.{IsOurs}
 use Rattle.desk_run.specs.Reports.{ending_by, report, report_by, summary_by, summary_of}
-use Rattle.desk_run.specs.Notes.{IsRead, measured_of}
+use Rattle.desk_run.specs.Notes.{IsRead, class_note_of, measured_of}
 use Rattle.desk_run.specs.declared.gather.Gathered.{Gathered}
 use Rattle.desk_run.specs.Stops.{StopsAt, status_of_halt}
 use Rattle.desk_run.specs.Stands.{Unchanged, Between, NextIsFresh, Within}
@@ -72,12 +72,14 @@ pub record GatheredFrom (names : Roots) (m : Contents) (gathered : Gathered) : T
   pub rules : ruled_of names.rules (files_below names.rules m) ≡ Ok gathered.ruled.value
   pub run : run_of_asked (asked_roots names) m ≡ Ok (run_of names gathered.ruled.value m)
   pub files : AreRead gathered.ruled.value.rules names.from m gathered.notes.files.items gathered.notes.scanned.items
+  pub class_notes : gathered.notes.class_notes.items ≡ map (class_note_of gathered.ruled.value.rules) (files_below names.from m)
 
 -- what was gathered, whatever the folders tell
 pub record HasGathered (names : Roots) (told : Option Contents) (gathered : Gathered) : Type 0 where
   pub header : gathered.header ≡ header_of names gathered.ruled.value
   pub are : AreRules gathered.ruled.value.rules
   pub read : All (IsRead gathered.ruled.value.rules) gathered.notes.files.items
+  pub count : length gathered.notes.class_notes.items ≡ length gathered.notes.files.items
   pub few : length gathered.notes.files.items < 2 ^ 32
   pub few_classes : length gathered.notes.scanned.items < 2 ^ 32
   pub told_of : IfSome told (λ m. GatheredFrom names m gathered)

@@ -1,7 +1,7 @@
 //! A run up to its end: what is gathered is planned, written and reported.
 
 ghost use Rattle.std.specs.Prelude.{All, ◌≡◌, ◌≤◌, ◌<◌, ◌^◌, true, None, Some, Err, IfOk, IsOkAnd, OnOk, IfErr, IfSome, IsSome, length, map, option_map};
-ghost use Rattle.desk_batches.specs.Notes.{IsNoteOf, IsSound};
+ghost use Rattle.desk_batches.specs.Notes.{IsNoteOf, IsSound, StaysAsNoted};
 ghost use Rattle.desk_batches.specs.Stops.{HasCause};
 ghost use Rattle.desk_batches.specs.Turns.{outcome_of, works_in};
 ghost use Rattle.desk_batches.specs.Works.{files_after, ledger_after};
@@ -20,13 +20,14 @@ ghost use Rattle.desk_run.specs.Halts.{HaltsPlan, NamedAtPlan};
 ghost use Rattle.desk_run.specs.Meaning.{finds_in, run_of_asked};
 ghost use Rattle.desk_run.specs.Asked.{asked_roots};
 ghost use Rattle.desk_intake.specs.Routes.{IsRelativeRoute};
-ghost use Rattle.desk_run.specs.Notes.{measured_in, noted_by};
+ghost use Rattle.desk_run.specs.Notes.{bare, details_of, measured_in, noted_by, stays_in};
 ghost use Rattle.desk_run.specs.Reports.{ending_by, report_by, summary_by, summary_of};
 ghost use Rattle.desk_run.specs.Stops.{CommittedBehind, StopsAt};
 ghost use Rattle.desk_run.specs.Truth.{IsOurs};
 ghost use Rattle.desk_readings.specs.Noting.{IsWithin};
 ghost use Rattle.desk_words.specs.Roots.{AreRoots, AreWorkers};
 
+use crate::details::with_details;
 use crate::gather::{Gathered, gather};
 use crate::opening::open_ledger;
 use crate::planning::plan_files;
@@ -66,11 +67,13 @@ fn plan<'r, F: Folders, K: Keeper>(
 ) -> Result<Prepared<'r>, Halt>
     requires roots { AreRoots names.now }
     requires few { length notes.scanned.items < 2 ^ 32 }
+    requires count { length notes.class_notes.items ≡ length notes.files.items }
     requires relative { All (λ file. IsRelativeRoute file.route) notes.files.items }
     requires within { All IsWithin notes.files.items }
     ensures graph { IfOk result (λ p. p.graph ≡ graph_of rules.entry.now.renames notes.scanned.items) }
     ensures told { F.told folders.new ≡ F.told folders.old }
-    ensures noted { IfOk result (λ p. WhereTold (F.told folders.old) (K.told keeper.old) (λ m l. p.noted.items ≡ map (noted_by (finds_in names.now m) l.rows) notes.files.items)) }
+    ensures noted { IfOk result (λ p. WhereTold (F.told folders.old) (K.told keeper.old) (λ m l. map bare p.noted.items ≡ map (noted_by (finds_in names.now m) l.rows) notes.files.items)) }
+    ensures stays { IfOk result (λ p. stays_in p.noted.items ≡ details_of notes.class_notes.items p.graph.link_counts) }
     ensures sound { IfOk result (λ p. All IsSound p.noted.items) }
     ensures measured { IfOk result (λ p. map measured_in p.noted.items ≡ notes.files.items) }
     ensures ledger { OnOk result (K.told keeper.new ≡ option_map (with_header header.now) (K.told keeper.old)) }
@@ -83,10 +86,15 @@ fn plan<'r, F: Folders, K: Keeper>(
     ensures counts_f { F.faults folders.old ≤ F.faults folders.new }
     ensures counts { K.faults keeper.old ≤ K.faults keeper.new }
 {
-    let MeasuredFiles { files, scanned } = notes;
+    let MeasuredFiles {
+        files,
+        class_notes,
+        scanned,
+    } = notes;
     let graph = build_graph(alloc, rules, scanned)?;
     open_ledger(keeper, &names.ledger, header)?;
-    let noted = plan_files(alloc, folders, keeper, names, files)?;
+    let planned = plan_files(alloc, folders, keeper, names, files)?;
+    let noted = with_details(planned, &class_notes, graph.link_counts());
     Ok(Prepared { graph, noted })
 }
 
@@ -123,6 +131,7 @@ fn write_and_commit<R: Threads + Sync, F: Folders, K: Keeper, G: Gate + Sync>(
     requires sound { All IsSound noted.now }
     requires routes { All (λ one. IsRouteBy rules.now one.route) noted.now }
     requires notes { IfSome (F.told folders.old) (λ m. All (IsNoteOf names.now.from m) noted.now) }
+    requires stays { IfSome (F.told folders.old) (λ m. All (StaysAsNoted (image_in rules.now graph.now.defined) names.now.from m) noted.now) }
     ensures folders { OnOk result (IfSome (F.told folders.old) (λ m. F.told folders.new ≡ option_map (files_after names.now.to (works_in (image_in rules.now graph.now.defined) names.now.from m noted.now)) (F.told folders.old))) }
     ensures ledger { OnOk result (IfSome (F.told folders.old) (λ m. K.told keeper.new ≡ option_map (ledger_after (works_in (image_in rules.now graph.now.defined) names.now.from m noted.now)) (K.told keeper.old))) }
     ensures outcomes { IfOk result (λ outcomes. IfSome (F.told folders.old) (λ m. outcomes.items ≡ map outcome_of (works_in (image_in rules.now graph.now.defined) names.now.from m noted.now))) }

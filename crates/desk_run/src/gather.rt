@@ -1,6 +1,6 @@
 //! What a run goes by: its rules and what was read of its files, before the ledger is opened.
 
-ghost use Rattle.std.specs.Prelude.{All, ◌≡◌, ◌≤◌, ◌<◌, ◌^◌, Ok, IfOk, IfErr, IfSome, length};
+ghost use Rattle.std.specs.Prelude.{All, ◌≡◌, ◌≤◌, ◌<◌, ◌^◌, Ok, IfOk, IfErr, IfSome, length, map};
 ghost use Rattle.desk_file.specs.Images.{target};
 ghost use Rattle.desk_file.specs.Treatments.{is_whole};
 ghost use Rattle.desk_folders.specs.Contents.{files_below};
@@ -9,7 +9,7 @@ ghost use Rattle.desk_run.specs.Halts.{HaltsAtFiles, HaltsGathering, HaltsReadin
 ghost use Rattle.desk_run.specs.Meaning.{header_of};
 ghost use Rattle.desk_intake.specs.Rulings.{ruled};
 ghost use Rattle.desk_run.specs.Asked.{asked_roots};
-ghost use Rattle.desk_run.specs.Notes.{IsRead};
+ghost use Rattle.desk_run.specs.Notes.{IsRead, class_note_of};
 ghost use Rattle.desk_second.specs.Second.{AreRules};
 ghost use Rattle.desk_words.specs.Roots.{AreRoots, AreWorkers};
 
@@ -61,6 +61,8 @@ fn read_files<R: Threads + Sync, F: Folders, G: Gate + Sync>(
     requires workers { AreWorkers workers }
     ensures told { F.told folders.new ≡ F.told folders.old }
     ensures notes { IfOk result (λ notes. IfSome (F.told folders.old) (λ m. AreRead ruled.now.rules names.now.from m notes.files.items notes.scanned.items)) }
+    ensures class_notes { IfOk result (λ notes. IfSome (F.told folders.old) (λ m. notes.class_notes.items ≡ map (class_note_of ruled.now.rules) (files_below names.now.from m))) }
+    ensures count { IfOk result (λ notes. length notes.class_notes.items ≡ length notes.files.items) }
     ensures read { IfOk result (λ notes. All (IsRead ruled.now.rules) notes.files.items) }
     ensures few { IfOk result (λ notes. length notes.files.items < 2 ^ 32) }
     ensures few_classes { IfOk result (λ notes. length notes.scanned.items < 2 ^ 32) }
@@ -68,7 +70,17 @@ fn read_files<R: Threads + Sync, F: Folders, G: Gate + Sync>(
     ensures counts { F.faults folders.old ≤ F.faults folders.new }
 {
     let routes = list_routes(alloc, folders, &ruled.rules, &names.from)?;
-    let notes = note_all(rt, alloc, folders, gate, &names.from, workers, routes)?;
+    let rules = &ruled.rules;
+    let notes = note_all(
+        rt,
+        alloc,
+        folders,
+        gate,
+        rules,
+        &names.from,
+        workers,
+        routes,
+    )?;
     refuse_clash(alloc, &notes.files)?;
     Ok(notes)
 }
@@ -89,6 +101,8 @@ fn gather_by<R: Threads + Sync, F: Folders, G: Gate + Sync>(
     ensures rules { IfOk result (λ g. IfSome (F.told folders.old) (λ m. ruled names.now.rules (files_below names.now.rules m) ≡ Ok g.ruled.value)) }
     ensures are { IfOk result (λ g. AreRules g.ruled.value.rules) }
     ensures notes { IfOk result (λ g. IfSome (F.told folders.old) (λ m. AreRead g.ruled.value.rules names.now.from m g.notes.files.items g.notes.scanned.items)) }
+    ensures class_notes { IfOk result (λ g. IfSome (F.told folders.old) (λ m. g.notes.class_notes.items ≡ map (class_note_of g.ruled.value.rules) (files_below names.now.from m))) }
+    ensures count { IfOk result (λ g. length g.notes.class_notes.items ≡ length g.notes.files.items) }
     ensures read { IfOk result (λ g. All (IsRead g.ruled.value.rules) g.notes.files.items) }
     ensures few { IfOk result (λ g. length g.notes.files.items < 2 ^ 32) }
     ensures few_classes { IfOk result (λ g. length g.notes.scanned.items < 2 ^ 32) }

@@ -22,6 +22,7 @@ ghost use Rattle.desk_run.specs.Queries.{AnswersQuery, LeavesAnswer};
 ghost use Rattle.desk_words.specs.declared.roots.Query.TheVariants as query;
 ghost use Rattle.desk_run.specs.Resuming.{LeavesSources, Resumes};
 
+mod details;
 mod finish;
 mod gather;
 mod generate;

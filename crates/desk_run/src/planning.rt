@@ -134,6 +134,7 @@ fn plan_file<F: Folders, K: Keeper>(
         route,
         size,
         digest,
+        stays: None,
         way,
     })
 }

@@ -2,7 +2,7 @@ use Rattle.std.proofs.Common.{rules, arith, ◌≡◌, ◌++◌, ◌∙◌, leng
 use Rattle.std.proofs.lemmas.Bool.Decides.{nat_tests}
 use Rattle.std.proofs.lemmas.List.{nil_from_length}
 use Rattle.std.proofs.lemmas.Result.{err_from_is_err_and}
-use Rattle.desk_readings.proofs.FirstReading.{fails_behind, few_turned, noted_end, noted_turned, notes_end, notes_turned, split_turned, within_end, within_turned}
+use Rattle.desk_readings.proofs.FirstReading.{fails_behind, few_turned, noted_end, noted_turned, notes_counted, notes_end, notes_turned, split_turned, within_end, within_turned}
 use Rattle.desk_base.proofs.Results.{at_some}
 use Rattle.desk_readings.proofs.Fronts.{if_some}
 use Rattle.desk_readings.specs.Slices.{NotesHere, left_in, routes_in}
@@ -36,6 +36,8 @@ loop-alloc-preserved g c =
           (c.loop-alloc.invariant.told ∙ e) c.in_ok-slice-2.ensures.read.noted) grown kept;
       class_notes = λ m e. notes_turned c.args.rules.now c.args.from.now m c.loop-alloc.notes.files.items c.add_and_read.new.self.files.items c.loop-alloc.notes.class_notes.items c.add_and_read.new.self.class_notes.items
           c.loop-alloc.slice.items (c.loop-alloc.invariant.class_notes m e) (c.loop-alloc.invariant.here m e) grown (search rules);
+      count = notes_counted c.args.rules.now c.loop-alloc.notes.files.items c.add_and_read.new.self.files.items c.loop-alloc.notes.class_notes.items c.add_and_read.new.self.class_notes.items c.loop-alloc.slice.items
+          c.loop-alloc.invariant.count grown (search rules);
       here = λ m e. at_some (λ m. NotesHere c.args.from.now m c.in_ok-slice-2.slice.items) (g.F.Folders.told c.loop-alloc.folders) m (c.loop-alloc.invariant.told ∙ e) c.in_ok-slice-2.ensures.read.here;
       some = c.in_ok-slice-2.ensures.read.some;
       there = search rules;

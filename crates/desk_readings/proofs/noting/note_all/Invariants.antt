@@ -21,6 +21,7 @@ invariant-loop-alloc g l = record {
       → NotedTo l.from m (map (λ (file : Measured). file.route) l.notes.files.items ++ routes_in l.slice.items) (l.notes.files.items ++ map measured_by l.slice.items) (l.notes.scanned.items ++ scans_of l.slice.items);
   class_notes : (m : Contents) → g.F.Folders.told l.fn.folders ≡ Some m → l.notes.class_notes.items ≡ map (note_at l.rules l.from m) (map (λ (file : Measured). file.route) l.notes.files.items);
   here : (m : Contents) → g.F.Folders.told l.fn.folders ≡ Some m → NotesHere l.from m l.slice.items;
+  count : length l.notes.class_notes.items ≡ length l.notes.files.items;
   some : l.slice.items ≡ [] → left_in l.unread ≡ [];
   there : IfSome (g.F.Folders.told l.fn.folders) (λ m. All (λ (r : Route). IsSome (fin.get m (full l.from r.path))) l.unread.routes.items);
   ahead : IsAhead l.from (g.F.Folders.told l.fn.folders) l.unread;

@@ -1,5 +1,5 @@
 use Rattle.std.proofs.Common.{sym, subst}
-use Rattle.desk_run.proofs.Finishing.{gathered_notes, gathered_stopped, gathered_written, is_planned}
+use Rattle.desk_run.proofs.Finishing.{gathered_notes, gathered_stays, gathered_stopped, gathered_written, is_planned}
 use Rattle.desk_run.proofs.Measures.{all_routed}
 use Rattle.desk_run.proofs.Preparing.{plan_early}
 use Rattle.desk_run.proofs.Promised.{early_told}
@@ -15,6 +15,12 @@ write_and_commit-requires-clause-routes g c κs within =
 pub write_and_commit-requires-clause-notes : goal.write_and_commit-requires-clause-notes
 write_and_commit-requires-clause-notes g c κs within =
     rw (c.deref-3.ensures.value, c.in-Ok.ensures.told) (gathered_notes c.args.names.now c.args.gathered c.in-Ok.prepared.noted.items (g.F.Folders.told c.args.folders.now) c.requires.gathered c.in-Ok.ensures.measured)
+
+pub write_and_commit-requires-clause-stays : goal.write_and_commit-requires-clause-stays
+write_and_commit-requires-clause-stays g c κs within =
+    let p = c.in-Ok.ensures in
+    rw (c.deref-3.ensures.value, c.deref-2.ensures, p.told)
+    (gathered_stays c.args.names.now c.args.gathered c.in-Ok.prepared.graph c.in-Ok.prepared.noted.items (g.F.Folders.told c.args.folders.now) c.requires.gathered (rw c.deref.ensures at p.graph) p.measured p.stays)
 
 pub returns-in-Err-clause-stopped : goal.returns-in-Err-clause-stopped
 returns-in-Err-clause-stopped g c = λ m l ef ek.

@@ -1,0 +1,191 @@
+-- Classes in which nothing changes: what they become is known before they are read again.
+use Rattle.std.proofs.Common.{All, ◌≡◌, ◌<◌, ℕ, zero, suc, ◌+◌, Bool, true, false, List, [], ◌∷◌, ◌++◌, length, map, take, drop, set, get_or, refl, sym, ap, ◌∙◌, subst, arith, Option, Some, None, Result, Ok, Err, unwrap_or}
+use Rattle.std.specs.Prelude.{IfSome, if◌then◌else◌}
+use Rattle.std.proofs.lemmas.List.{append_assoc, drop_more, map-append, take_more_set}
+use Rattle.std.proofs.lemmas.List.Elements.{All-cons, All-head, All-nil, All-tail}
+use Rattle.desk_base.specs.Names.{Text}
+use Rattle.desk_base.specs.Paths.{full}
+use Rattle.desk_base.specs.declared.faults.Malformed.{Malformed}
+use Rattle.desk_batches.specs.Notes.{IsSound, StaysAsNoted}
+use Rattle.desk_batches.specs.Turns.{work_in, works_in}
+use Rattle.desk_batches.specs.Works.{Work}
+use Rattle.desk_batches.specs.declared.noted.Noted.{Noted}
+use Rattle.desk_batches.specs.declared.noted.Outcome.{Outcome}
+use Rattle.desk_class.specs.Held.{ascending}
+use Rattle.desk_file.proofs.Noting.{linked_itself, noted_itself}
+use Rattle.desk_file.proofs.Treating.{image_routed}
+use Rattle.desk_file.specs.ClassScans.{noted_as, odd_as, odd_of, scanned_as}
+use Rattle.desk_file.specs.Linked.{image_in}
+use Rattle.desk_file.specs.Routes.{route_of}
+use Rattle.desk_file.specs.Images.{target}
+use Rattle.desk_file.specs.Treatments.{image_as, is_class, is_selected_class, treatment_of}
+use Rattle.desk_file.specs.declared.images.Image.{Image}
+use Rattle.desk_file.specs.declared.scans.NotedClass.{NotedClass}
+use Rattle.desk_file.specs.declared.treatments.Treatment.{Treatment}
+use Rattle.desk_file.specs.declared.treatments.Treatment.TheVariants as treatments
+use Rattle.desk_folders.specs.Contents.{Contents, File, bytes_at}
+use Rattle.desk_format.specs.Classes.{Class, read_class}
+use Rattle.desk_format.specs.Laws.{IsBytes}
+use Rattle.desk_graph.proofs.Counting.{links_counted}
+use Rattle.desk_graph.specs.Application.{defined_names, link_count}
+use Rattle.desk_graph.specs.Scans.{scan_of}
+use Rattle.desk_graph.specs.declared.scanned.Scanned.{Scanned}
+use Rattle.desk_intake.proofs.Listed.{scanned_routed}
+use Rattle.desk_intake.proofs.There.{AllThere}
+use Rattle.desk_patterns.specs.PatternTexts.{texts_for}
+use Rattle.desk_readings.specs.Readings.{class_note, note_with, noted_route, scanned_route}
+use Rattle.desk_readings.specs.declared.measured.ClassNote.{ClassNote}
+use Rattle.desk_readings.specs.declared.measured.Measured.{Measured}
+use Rattle.desk_report.specs.declared.lines.Detail.{Detail}
+use Rattle.desk_report.specs.declared.lines.Detail.TheVariants as detail
+use Rattle.desk_report.specs.declared.lines.Reason.{Reason}
+use Rattle.desk_rules.specs.Rules.{Rules}
+use Rattle.desk_second.specs.Applications.{classes_of}
+use Rattle.desk_ledger.specs.Ledger.{Rows}
+use Rattle.desk_ledger.specs.declared.keeper.Held.{Held}
+use Rattle.desk_run.specs.Notes.{bare, class_note_of, counts_behind, detail_with, details_of, measured_in, measured_of, noted_by, stays_in}
+use Rattle.desk_run.specs.Reports.{lines_of, outcome_line}
+
+-- ---- notes of what files become, file by file
+
+bare_set : (xs : List Noted) (i : ℕ) (x one : Noted) → i < length xs → one ≡ get_or xs i one → bare x ≡ bare one → map bare (set xs i x) ≡ map bare xs
+bare_set [] i x one lt is same = absurd (omega arith)
+bare_set (y ∷ xs) zero x one lt is same = ap (λ (z : Noted). z ∷ map bare xs) (same ∙ ap bare is)
+bare_set (y ∷ xs) (suc i) x one lt is same = ap (λ (zs : List Noted). bare y ∷ zs) (bare_set xs i x one (omega arith) is same)
+
+-- one file more has what it becomes
+pub bare_more : (xs first : List Noted) (i : ℕ) (x one : Noted) → i < length xs → one ≡ get_or xs i one → bare x ≡ bare one → map bare xs ≡ map bare first → map bare (set xs i x) ≡ map bare first
+bare_more xs first i x one lt is same before = bare_set xs i x one lt is same ∙ before
+
+pub details_more : (all : List (Option Detail)) (xs : List Noted) (notes : List ClassNote) (i : ℕ) (x : Noted) (note : ClassNote) (left behind : List ℕ) → i < length xs → i < length notes → note ≡ get_or notes i note
+    → all ≡ stays_in (take i xs) ++ details_of (drop i notes) left → x.stays ≡ detail_with note left → behind ≡ counts_behind note left
+    → all ≡ stays_in (take (i + 1) (set xs i x)) ++ details_of (drop (i + 1) notes) behind
+details_more all xs notes i x note left behind lt there is before one rest =
+    let first : drop i notes ≡ note ∷ drop (i + 1) notes = drop_more notes i note there ∙ ap (λ (n : ClassNote). n ∷ drop (i + 1) notes) (sym is) in
+    before ∙ ap (λ (ns : List ClassNote). stays_in (take i xs) ++ details_of ns left) first
+    ∙ ap (λ (d : Option Detail). stays_in (take i xs) ++ d ∷ details_of (drop (i + 1) notes) (counts_behind note left)) (sym one)
+    ∙ ap (λ (cs : List ℕ). stays_in (take i xs) ++ x.stays ∷ details_of (drop (i + 1) notes) cs) (sym rest)
+    ∙ sym (append_assoc (stays_in (take i xs)) (x.stays ∷ []) (details_of (drop (i + 1) notes) behind))
+    ∙ ap (λ (ds : List (Option Detail)). ds ++ details_of (drop (i + 1) notes) behind)
+    (sym (ap stays_in (take_more_set xs i x lt) ∙ map-append (λ (noted : Noted). noted.stays) (take i xs) (x ∷ [])))
+
+-- ---- what doesn't depend on them
+
+pub of_bare : (P : Noted → Type 0) (xs ys : List Noted) → ((x y : Noted) → bare x ≡ bare y → P y → P x) → map bare xs ≡ map bare ys → All P ys → All P xs
+of_bare P [] ys moves e h = All-nil P
+of_bare P (x ∷ xs) [] moves e h = absurd cc
+of_bare P (x ∷ xs) (y ∷ ys) moves e h =
+    let here : bare x ≡ bare y = cc in
+    let later : map bare xs ≡ map bare ys = cc in
+    All-cons P x xs (moves x y here (All-head P y ys h)) (of_bare P xs ys moves later (All-tail P y ys h))
+
+of_sound : (x : Noted) → IsSound x → IsSound (bare x)
+of_sound x h = record { path = h.path; target = h.target; size = h.size }
+
+sound_of : (x : Noted) → IsSound (bare x) → IsSound x
+sound_of x h = record { path = h.path; target = h.target; size = h.size }
+
+pub sound_bare : (x y : Noted) → bare x ≡ bare y → IsSound y → IsSound x
+sound_bare x y e h = sound_of x (subst IsSound (sym e) (of_sound y h))
+
+-- files that were planned have nothing more
+pub bare_noted : (noted : List Noted) (finds : Text → Held → Bool) (rows : Rows) (files : List Measured) → noted ≡ map (noted_by finds rows) files → map bare noted ≡ map (noted_by finds rows) files
+bare_noted noted finds rows files e = ap (map bare) e ∙ by finds rows files where
+  by : (finds : Text → Held → Bool) (rows : Rows) (files : List Measured) → map bare (map (noted_by finds rows) files) ≡ map (noted_by finds rows) files
+  by finds rows [] = refl
+  by finds rows (file ∷ files) = ap (λ (ns : List Noted). noted_by finds rows file ∷ ns) (by finds rows files)
+
+measured_bare : (xs : List Noted) → map measured_in (map bare xs) ≡ map measured_in xs
+measured_bare [] = refl
+measured_bare (x ∷ xs) = ap (λ (ms : List Measured). measured_in x ∷ ms) (measured_bare xs)
+
+pub measured_same : (xs ys : List Noted) → map bare xs ≡ map bare ys → map measured_in xs ≡ map measured_in ys
+measured_same xs ys e = sym (measured_bare xs) ∙ ap (map measured_in) e ∙ measured_bare ys
+
+pub works_bare : (image : Text → Text → Result Image Reason) (from : Text) (m : Contents) (xs : List Noted) → works_in image from m (map bare xs) ≡ works_in image from m xs
+works_bare image from m [] = refl
+works_bare image from m (x ∷ xs) = ap (λ (ws : List Work). work_in image from m x ∷ ws) (works_bare image from m xs)
+
+pub lines_bare : (xs : List Noted) (outcomes : List Outcome) → lines_of xs outcomes ≡ lines_of (map bare xs) outcomes
+lines_bare [] outcomes = refl
+lines_bare (x ∷ xs) [] = refl
+lines_bare (x ∷ xs) (outcome ∷ outcomes) = ap (λ (t : Text). outcome_line x.route.path x.route.target outcome ++ t) (lines_bare xs outcomes)
+
+-- ---- they are true
+
+-- what is known of one file, of which these classes are kept
+abbrev Stays : Rules → List Text → Text → Text → Option NotedClass → List Scanned → List ℕ → Type 0
+Stays rules defined path bytes noted kept counts =
+    IfSome (detail_with (class_note noted) (map (link_count defined) kept ++ counts)) (λ detail. image_in rules defined path bytes ≡ Ok (record { bytes = bytes; detail = detail }))
+    × (counts_behind (class_note noted) (map (link_count defined) kept ++ counts) ≡ counts)
+
+abbrev StaysBy : Rules → List Text → Text → Text → List ℕ → Treatment → Type 0
+StaysBy rules defined path bytes counts t =
+    Stays rules defined path bytes (if is_class t then noted_as rules path (is_selected_class t) (read_class bytes) else None) (if is_class t then scanned_as path (is_selected_class t) (read_class bytes) else []) counts
+
+-- the image of a selected class in which nothing changes
+class_stays : (rules : Rules) (ss : List Scanned) (path bytes : Text) (c : Class) (odd : ℕ) → IsBytes bytes → treatment_of rules path ≡ treatments.Class → read_class bytes ≡ Ok c → odd_of rules true c ≡ Some odd
+    → image_in rules (ascending (defined_names ss)) path bytes ≡ Ok (record { bytes = bytes; detail = detail.Class 0 0 odd (link_count (ascending (defined_names ss)) (scan_of path true c)) })
+class_stays rules ss path bytes c odd b how reads e =
+    let defined = ascending (defined_names ss) in
+    let itself = noted_itself rules true bytes odd b (ap (odd_as rules true) reads ∙ e) in
+    image_routed rules defined (route_of rules path) bytes refl ∙ ap (image_as rules defined (texts_for rules.texts path (target rules path)) bytes) how ∙ linked_itself rules defined bytes odd itself
+    ∙ ap (λ (n : ℕ). Ok (record { bytes = bytes; detail = detail.Class 0 0 odd n })) (sym (links_counted ss bytes path true c reads))
+
+selected_stays : (rules : Rules) (ss : List Scanned) (path bytes : Text) (counts : List ℕ) → IsBytes bytes → treatment_of rules path ≡ treatments.Class
+    → Stays rules (ascending (defined_names ss)) path bytes (noted_as rules path true (read_class bytes)) (scanned_as path true (read_class bytes)) counts
+selected_stays rules ss path bytes counts b how =
+    elim (read_class bytes) as (λ (r : Result Class Malformed). read_class bytes ≡ r → Stays rules (ascending (defined_names ss)) path bytes (noted_as rules path true r) (scanned_as path true r) counts) [
+      | Ok c ↦ λ reads. elim (odd_of rules true c) as (λ (o : Option ℕ). odd_of rules true c ≡ o → Stays rules (ascending (defined_names ss)) path bytes (Some (record { scanned = scan_of path true c; odd = o })) (scan_of path true c ∷ []) counts) [
+        | Some odd ↦ λ e. (class_stays rules ss path bytes c odd b how reads e, refl)
+        | None ↦ λ e. (tt, refl)
+      ] refl
+      | Err fault ↦ λ reads. (tt, refl)
+    ] refl
+
+unselected_stays : (rules : Rules) (defined : List Text) (path bytes : Text) (counts : List ℕ) (read : Result Class Malformed) → Stays rules defined path bytes (noted_as rules path false read) (scanned_as path false read) counts
+unselected_stays rules defined path bytes counts (Ok c) = (tt, refl)
+unselected_stays rules defined path bytes counts (Err fault) = (tt, refl)
+
+by_treatment : (rules : Rules) (ss : List Scanned) (path bytes : Text) (counts : List ℕ) (t : Treatment) → IsBytes bytes → treatment_of rules path ≡ t → StaysBy rules (ascending (defined_names ss)) path bytes counts t
+by_treatment rules ss path bytes counts treatments.Class b how = selected_stays rules ss path bytes counts b how
+by_treatment rules ss path bytes counts treatments.UnselectedClass b how = unselected_stays rules (ascending (defined_names ss)) path bytes counts (read_class bytes)
+by_treatment rules ss path bytes counts treatments.Service b how = (tt, refl)
+by_treatment rules ss path bytes counts treatments.Manifest b how = (tt, refl)
+by_treatment rules ss path bytes counts treatments.Texts b how = (tt, refl)
+by_treatment rules ss path bytes counts treatments.Copy b how = (tt, refl)
+
+stays_here : (image : Text → Text → Result Image Reason) (p q a b : Text) (s t : Option Detail) → p ≡ q → a ≡ b → s ≡ t → IfSome t (λ detail. image q b ≡ Ok (record { bytes = b; detail = detail }))
+    → IfSome s (λ detail. image p a ≡ Ok (record { bytes = a; detail = detail }))
+stays_here image p q a b s t path bytes same h =
+    subst (λ (p : Text). IfSome s (λ detail. image p a ≡ Ok (record { bytes = a; detail = detail }))) (sym path)
+    (subst (λ (a : Text). IfSome s (λ detail. image q a ≡ Ok (record { bytes = a; detail = detail }))) (sym bytes)
+    (subst (λ (s : Option Detail). IfSome s (λ detail. image q b ≡ Ok (record { bytes = b; detail = detail }))) (sym same) h))
+
+-- what is known of files that were noted, by what was noted of them as classes and how many defined names these hold
+pub all_stay : (rules : Rules) (ss : List Scanned) (from : Text) (m : Contents) (files : List File) (noted : List Noted) (counts : List ℕ) → AllThere from m files → All (λ (file : File). IsBytes file.bytes) files
+    → map measured_in noted ≡ map (measured_of rules) files → counts ≡ map (link_count (ascending (defined_names ss))) (classes_of rules files) → stays_in noted ≡ details_of (map (class_note_of rules) files) counts
+    → All (StaysAsNoted (image_in rules (ascending (defined_names ss))) from m) noted
+all_stay rules ss from m [] [] counts there bytes same are e = All-nil (StaysAsNoted (image_in rules (ascending (defined_names ss))) from m)
+all_stay rules ss from m [] (x ∷ noted) counts there bytes same are e = absurd cc
+all_stay rules ss from m (file ∷ files) [] counts there bytes same are e = absurd cc
+all_stay rules ss from m (file ∷ files) (x ∷ noted) counts there bytes same are e =
+    let defined = ascending (defined_names ss) in
+    let later = map (link_count defined) (classes_of rules files) in
+    let route = route_of rules file.path in
+    let kept = scanned_route route file.bytes in
+    let note = class_note_of rules file in
+    let split : counts ≡ map (link_count defined) kept ++ later =
+    are ∙ ap (λ (cs : List Scanned). map (link_count defined) (cs ++ classes_of rules files)) (sym (scanned_routed rules file.path file.bytes)) ∙ map-append (link_count defined) kept (classes_of rules files) in
+    let one : Stays rules defined file.path file.bytes (noted_route rules route file.bytes) kept later =
+    by_treatment rules ss file.path file.bytes later (treatment_of rules file.path) (All-head (λ (file : File). IsBytes file.bytes) file files bytes) refl in
+    let measured : measured_in x ≡ measured_of rules file = cc in
+    let rest : map measured_in noted ≡ map (measured_of rules) files = cc in
+    let detail : x.stays ≡ detail_with note counts = cc in
+    let details : stays_in noted ≡ details_of (map (class_note_of rules) files) (counts_behind note counts) = cc in
+    let path : x.route.path ≡ file.path = ap (λ (f : Measured). f.route.path) measured in
+    let here : bytes_at m (full from x.route.path) ≡ file.bytes = ap (λ (p : Text). bytes_at m (full from p)) path ∙ ap (λ (o : Option Text). unwrap_or o []) there.0.held in
+    let behind : counts_behind note counts ≡ later = ap (counts_behind note) split ∙ one.1 in
+    All-cons (StaysAsNoted (image_in rules defined) from m) x noted
+    (stays_here (image_in rules defined) x.route.path file.path (bytes_at m (full from x.route.path)) file.bytes x.stays (detail_with note (map (link_count defined) kept ++ later)) path here (detail ∙ ap (detail_with note) split) one.0)
+    (all_stay rules ss from m files noted (counts_behind note counts) there.1 (All-tail (λ (file : File). IsBytes file.bytes) file files bytes) rest behind details)

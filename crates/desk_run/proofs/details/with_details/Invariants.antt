@@ -1,0 +1,10 @@
+use Rattle.std.proofs.Common.{◌≡◌, ◌++◌, map, take, drop, length}
+use Rattle.desk_run.specs.Notes.{bare, details_of, stays_in}
+use Rattle.desk_run.proofs.details.with_details.Given as goal
+
+abbrev pub invariant-loop-place : goal.invariant-loop-place
+invariant-loop-place l = record {
+  count : length l.known.items ≡ length l.notes;
+  bare : map bare l.known.items ≡ map bare l.initial.known.items;
+  stays : details_of l.notes l.fn.counts ≡ stays_in (take l.place l.known.items) ++ details_of (drop l.place l.notes) l.left;
+}
