@@ -6,6 +6,7 @@ pub mod Parts
 pub mod Short
 pub mod Refusing
 pub mod Unchanged
+pub mod OwnTexts
 pub mod Printed
 pub mod Making
 pub mod Numbered

@@ -3,3 +3,4 @@ pub mod Wanting
 pub mod Counts
 pub mod Refused
 pub mod Laws
+pub mod Unchanged

@@ -10,6 +10,7 @@
 
 mod counts;
 mod images;
+mod itself;
 mod laws;
 mod members;
 mod printing;
@@ -18,5 +19,6 @@ mod seen;
 mod table;
 mod wants;
 
+pub use itself::odd_if_unchanged;
 pub use laws::{forms_stay, images_stay};
 pub use rewriting::{RewriteFault, Rewritten, rewrite};

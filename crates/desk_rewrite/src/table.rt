@@ -37,7 +37,7 @@ pub enum TextRole {
 pub type ImageTable = BTreeMap<(u16, TextRole), Text>;
 
 /// The role as one whose texts may have another image; none where each text is its own image.
-fn text_role_of(role: Role) -> Option<TextRole>
+pub fn text_role_of(role: Role) -> Option<TextRole>
     ensures { result ≡ text_role_of role }
 {
     match role {
