@@ -1,5 +1,5 @@
 -- How a file is treated says what it becomes, and whether it is read whole.
-use Rattle.std.proofs.Common.{◌≡◌, Bool, true, false, cond, not, List, Option, Some, None, refl, sym, ap, ◌∙◌, Result, Ok}
+use Rattle.std.proofs.Common.{◌≡◌, Bool, true, false, cond, not, List, Option, Some, None, refl, sym, ap, ◌∙◌, Ok}
 use Rattle.std.specs.Prelude.{is_some, ◌||◌}
 use Rattle.desk_base.specs.Names.{Text}
 use Rattle.desk_patterns.specs.PatternTexts.{FileTexts, both_rules, texts_for, texts_of}
@@ -8,16 +8,14 @@ use Rattle.desk_patterns.specs.TextRules.{TextRule}
 use Rattle.desk_paths.specs.declared.Kind.{Kind}
 use Rattle.desk_paths.specs.declared.Kind.TheVariants as kinds
 use Rattle.desk_paths.specs.Kinds.{kind_of}
-use Rattle.desk_report.specs.declared.lines.Reason.{Reason}
 use Rattle.desk_rules.specs.Rules.{Rules}
-use Rattle.desk_file.specs.declared.images.Image.{Image}
 use Rattle.desk_file.specs.Routes.{IsRouteBy, image_along, route_of}
 use Rattle.desk_file.specs.declared.routes.Route.{Route}
 use Rattle.desk_file.specs.declared.treatments.Treatment.{Treatment}
 use Rattle.desk_file.specs.declared.treatments.Treatment.TheVariants as treatments
 use Rattle.desk_file.specs.Images.{target, texts_image, copied}
 use Rattle.desk_file.specs.Linked.{image_in, image_in_by}
-use Rattle.desk_file.specs.Treatments.{has_texts, image_as, is_copy, is_whole, selected_treatment, texts_treatment, treatment_at, treatment_by, treatment_of, unselected_treatment, whole_by}
+use Rattle.desk_file.specs.Treatments.{image_as, is_copy, is_whole, texts_treatment, treatment_by, treatment_of, whole_by}
 
 -- ---- whole files
 

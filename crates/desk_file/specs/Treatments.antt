@@ -1,5 +1,5 @@
 -- How files are treated, and which of them are read whole.
-use Rattle.std.specs.Prelude.{Bool, true, false, not, ◌||◌, ◌&&◌, List, Option, Some, None, Result, Ok, is_some, cond}
+use Rattle.std.specs.Prelude.{Bool, true, false, ◌||◌, ◌&&◌, List, Option, Some, None, Result, Ok, is_some, cond}
 use Rattle.desk_base.specs.Names.{Text}
 use Rattle.desk_patterns.specs.PatternTexts.{FileTexts, texts_for, texts_of}
 use Rattle.desk_patterns.specs.Selections.{selects}
