@@ -16,7 +16,7 @@ use Rattle.desk_graph.specs.Graphs.{Graph, graph_of}
 use Rattle.desk_ledger.specs.Ledger.{Ledger, with_header}
 use Rattle.desk_words.specs.Roots.{AreRoots}
 use Rattle.desk_words.specs.declared.roots.Roots.{Roots}
-use Rattle.desk_run.proofs.Details.{all_stay, lines_bare, works_bare}
+use Rattle.desk_run.proofs.Staying.{all_stay, lines_bare, works_bare}
 use Rattle.desk_run.proofs.Ending.{finish_stands, is_written_all, stop_finishes}
 use Rattle.desk_run.proofs.Measures.{all_notes}
 use Rattle.desk_run.proofs.Preparing.{names_of, planned}

@@ -5,7 +5,7 @@ pub mod Truths
 pub mod Remaining
 pub mod FirstReadings
 pub mod Measures
-pub mod Details
+pub mod Staying
 pub mod Reporting
 pub mod Gathering
 pub mod Preparing

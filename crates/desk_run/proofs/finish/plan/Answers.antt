@@ -1,7 +1,7 @@
 use Rattle.std.proofs.Common.{◌∙◌, ap, option_map}
 use Rattle.desk_ledger.specs.Ledger.{with_header}
 use Rattle.desk_batches.specs.Notes.{IsSound}
-use Rattle.desk_run.proofs.Details.{bare_noted, measured_same, of_bare, sound_bare}
+use Rattle.desk_run.proofs.Staying.{bare_noted, measured_same, of_bare, sound_bare}
 use Rattle.desk_run.proofs.finish.plan.Goals as goal
 
 pub returns-clause-noted : goal.returns-clause-noted
