@@ -4,11 +4,12 @@ use Rattle.std.specs.List.{filter, list_any, Contains, count_by}
 use Rattle.std.specs.Str.{bytes_eq}
 use Rattle.std.proofs.lemmas.Cmp.{nat_list_cmp_total}
 use Rattle.std.proofs.lemmas.List.Kept.{IsStrictlySortedBy-filter}
+use Rattle.std.proofs.lemmas.List.Sums.{sum_by-cons}
 use Rattle.std.specs.declared.cmp.Ordering.{Ordering}
 use Rattle.std.specs.declared.cmp.Ordering.TheVariants.{Less, Equal, Greater}
 use Rattle.std.specs.Ordering.{nat_cmp, match_ordering}
 use Rattle.std.specs.Cmp.Lexicographic.{slice_cmp}
-use Rattle.std.specs.BTreeSet.{insert_key}
+use Rattle.std.specs.BTreeSet.{BTreeSet, insert_key}
 use Rattle.desk_base.specs.Names.{Text}
 use Rattle.desk_packages.specs.Keys.{RiseBy}
 use Rattle.desk_packages.specs.Renames.{Renaming}
@@ -16,9 +17,9 @@ use Rattle.desk_rename.specs.Images.{cls}
 use Rattle.desk_packages.proofs.Picks.{In}
 use Rattle.desk_class.specs.Held.{put_all, ascending}
 use Rattle.desk_graph.specs.Application.{Pair, defined_names, names, link_count, link_counts, with_image, clash_among, name_clash, least_onto, stranded_among, stranded}
-use Rattle.desk_graph.specs.Tables.{IsKnownBy, as_is, is_defined}
+use Rattle.desk_graph.specs.Tables.{IsKnownBy, as_is, is_defined, texts, holds}
 use Rattle.desk_graph.specs.Nodes.{firsts, nodes_from, defined_of, AreNodes, IsTable}
-use Rattle.desk_graph.proofs.Numbering.{nodes_are, defined_pass, first_at, firsts_long}
+use Rattle.desk_graph.proofs.Numbering.{nodes_are, nodes_alike, defined_pass, first_at, firsts_long}
 use Rattle.desk_graph.specs.Alike.{AreAlike}
 use Rattle.desk_graph.specs.Clashes.{clash_pair}
 use Rattle.desk_graph.specs.Graphs.{IsGraph, graph_of}
@@ -28,6 +29,7 @@ use Rattle.desk_graph.specs.declared.stranded.Stranding.{Stranding}
 use Rattle.desk_graph.specs.Strandings.{stranding_pair}
 use Rattle.desk_class.proofs.Ascending.{same_sorted, in_ascending, from_ascending, ascending_sorted}
 use Rattle.desk_graph.proofs.Orders.{rises, defined_named, tested, from_tested}
+use Rattle.desk_graph.proofs.Sets.{holds_is}
 
 firsts_of : (f : Text → Text) (ns : List Text) → firsts (map (with_image f) ns) ≡ ns
 firsts_of f [] = refl
@@ -120,11 +122,15 @@ pub record IsBuilt (f : Text → Text) (ss : List Scanned) (known : List Pair) (
   pub images : IsKnownBy f known
   pub table : IsTable known nodes
 
-pub built : (f : Text → Text) (ss classes : List Scanned) (keys keys' : List Text) (known : List Pair) (nodes : List (Option ℕ)) → AreAlike classes ss → keys ≡ ascending (names classes) → known ≡ map (with_image f) keys → keys' ≡ keys → nodes ≡ nodes_from (is_defined classes) 0 keys'
-    → IsBuilt f ss known nodes
-built f ss classes keys keys' known nodes alike k n same_keys o =
+-- the test of the set of the defined names
+defined_test : (set : BTreeSet Text) (classes : List Scanned) → texts set ≡ ascending (defined_names classes) → (t : Text) → holds set t ≡ is_defined classes t
+defined_test set classes defined t = holds_is set t ∙ ap (list_any (bytes_eq t)) defined
+
+pub built : (f : Text → Text) (ss classes : List Scanned) (set : BTreeSet Text) (keys keys' : List Text) (known : List Pair) (nodes : List (Option ℕ)) → AreAlike classes ss → texts set ≡ ascending (defined_names classes)
+    → keys ≡ ascending (names classes) → known ≡ map (with_image f) keys → keys' ≡ keys → nodes ≡ nodes_from (holds set) 0 keys' → IsBuilt f ss known nodes
+built f ss classes set keys keys' known nodes alike defined k n same_keys o =
     let k' = k ∙ ap ascending alike.names in
-    let o' = o ∙ ap₂ (λ (ds ts : List Text). nodes_from (λ t. list_any (bytes_eq t) (ascending ds)) 0 ts) alike.defined same_keys in
+    let o' = o ∙ nodes_alike (holds set) (is_defined classes) 0 keys' (defined_test set classes defined) ∙ ap₂ (λ (ds ts : List Text). nodes_from (λ t. list_any (bytes_eq t) (ascending ds)) 0 ts) alike.defined same_keys in
     record {
       names = names_are f ss keys known nodes k' n o';
       defined = defined_is f ss keys known nodes k' n o';
@@ -143,24 +149,33 @@ graph_made renames ss known nodes b h =
       few = omega (arith, defined_long ss);
     }
 
--- classes that are told alike are counted alike
-counted_alike : (defined : List Text) (xs ys : List Scanned) → AreAlike xs ys → map (link_count defined) xs ≡ map (link_count defined) ys
-counted_alike defined xs ys alike = held_counts xs ∙ ap (map count) alike.held ∙ sym (held_counts ys)
-  where
-    count : List Text → ℕ
-    count held = count_by (λ (t : Text). list_any (bytes_eq t) defined) held
+-- two tests that agree count alike
+pub same_count : (p q : Text → Bool) (ts : List Text) → ((t : Text) → p t ≡ q t) → count_by p ts ≡ count_by q ts
+same_count p q [] same = refl
+same_count p q (t ∷ ts) same =
+    sum_by-cons (λ x. cond (p x) 1 0) t ts
+    ∙ ap₂ (λ (b : Bool) (n : ℕ). cond b 1 0 + n) (same t) (same_count p q ts same)
+    ∙ sym (sum_by-cons (λ x. cond (q x) 1 0) t ts)
 
-    held_counts : (zs : List Scanned) → map (link_count defined) zs ≡ map count (map (λ (s : Scanned). s.held) zs)
-    held_counts [] = refl
-    held_counts (z ∷ zs) = ap (λ (ns : List ℕ). link_count defined z ∷ ns) (held_counts zs)
+-- two tests that agree count alike in each class
+same_counts : (p q : Text → Bool) (ss : List Scanned) → ((t : Text) → p t ≡ q t) → map (λ (s : Scanned). count_by p s.held) ss ≡ map (λ (s : Scanned). count_by q s.held) ss
+same_counts p q [] same = refl
+same_counts p q (s ∷ ss) same = ap₂ (λ (n : ℕ) (ns : List ℕ). n ∷ ns) (same_count p q s.held same) (same_counts p q ss same)
 
-pub counts_are : (f : Text → Text) (ss classes : List Scanned) (known known' : List Pair) (nodes nodes' : List (Option ℕ)) (counts : List ℕ) → IsBuilt f ss known nodes → AreAlike classes ss → known' ≡ known → nodes' ≡ nodes
-    → counts ≡ map (link_count (defined_of (firsts known') nodes')) classes → counts ≡ link_counts ss
-counts_are f ss classes known known' nodes nodes' counts b alike k n is =
+-- what is counted depends on the held names alone
+held_counts : (p : Text → Bool) (ss : List Scanned) → map (λ (s : Scanned). count_by p s.held) ss ≡ map (count_by p) (map (λ (s : Scanned). s.held) ss)
+held_counts p [] = refl
+held_counts p (s ∷ ss) = ap (λ (ns : List ℕ). count_by p s.held ∷ ns) (held_counts p ss)
+
+pub counts_are : (ss classes : List Scanned) (set : BTreeSet Text) (counts : List ℕ) → AreAlike classes ss → texts set ≡ ascending (defined_names classes)
+    → counts ≡ map (λ (s : Scanned). count_by (holds set) s.held) classes → counts ≡ link_counts ss
+counts_are ss classes set counts alike defined is =
     is
-    ∙ ap₂ (λ (ks : List Pair) (os : List (Option ℕ)). map (link_count (defined_of (firsts ks) os)) classes) k n
-    ∙ counted_alike (defined_of (firsts known) nodes) classes ss alike
-    ∙ ap (λ (ds : List Text). map (link_count ds) ss) b.defined
+    ∙ same_counts (holds set) (is_defined classes) classes (defined_test set classes defined)
+    ∙ held_counts (is_defined classes) classes
+    ∙ ap (map (count_by (is_defined classes))) alike.held
+    ∙ sym (held_counts (is_defined classes) ss)
+    ∙ ap (λ (ds : List Text). map (link_count (ascending ds)) ss) alike.defined
 
 pub graph_is : (renames : List Renaming) (ss : List Scanned) (known : List Pair) (nodes : List (Option ℕ)) (counts : List ℕ) → IsBuilt (cls renames) ss known nodes → counts ≡ link_counts ss
     → record { renames = renames; defined = defined_of (firsts known) nodes; names = firsts known; link_counts = counts } ≡ graph_of renames ss

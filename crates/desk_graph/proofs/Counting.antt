@@ -1,5 +1,5 @@
 -- How many defined names a class holds.
-use Rattle.std.proofs.Common.{◌≡◌, ℕ, ◌+◌, ◌<◌, ◌≢◌, Bool, true, false, cond, List, [], ◌∷◌, ◌++◌, length, take, get_or, Option, is_some, MatchOption, Ok, refl, sym, ap, ap₂, ◌∙◌, count_by, if◌then◌else◌, arith}
+use Rattle.std.proofs.Common.{◌≡◌, ℕ, ◌+◌, ◌<◌, ◌≢◌, Bool, true, false, cond, List, [], ◌∷◌, ◌++◌, length, take, get_or, Ok, refl, sym, ap, ◌∙◌, count_by, if◌then◌else◌, arith}
 use Rattle.std.specs.List.{filter, list_any, IsDistinct}
 use Rattle.std.specs.Str.{bytes_eq}
 use Rattle.std.specs.Ordering.{nat_cmp, eq_by_cmp}
@@ -15,7 +15,6 @@ use Rattle.std.proofs.lemmas.Slice.Eq.{bytes_eq-Decides}
 use Rattle.desk_base.proofs.Bools.{same_answer}
 use Rattle.desk_base.specs.Names.{Text}
 use Rattle.desk_format.specs.Classes.{Class, read_class}
-use Rattle.desk_packages.specs.Keys.{IsNowhere, IsPlaceOf}
 use Rattle.desk_class.specs.Held.{is_held, found_all, each_once, ascending, held_names}
 use Rattle.desk_class.proofs.Ascending.{ascending_sorted}
 use Rattle.desk_class.proofs.Named.{held_is}
@@ -23,12 +22,10 @@ use Rattle.desk_class.proofs.Once.{to_held, in_once, from_once}
 use Rattle.desk_graph.specs.Application.{defined_names, link_count}
 use Rattle.desk_graph.specs.Graphs.{is_held_in, places_held, links_of}
 use Rattle.desk_graph.specs.Scans.{scan_of}
-use Rattle.desk_graph.specs.Tables.{as_is}
 use Rattle.desk_graph.specs.declared.scanned.Scanned.{Scanned}
-use Rattle.desk_graph.proofs.Building.{from_filter, to_filter}
+use Rattle.desk_graph.proofs.Building.{from_filter, to_filter, same_count}
 use Rattle.desk_graph.proofs.Orders.{tested, from_tested}
 use Rattle.desk_graph.proofs.Sets.{distinct_by}
-use Rattle.desk_graph.proofs.Stranding.{is_among}
 
 -- whether a text is one of these
 abbrev one_of : List Text → Text → Bool
@@ -36,16 +33,12 @@ one_of ts t = list_any (bytes_eq t) ts
 
 -- ---- one more name
 
-module _ (defined held : List Text) (i : ℕ) (name : Text) (o : Option ℕ) (h : i < length held) (at : name ≡ get_or held i []) (found : MatchOption o (IsNowhere as_is defined name) (IsPlaceOf as_is defined name)) (n n' : ℕ)
-    (before : n ≡ count_by (one_of defined) (take i held)) where
-  passes : one_of defined (get_or held i []) ≡ is_some o
-  passes = ap (one_of defined) (sym at) ∙ is_among o defined name found
+module _ (test : Text → Bool) (held : List Text) (i : ℕ) (name : Text) (h : i < length held) (at : name ≡ get_or held i []) (n n' : ℕ) (before : n ≡ count_by test (take i held)) where
+  pub counted : test name ≡ true → n' ≡ n + 1 → n' ≡ count_by test (take (i + 1) held)
+  counted passes same = same ∙ ap (λ (k : ℕ). k + 1) before ∙ sym (count_by_more_yes test held i [] h (ap test (sym at) ∙ passes))
 
-  pub counted : is_some o ≡ true → n' ≡ n + 1 → n' ≡ count_by (one_of defined) (take (i + 1) held)
-  counted is_defined same = same ∙ ap (λ (k : ℕ). k + 1) before ∙ sym (count_by_more_yes (one_of defined) held i [] h (passes ∙ is_defined))
-
-  pub passed_over : is_some o ≡ false → n' ≡ n → n' ≡ count_by (one_of defined) (take (i + 1) held)
-  passed_over is_other same = same ∙ before ∙ sym (count_by_more_no (one_of defined) held i [] h (passes ∙ is_other))
+  pub passed_over : test name ≡ false → n' ≡ n → n' ≡ count_by test (take (i + 1) held)
+  passed_over fails same = same ∙ before ∙ sym (count_by_more_no test held i [] h (ap test (sym at) ∙ fails))
 
 -- ---- texts that stand once each
 
@@ -86,14 +79,6 @@ either_side xs ys a b =
     (λ q. same_answer (one_of (filter (one_of ys) xs) q) (one_of (filter (one_of xs) ys) q) (both_in xs ys q) (both_in ys xs q))
     ∙ length-filter (one_of xs) ys
 
--- two tests that agree count alike
-counted_alike : (p q : Text → Bool) (ts : List Text) → ((t : Text) → p t ≡ q t) → count_by p ts ≡ count_by q ts
-counted_alike p q [] same = refl
-counted_alike p q (t ∷ ts) same =
-    sum_by-cons (λ x. cond (p x) 1 0) t ts
-    ∙ ap₂ (λ (b : Bool) (n : ℕ). cond b 1 0 + n) (same t) (counted_alike p q ts same)
-    ∙ sym (sum_by-cons (λ x. cond (q x) 1 0) t ts)
-
 -- as many places as names that pass
 places_counted : (held : Text → Bool) (k : ℕ) (ds : List Text) → count_by held ds ≡ length (places_held held k ds)
 places_counted held k [] = refl
@@ -112,7 +97,7 @@ links_counted ss bytes path selected c reads =
     let names = held_names c in
     let defined = ascending (defined_names ss) in
     either_side (each_once names) defined (once_apart names) (ascending_apart (defined_names ss))
-    ∙ counted_alike (one_of (each_once names)) (one_of names) defined (λ t. same_answer (one_of (each_once names) t) (one_of names t)
+    ∙ same_count (one_of (each_once names)) (one_of names) defined (λ t. same_answer (one_of (each_once names) t) (one_of names t)
     (λ e. tested names t (from_once names t (from_tested (each_once names) t e))) (λ e. tested (each_once names) t (in_once names t (from_tested names t e))))
     ∙ ap (λ (ns : List Text). count_by (one_of ns) defined) (sym (held_is bytes c reads))
     ∙ places_counted (is_held_in bytes) 0 defined

@@ -12,7 +12,7 @@ ghost use Rattle.desk_graph.specs.declared.graph.GraphFault.TheVariants as graph
 use crate::clashes::first_clash;
 use crate::counts::count_links;
 use crate::known::{NameAndImage, known_of};
-use crate::names::{all_names, held_in_order};
+use crate::names::{all_names, defined_in, held_in_order};
 use crate::nodes::{node_in, nodes_of};
 use crate::scanned::{Scanned, without_paths};
 use crate::stranded::first_stranded;
@@ -94,7 +94,8 @@ impl<'r> ClassGraph<'r> {
         let kept = without_paths(alloc, scanned);
         let classes = kept.as_slice();
         let names = all_names(alloc, classes)?;
-        let nodes = nodes_of(alloc, names.as_slice(), classes)?;
+        let defined = defined_in(alloc, classes)?;
+        let nodes = nodes_of(alloc, names.as_slice(), &defined)?;
         let known = known_of(alloc, rules, names)?;
         if let Some(clash) = first_clash(alloc, known.as_slice(), nodes.as_slice())? {
             return Err(GraphFault::NameClash {
@@ -109,7 +110,7 @@ impl<'r> ClassGraph<'r> {
                 name: Text::from_bytes(alloc, one.name)?,
             });
         }
-        let counts = count_links(alloc, known.as_slice(), nodes.as_slice(), classes)?;
+        let counts = count_links(alloc, &defined, classes)?;
         Ok(ClassGraph {
             rules,
             known,

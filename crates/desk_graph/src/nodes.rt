@@ -2,21 +2,20 @@
 
 ghost use Rattle.std.specs.Prelude.{◌≡◌, IfOk, MatchOption};
 ghost use Rattle.desk_packages.specs.Keys.{IsNowhere, IsPlaceOf};
-ghost use Rattle.desk_graph.specs.Tables.{as_is, holds, is_defined};
+ghost use Rattle.desk_graph.specs.Tables.{as_is, holds};
 ghost use Rattle.desk_graph.specs.Nodes.{IsTable, firsts, defined_of, nodes_from};
 
 use crate::known::NameAndImage;
 use crate::name::Name;
-use crate::names::{defined_in, holds};
-use crate::scanned::Scanned;
+use crate::names::holds;
 use desk_base::Memory;
 use desk_class::Marked;
 use desk_packages::place_of;
 use std::alloc::Global;
 use std::collections::BTreeSet;
 
-/// Of names in byte order, the number of each that a set holds, counted from 0.
-fn numbers_of<'a>(
+/// Of names in byte order, the number of each that a set holds, counted from 0. The only error is want of memory.
+pub fn nodes_of<'a>(
     alloc: Global,
     names: &[Name<'a>],
     defined: &BTreeSet<Marked<'a>>,
@@ -34,18 +33,6 @@ fn numbers_of<'a>(
         }
     }
     Ok(nodes)
-}
-
-/// Of names in byte order, the number of each that a class defines, counted from 0.
-pub fn nodes_of<'a>(
-    alloc: Global,
-    names: &[Name<'a>],
-    classes: &'a [Scanned],
-) -> Result<Vec<Option<u32>>, Memory>
-    ensures { IfOk result (λ nodes. nodes.items ≡ nodes_from (is_defined classes.now) 0 names.now) }
-{
-    let defined = defined_in(alloc, classes)?;
-    numbers_of(alloc, names, &defined)
 }
 
 /// Where a name stands among the defined names, if it is one.

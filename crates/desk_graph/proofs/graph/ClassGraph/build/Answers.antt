@@ -13,27 +13,21 @@ use Rattle.desk_graph.proofs.graph.ClassGraph.build.Goals as goal
 
 pub first_clash-requires : goal.first_clash-requires
 first_clash-requires c =
-    let b = built (cls c.args.rules.now.renames) c.args.scanned.items c.as_slice-classes.result.now c.in_ok-names.names.items c.as_slice.result.now c.in_ok-known.known.items c.in_ok-nodes.nodes.items (rw c.as_slice-classes.ensures.value c.without_paths-kept.ensures)
-    c.in_ok-names.ensures c.in_ok-known.ensures c.as_slice.ensures.value c.in_ok-nodes.ensures in
+    let b = built (cls c.args.rules.now.renames) c.args.scanned.items c.as_slice-classes.result.now c.in_ok-defined.defined c.in_ok-names.names.items c.as_slice.result.now c.in_ok-known.known.items c.in_ok-nodes.nodes.items (rw c.as_slice-classes.ensures.value c.without_paths-kept.ensures)
+    c.in_ok-defined.ensures c.in_ok-names.ensures c.in_ok-known.ensures c.as_slice.ensures.value c.in_ok-nodes.ensures in
     rw (c.as_slice-2.ensures.value, c.as_slice-3.ensures.value) b.table
 
 pub first_stranded-requires : goal.first_stranded-requires
 first_stranded-requires c =
-    let b = built (cls c.args.rules.now.renames) c.args.scanned.items c.as_slice-classes.result.now c.in_ok-names.names.items c.as_slice.result.now c.in_ok-known.known.items c.in_ok-nodes.nodes.items (rw c.as_slice-classes.ensures.value c.without_paths-kept.ensures)
-    c.in_ok-names.ensures c.in_ok-known.ensures c.as_slice.ensures.value c.in_ok-nodes.ensures in
+    let b = built (cls c.args.rules.now.renames) c.args.scanned.items c.as_slice-classes.result.now c.in_ok-defined.defined c.in_ok-names.names.items c.as_slice.result.now c.in_ok-known.known.items c.in_ok-nodes.nodes.items (rw c.as_slice-classes.ensures.value c.without_paths-kept.ensures)
+    c.in_ok-defined.ensures c.in_ok-names.ensures c.in_ok-known.ensures c.as_slice.ensures.value c.in_ok-nodes.ensures in
     rw (c.as_slice-4.ensures.value, c.as_slice-5.ensures.value) b.table
-
-pub count_links-requires : goal.count_links-requires
-count_links-requires c =
-    let b = built (cls c.args.rules.now.renames) c.args.scanned.items c.as_slice-classes.result.now c.in_ok-names.names.items c.as_slice.result.now c.in_ok-known.known.items c.in_ok-nodes.nodes.items (rw c.as_slice-classes.ensures.value c.without_paths-kept.ensures)
-    c.in_ok-names.ensures c.in_ok-known.ensures c.as_slice.ensures.value c.in_ok-nodes.ensures in
-    rw (c.as_slice-6.ensures.value, c.as_slice-7.ensures.value) b.table
 
 pub returns-in-Some-clause-fault : goal.returns-in-Some-clause-fault
 returns-in-Some-clause-fault c =
     let f = cls c.args.rules.now.renames in
-    let b = built (cls c.args.rules.now.renames) c.args.scanned.items c.as_slice-classes.result.now c.in_ok-names.names.items c.as_slice.result.now c.in_ok-known.known.items c.in_ok-nodes.nodes.items (rw c.as_slice-classes.ensures.value c.without_paths-kept.ensures)
-    c.in_ok-names.ensures c.in_ok-known.ensures c.as_slice.ensures.value c.in_ok-nodes.ensures in
+    let b = built (cls c.args.rules.now.renames) c.args.scanned.items c.as_slice-classes.result.now c.in_ok-defined.defined c.in_ok-names.names.items c.as_slice.result.now c.in_ok-known.known.items c.in_ok-nodes.nodes.items (rw c.as_slice-classes.ensures.value c.without_paths-kept.ensures)
+    c.in_ok-defined.ensures c.in_ok-names.ensures c.in_ok-known.ensures c.as_slice.ensures.value c.in_ok-nodes.ensures in
     let pair = (clash_told f c.args.scanned.items c.in_ok-known.known.items c.as_slice-2.result.now c.in_ok-nodes.nodes.items c.as_slice-3.result.now c.in_ok-clash.field-0 b c.as_slice-2.ensures.value c.as_slice-3.ensures.value c.in_ok-clash.ensures.pair) in
     let by : IsKnownBy f c.as_slice-2.result.now = rw c.as_slice-2.ensures.value b.images in
     let there = at_some (λ (k : NameClash). Contains c.as_slice-2.result.now k.defined.now) c.in_ok-clash.field-0 c.in-Some.clash c.in-Some.is c.in_ok-clash.ensures.known in
@@ -44,8 +38,8 @@ returns-in-Some-clause-fault c =
 pub returns-in-Some-first_stranded-clause-fault : goal.returns-in-Some-first_stranded-clause-fault
 returns-in-Some-first_stranded-clause-fault c =
     let f = cls c.args.rules.now.renames in
-    let b = built (cls c.args.rules.now.renames) c.args.scanned.items c.as_slice-classes.result.now c.in_ok-names.names.items c.as_slice.result.now c.in_ok-known.known.items c.in_ok-nodes.nodes.items (rw c.as_slice-classes.ensures.value c.without_paths-kept.ensures)
-    c.in_ok-names.ensures c.in_ok-known.ensures c.as_slice.ensures.value c.in_ok-nodes.ensures in
+    let b = built (cls c.args.rules.now.renames) c.args.scanned.items c.as_slice-classes.result.now c.in_ok-defined.defined c.in_ok-names.names.items c.as_slice.result.now c.in_ok-known.known.items c.in_ok-nodes.nodes.items (rw c.as_slice-classes.ensures.value c.without_paths-kept.ensures)
+    c.in_ok-defined.ensures c.in_ok-names.ensures c.in_ok-known.ensures c.as_slice.ensures.value c.in_ok-nodes.ensures in
     stranding_found f c.args.scanned.items c.first_stranded.result c.in-Some-first_stranded.one c.in_ok-from_bytes-4.field-0 c.in_ok-from_bytes-5.field-0 c.in-Some-first_stranded.is
     (stranding_told f c.args.scanned.items c.as_slice-classes.result.now c.in_ok-known.known.items c.as_slice-4.result.now c.in_ok-nodes.nodes.items c.as_slice-5.result.now c.first_stranded.result b (rw c.as_slice-classes.ensures.value c.without_paths-kept.ensures) c.as_slice-4.ensures.value c.as_slice-5.ensures.value c.first_stranded.ensures)
     (sym (clash_told f c.args.scanned.items c.in_ok-known.known.items c.as_slice-2.result.now c.in_ok-nodes.nodes.items c.as_slice-3.result.now c.in_ok-clash.field-0 b c.as_slice-2.ensures.value c.as_slice-3.ensures.value c.in_ok-clash.ensures.pair) ∙ ap (option_map clash_pair) c.in_default.is)
@@ -53,30 +47,29 @@ returns-in-Some-first_stranded-clause-fault c =
 
 pub invariant_of-result : goal.invariant_of-result
 invariant_of-result c =
-    let b = built (cls c.args.rules.now.renames) c.args.scanned.items c.as_slice-classes.result.now c.in_ok-names.names.items c.as_slice.result.now c.in_ok-known.known.items c.in_ok-nodes.nodes.items (rw c.as_slice-classes.ensures.value c.without_paths-kept.ensures)
-    c.in_ok-names.ensures c.in_ok-known.ensures c.as_slice.ensures.value c.in_ok-nodes.ensures in
+    let b = built (cls c.args.rules.now.renames) c.args.scanned.items c.as_slice-classes.result.now c.in_ok-defined.defined c.in_ok-names.names.items c.as_slice.result.now c.in_ok-known.known.items c.in_ok-nodes.nodes.items (rw c.as_slice-classes.ensures.value c.without_paths-kept.ensures)
+    c.in_ok-defined.ensures c.in_ok-names.ensures c.in_ok-known.ensures c.as_slice.ensures.value c.in_ok-nodes.ensures in
     graph_made c.args.rules.now.renames c.args.scanned.items c.in_ok-known.known.items c.in_ok-nodes.nodes.items b c.requires
 
 pub returns-clause-graph : goal.returns-clause-graph
 returns-clause-graph c =
-    let b = built (cls c.args.rules.now.renames) c.args.scanned.items c.as_slice-classes.result.now c.in_ok-names.names.items c.as_slice.result.now c.in_ok-known.known.items c.in_ok-nodes.nodes.items (rw c.as_slice-classes.ensures.value c.without_paths-kept.ensures)
-    c.in_ok-names.ensures c.in_ok-known.ensures c.as_slice.ensures.value c.in_ok-nodes.ensures in
+    let b = built (cls c.args.rules.now.renames) c.args.scanned.items c.as_slice-classes.result.now c.in_ok-defined.defined c.in_ok-names.names.items c.as_slice.result.now c.in_ok-known.known.items c.in_ok-nodes.nodes.items (rw c.as_slice-classes.ensures.value c.without_paths-kept.ensures)
+    c.in_ok-defined.ensures c.in_ok-names.ensures c.in_ok-known.ensures c.as_slice.ensures.value c.in_ok-nodes.ensures in
     graph_is c.args.rules.now.renames c.args.scanned.items c.in_ok-known.known.items c.in_ok-nodes.nodes.items c.in_ok-counts.counts.items b
-    (counts_are (cls c.args.rules.now.renames) c.args.scanned.items c.as_slice-classes.result.now c.in_ok-known.known.items c.as_slice-6.result.now c.in_ok-nodes.nodes.items c.as_slice-7.result.now c.in_ok-counts.counts.items b
-    (rw c.as_slice-classes.ensures.value c.without_paths-kept.ensures) c.as_slice-6.ensures.value c.as_slice-7.ensures.value c.in_ok-counts.ensures)
+    (counts_are c.args.scanned.items c.as_slice-classes.result.now c.in_ok-defined.defined c.in_ok-counts.counts.items (rw c.as_slice-classes.ensures.value c.without_paths-kept.ensures) c.in_ok-defined.ensures c.in_ok-counts.ensures)
 
 no_clash_found : (c : goal.After-drop-kept-2) → name_clash (cls c.args.rules.now.renames) c.args.scanned.items ≡ None
 no_clash_found c =
     let f = cls c.args.rules.now.renames in
-    let b = built (cls c.args.rules.now.renames) c.args.scanned.items c.as_slice-classes.result.now c.in_ok-names.names.items c.as_slice.result.now c.in_ok-known.known.items c.in_ok-nodes.nodes.items (rw c.as_slice-classes.ensures.value c.without_paths-kept.ensures)
-    c.in_ok-names.ensures c.in_ok-known.ensures c.as_slice.ensures.value c.in_ok-nodes.ensures in
+    let b = built (cls c.args.rules.now.renames) c.args.scanned.items c.as_slice-classes.result.now c.in_ok-defined.defined c.in_ok-names.names.items c.as_slice.result.now c.in_ok-known.known.items c.in_ok-nodes.nodes.items (rw c.as_slice-classes.ensures.value c.without_paths-kept.ensures)
+    c.in_ok-defined.ensures c.in_ok-names.ensures c.in_ok-known.ensures c.as_slice.ensures.value c.in_ok-nodes.ensures in
     sym (clash_told f c.args.scanned.items c.in_ok-known.known.items c.as_slice-2.result.now c.in_ok-nodes.nodes.items c.as_slice-3.result.now c.in_ok-clash.field-0 b c.as_slice-2.ensures.value c.as_slice-3.ensures.value c.in_ok-clash.ensures.pair) ∙ ap (option_map clash_pair) c.in_default.is
 
 no_stranding_found : (c : goal.After-drop-kept-2) → stranded (cls c.args.rules.now.renames) c.args.scanned.items ≡ None
 no_stranding_found c =
     let f = cls c.args.rules.now.renames in
-    let b = built (cls c.args.rules.now.renames) c.args.scanned.items c.as_slice-classes.result.now c.in_ok-names.names.items c.as_slice.result.now c.in_ok-known.known.items c.in_ok-nodes.nodes.items (rw c.as_slice-classes.ensures.value c.without_paths-kept.ensures)
-    c.in_ok-names.ensures c.in_ok-known.ensures c.as_slice.ensures.value c.in_ok-nodes.ensures in
+    let b = built (cls c.args.rules.now.renames) c.args.scanned.items c.as_slice-classes.result.now c.in_ok-defined.defined c.in_ok-names.names.items c.as_slice.result.now c.in_ok-known.known.items c.in_ok-nodes.nodes.items (rw c.as_slice-classes.ensures.value c.without_paths-kept.ensures)
+    c.in_ok-defined.ensures c.in_ok-names.ensures c.in_ok-known.ensures c.as_slice.ensures.value c.in_ok-nodes.ensures in
     sym (stranding_told f c.args.scanned.items c.as_slice-classes.result.now c.in_ok-known.known.items c.as_slice-4.result.now c.in_ok-nodes.nodes.items c.as_slice-5.result.now c.first_stranded.result b (rw c.as_slice-classes.ensures.value c.without_paths-kept.ensures) c.as_slice-4.ensures.value c.as_slice-5.ensures.value c.first_stranded.ensures) ∙ ap (option_map stranding_pair) c.in_default-first_stranded.is
 
 pub returns-clause-no_clash : goal.returns-clause-no_clash
