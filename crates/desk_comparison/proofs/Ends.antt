@@ -1,6 +1,6 @@
 -- The answer from what was read and made.
-use Rattle.std.proofs.Common.{All, ◌≡◌, ◌≤◌, ℕ, Bool, true, List, [], ◌∷◌, length, map, Option, Some, None, Result, Ok, Err, refl, sym, ap, ap₂, ◌∙◌, subst, IfSome}
-use Rattle.std.specs.Prelude.{IfErr, OnOk, if◌then◌else◌}
+use Rattle.std.proofs.Common.{All, ◌≡◌, ◌≤◌, ℕ, Bool, true, List, [], ◌∷◌, length, map, Option, Some, None, Ok, Err, refl, sym, ap, ap₂, ◌∙◌, subst, IfSome}
+use Rattle.std.specs.Prelude.{if◌then◌else◌}
 use Rattle.std.proofs.lemmas.List.{length-map}
 use Rattle.desk_base.specs.Counts.{Rose-earlier}
 use Rattle.desk_base.specs.Names.{Text}
@@ -64,17 +64,20 @@ rules_halt rules from other told f f' halt.Ledger g = absurd g
 rules_halt rules from other told f f' (halt.Answer status) g =
     (rules_comparison status g.0, if_some _ told (λ m t. ap (comparison_by from other m) (at_some (λ m. ruled rules (files_below rules m) ≡ Err status) told m t g.1)))
 
--- what stands against the classes of files that were read
-pub classes_clear : {T : Type 0} (rules : Rules) (files : List SourceFile) (classes : List Scanned) (result : Result T Halt) → All (IsRouted rules) files → classes ≡ scans_of files
-    → OnOk result (names_answer (cls rules.renames) classes ≡ None) → OnOk result (classes_answer rules (files_of files) ≡ None)
-classes_clear rules files classes (Ok x) routed are e = ap (names_answer (cls rules.renames)) (sym (are ∙ scans_same rules files routed)) ∙ e
-classes_clear rules files classes (Err x) routed are e = tt
+-- what stands against the classes of files that were read, and their graph
+module _ (rules : Rules) (files : List SourceFile) (classes : List Scanned) (are : classes ≡ scans_of files) where
+  pub graph_built : (graph : Graph) → graph ≡ graph_of rules.renames classes → graph ≡ graph_of rules.renames (scans_of files)
+  graph_built graph e = e ∙ ap (graph_of rules.renames) are
 
-pub classes_halts : {T : Type 0} (rules : Rules) (files : List SourceFile) (classes : List Scanned) (result : Result T Halt) → All (IsRouted rules) files → classes ≡ scans_of files
-    → IfErr result (HaltsAtNames (names_answer (cls rules.renames) classes)) → IfErr result (HaltsMaking (classes_answer rules (files_of files)))
-classes_halts rules files classes (Ok x) routed are e = tt
-classes_halts rules files classes (Err h) routed are e =
-    names_making (classes_answer rules (files_of files)) h (subst (λ (ss : List Scanned). HaltsAtNames (names_answer (cls rules.renames) ss) h) (are ∙ scans_same rules files routed) e)
+  module _ (routed : All (IsRouted rules) files) where
+    named_same : names_answer (cls rules.renames) classes ≡ classes_answer rules (files_of files)
+    named_same = ap (names_answer (cls rules.renames)) (are ∙ scans_same rules files routed)
+
+    pub classes_clear : names_answer (cls rules.renames) classes ≡ None → classes_answer rules (files_of files) ≡ None
+    classes_clear e = sym named_same ∙ e
+
+    pub classes_making : (h : Halt) → HaltsAtNames (names_answer (cls rules.renames) classes) h → HaltsMaking (classes_answer rules (files_of files)) h
+    classes_making h e = names_making (classes_answer rules (files_of files)) h (subst (λ (o : Option Status). HaltsAtNames o h) named_same e)
 
 -- what is made of others that were read
 others_same : (others : List GenFile) → map as_compared (map file_in others) ≡ others

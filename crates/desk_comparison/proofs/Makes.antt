@@ -13,7 +13,6 @@ use Rattle.desk_base.specs.Limits.{file_size}
 use Rattle.desk_compare.specs.Verdicts.{IsShort, paths_of}
 use Rattle.std.proofs.lemmas.List.{map-append}
 use Rattle.desk_base.specs.Names.{Text}
-use Rattle.desk_file.specs.ClassScans.{one_scanned}
 use Rattle.desk_file.specs.Images.{target}
 use Rattle.desk_file.specs.Linked.{image_in}
 use Rattle.desk_file.specs.declared.routes.Route.{Route}
@@ -28,11 +27,12 @@ use Rattle.desk_report.specs.declared.status.Status.{Status}
 use Rattle.desk_report.specs.declared.status.Status.TheVariants.{Limit}
 use Rattle.desk_rules.specs.Rules.{Rules}
 use Rattle.desk_second.specs.Applications.{classes_of, scanned_file}
-use Rattle.desk_comparison.specs.Files.{IsRouted, file_of, files_of, scans_of}
+use Rattle.desk_comparison.specs.Files.{IsRouted, file_of, files_of, scans_of, source_of}
 use Rattle.desk_comparison.specs.Halts.{HaltsMaking}
 use Rattle.desk_comparison.specs.Images.{Images, Imaging, as_file, image_answer, is_refused, is_too_large, refusal_of, refusals, some_refused, with_image, with_images}
 use Rattle.desk_comparison.specs.Makings.{MadeBy, MakesOne}
 use Rattle.desk_comparison.specs.declared.made.Made.{Made}
+use Rattle.desk_comparison.specs.declared.noting.NotedFile.{NotedFile}
 use Rattle.desk_comparison.specs.declared.reading.SourceFile.{SourceFile}
 
 -- ---- classes
@@ -45,22 +45,11 @@ scans_same rules (file ∷ files) h =
     (ap (λ (r : Route). scanned_route r file.content) (All-head (IsRouted rules) file files h) ∙ scanned_routed rules file.route.path file.content)
     ∙ ap (λ (ss : List Scanned). scanned_file rules (file_of file) ++ ss) (scans_same rules files (All-tail (IsRouted rules) file files h))
 
-scans_behind : (files : List SourceFile) (file : SourceFile) → scans_of (files ++ file ∷ []) ≡ scans_of files ++ scanned_route file.route file.content
+pub scans_behind : (files : List SourceFile) (file : SourceFile) → scans_of (files ++ file ∷ []) ≡ scans_of files ++ scanned_route file.route file.content
 scans_behind [] file = append-nil (scanned_route file.route file.content)
 scans_behind (first ∷ files) file =
     ap (λ (ss : List Scanned). scanned_route first.route first.content ++ ss) (scans_behind files file)
     ∙ sym (append_assoc (scanned_route first.route first.content) (scans_of files) (scanned_route file.route file.content))
-
--- one class more, or none
-pub scans_none : (files : List SourceFile) (file : SourceFile) (classes : List Scanned) (found : Option Scanned) → classes ≡ scans_of files → one_scanned found ≡ scanned_route file.route file.content → found ≡ None
-    → classes ≡ scans_of (files ++ file ∷ [])
-scans_none files file classes found e is none =
-    e ∙ sym (scans_behind files file ∙ ap (λ (ss : List Scanned). scans_of files ++ ss) (sym is ∙ ap one_scanned none) ∙ append-nil (scans_of files))
-
-pub scans_some : (files : List SourceFile) (file : SourceFile) (classes new : List Scanned) (found : Option Scanned) (class : Scanned) → classes ≡ scans_of files → one_scanned found ≡ scanned_route file.route file.content → found ≡ Some class
-    → new ≡ classes ++ class ∷ [] → new ≡ scans_of (files ++ file ∷ [])
-scans_some files file classes new found class e is some grown =
-    grown ∙ ap (λ (ss : List Scanned). ss ++ class ∷ []) e ∙ sym (scans_behind files file ∙ ap (λ (ss : List Scanned). scans_of files ++ ss) (sym is ∙ ap one_scanned some))
 
 -- ---- images
 
@@ -122,11 +111,11 @@ making_later image gone rest file all (halt.Answer status) split fit g =
       here true e = e
       here false e = absurd cc
 
-pub files_split : (all gone rest : List SourceFile) (file : SourceFile) → all ≡ gone ++ file ∷ rest → files_of all ≡ files_of gone ++ file_of file ∷ files_of rest
-files_split all gone rest file e = ap files_of e ∙ map-append file_of gone (file ∷ rest)
+pub files_split : (all gone rest : List NotedFile) (file : NotedFile) → all ≡ gone ++ file ∷ rest → files_of (map source_of all) ≡ files_of (map source_of gone) ++ file_of file.file ∷ files_of (map source_of rest)
+files_split all gone rest file e = ap (λ (fs : List NotedFile). files_of (map source_of fs)) e ∙ ap files_of (map-append source_of gone (file ∷ rest)) ∙ map-append file_of (map source_of gone) (file.file ∷ map source_of rest)
 
-pub files_more : (files : List SourceFile) (file : SourceFile) → files_of (files ++ file ∷ []) ≡ files_of files ++ file_of file ∷ []
-files_more files file = map-append file_of files (file ∷ [])
+pub files_more : (files : List NotedFile) (file : NotedFile) → files_of (map source_of (files ++ file ∷ [])) ≡ files_of (map source_of files) ++ file_of file.file ∷ []
+files_more files file = ap files_of (map-append source_of files (file ∷ [])) ∙ map-append file_of (map source_of files) (file.file ∷ [])
 
 -- ---- images in order
 

@@ -1,7 +1,7 @@
 -- Files that were read whole.
-use Rattle.std.specs.Prelude.{◌≡◌, ℕ, List, [], ◌∷◌, ◌++◌, None, map}
+use Rattle.std.specs.Prelude.{◌≡◌, ℕ, true, List, [], ◌∷◌, ◌++◌, None, map, IsOkAnd}
 use Rattle.desk_base.specs.Names.{Text}
-use Rattle.desk_file.specs.Routes.{IsRouteBy}
+use Rattle.desk_file.specs.Routes.{IsRouteBy, image_along}
 use Rattle.desk_file.specs.declared.routes.Route.{Route}
 use Rattle.desk_folders.specs.Contents.{Contents, File, file_at}
 use Rattle.desk_folders.specs.declared.folders.GenFile.{GenFile}
@@ -9,6 +9,7 @@ use Rattle.desk_graph.specs.declared.scanned.Scanned.{Scanned}
 use Rattle.desk_readings.specs.Readings.{scanned_route}
 use Rattle.desk_rules.specs.Rules.{Rules}
 use Rattle.desk_comparison.specs.Sizes.{room_answer, room_behind}
+use Rattle.desk_comparison.specs.declared.noting.NotedFile.{NotedFile}
 use Rattle.desk_comparison.specs.declared.reading.SourceFile.{SourceFile}
 
 -- a file of the application that is migrated
@@ -32,6 +33,18 @@ route_in source = source.route
 -- the route of a file is that of its path
 abbrev pub IsRouted : Rules → SourceFile → Type 0
 IsRouted rules source = IsRouteBy rules source.route
+
+-- a file of which something was noted
+abbrev pub source_of : NotedFile → SourceFile
+source_of noted = noted.file
+
+-- In each application a file keeps its bytes.
+abbrev pub KeepsBytes : Rules → SourceFile → Type 0
+KeepsBytes rules source = (defined : List Text) → IsOkAnd (image_along rules defined source.route source.content) (λ image. image.bytes ≡ source.content)
+
+-- A file that is noted as unchanged keeps its bytes.
+abbrev pub IsNoted : Rules → NotedFile → Type 0
+IsNoted rules noted = noted.unchanged ≡ true → KeepsBytes rules noted.file
 
 -- a file of the application that it is compared with
 abbrev pub as_compared : File → GenFile

@@ -11,14 +11,15 @@ ghost use Rattle.desk_comparison.specs.Makings.{told_of};
 ghost use Rattle.desk_compare.specs.Verdicts.{IsShort, paths_of};
 
 use crate::MAX_BOTH;
-use crate::images::{graph_of_files, list_images, make_images};
+use crate::images::{list_images, make_images};
 use crate::made::Made;
+use crate::noting::note_files;
 use crate::reading::{read_other, read_source};
 use crate::telling::{verdict_status, verdict_text};
 use desk_base::{Memory, Text};
 use desk_compare::compare;
 use desk_folders::{Folders, GenFile};
-use desk_intake::{Halt, read_rules};
+use desk_intake::{Halt, build_graph, read_rules};
 use desk_report::Status;
 use desk_rules::RuleSet;
 use std::alloc::Global;
@@ -72,9 +73,10 @@ fn compare_under<F: Folders>(
 {
     let mut room = MAX_BOTH;
     let source = read_source(alloc, folders, rules, from, &mut room)?;
-    let graph = graph_of_files(alloc, rules, &source)?;
+    let noted = note_files(alloc, rules, source)?;
+    let graph = build_graph(alloc, rules, noted.classes)?;
     let others = read_other(alloc, folders, other, &mut room)?;
-    let made = make_images(alloc, rules, &graph, source)?;
+    let made = make_images(alloc, rules, &graph, noted.files)?;
     Ok(comparison_of(alloc, made, &others)?)
 }
 

@@ -11,6 +11,7 @@
 mod comparing;
 mod images;
 mod made;
+mod noting;
 mod reading;
 mod telling;
 
