@@ -9,3 +9,4 @@ pub mod Unchanged
 pub mod Printed
 pub mod Making
 pub mod Numbered
+pub mod Listing

@@ -27,7 +27,7 @@ use crate::table::{ImageTable, all_images};
 use crate::wants::wanted_texts;
 use desk_base::{Memory, Text};
 use desk_class::ClassView;
-use desk_new_pool::{NewPoolFault, TwinPlaces, WantedText, first_twins, split};
+use desk_new_pool::{NewPoolFault, TwinPlaces, WantedTexts, first_twins, split};
 use desk_rename::Images;
 use desk_rules::RuleSet;
 use std::alloc::Global;
@@ -103,7 +103,7 @@ fn new_class(
     alloc: Global,
     view: &ClassView<'_>,
     table: &ImageTable,
-    wants: &[WantedText<'_>],
+    wants: &WantedTexts<'_>,
 ) -> Result<(Text, u32), RewriteFault>
     requires shaped { IsShaped false (pool_in view.now) }
     requires few { length (uses_in view.now) < 2 ^ 32 }
