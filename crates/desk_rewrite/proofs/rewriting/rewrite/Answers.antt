@@ -30,8 +30,8 @@ all_images-requires-clause-few g c =
     let k : IsKnown c.args.view.now = known c.args.view.now c.bytes_of-bytes.ensures.each c.bytes_of-bytes.ensures.sound in
     subst (λ (us : List Used). length us < 2 ^ 32) (sym c.uses.ensures) (k.few c.bytes_of-bytes.ensures.short)
 
-pub renamed_uses-requires : goal.renamed_uses-requires
-renamed_uses-requires g c =
+pub renamed_uses-renamed-requires : goal.renamed_uses-renamed-requires
+renamed_uses-renamed-requires g c =
     let k : IsKnown c.args.view.now = known c.args.view.now c.bytes_of-bytes.ensures.each c.bytes_of-bytes.ensures.sound in
     wants_few c.in_ok-wants.wants (uses_in c.args.view.now) (c.in_ok-wants.ensures.used ∙ c.uses-else-is_empty.ensures) (k.few c.bytes_of-bytes.ensures.short)
 
@@ -74,7 +74,7 @@ returns-clause-renamed g c = λ d e.
       | else-is_empty+in_ok-wants+in_ok-bytes v ↦
           let w : IsWantedIn (images_of c.args.rules.now) d v.in_ok-wants.wants c.in_ok-table.table
           = wanted_in (images_of c.args.rules.now) c.args.view.now d c.in_ok-table.table v.in_ok-wants.wants c.pool.result.now.entries c.uses.result.now v.uses-else-is_empty.result.now e c.pool.ensures.entries c.uses.ensures v.uses-else-is_empty.ensures c.in_ok-table.ensures v.in_ok-wants.ensures.used v.in_ok-wants.ensures.each in
-          ap (λ (x : (List ℕ × ℕ) × ℕ). x.1) v.bytes-is ∙ v.renamed_uses.ensures ∙ renamed_are (images_of c.args.rules.now) d.pool (class_uses d) v.in_ok-wants.wants w.wants.used w.wants.each
+          ap (λ (x : (List ℕ × ℕ) × ℕ). x.1) v.bytes-is ∙ v.renamed_uses-renamed.ensures ∙ renamed_are (images_of c.args.rules.now) d.pool (class_uses d) v.in_ok-wants.wants w.wants.used w.wants.each
     ]
 
 pub returns-clause-bytes : goal.returns-clause-bytes
