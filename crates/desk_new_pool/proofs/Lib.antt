@@ -10,3 +10,4 @@ pub mod Paired
 pub mod Printed
 pub mod PoolBytes
 pub mod Bodies
+pub mod Listed

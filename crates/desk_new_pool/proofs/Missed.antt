@@ -1,19 +1,20 @@
 -- The missing texts, from the last use to the first.
-use Rattle.std.proofs.Common.{◌≡◌, ℕ, ◌+◌, ◌-◌, ◌<◌, ◌≤◌, false, cond, List, [], ◌∷◌, map, length, get_or, drop, Option, Some, refl, ap, sym, ◌∙◌, bytes_eq, arith}
+use Rattle.std.proofs.Common.{◌≡◌, ℕ, ◌-◌, ◌<◌, Bool, true, false, cond, List, [], ◌∷◌, map, drop, Option, Some, None, refl, ap, sym, ◌∙◌, bytes_eq}
 use denote.Ref.{Bor}
-use Rattle.std.specs.Option.{is_some}
+use Rattle.std.specs.List.{slice_get}
+use Rattle.std.specs.Option.{is_some, option_copied}
 use Rattle.std.specs.Ordering.{nat_cmp, is_lt, is_eq, match_ordering}
 use Rattle.std.specs.declared.cmp.Ordering.{Ordering}
 use Rattle.std.specs.declared.cmp.Ordering.TheVariants.{Less, Equal, Greater}
 use Rattle.std.specs.Cmp.Lexicographic.{slice_cmp}
 use Rattle.std.specs.BTreeSet.{BTreeSet, insert_key}
-use Rattle.std.proofs.lemmas.List.{drop_more}
 use Rattle.std.proofs.lemmas.Map.Text.{is_eq-slice_cmp}
 use Rattle.std.proofs.lemmas.Cmp.{nat_list_eq_equiv}
 use Rattle.desk_base.specs.Names.{Text}
 use Rattle.desk_format.specs.Split.{add}
 use Rattle.desk_new_pool.specs.Places.{least, not_kept, with_missing, missing_among, in_set}
 use Rattle.desk_new_pool.specs.declared.wants.WantedText.{WantedText}
+use Rattle.desk_new_pool.proofs.Long.{from_place}
 
 -- ---- a text put into a set
 
@@ -33,13 +34,25 @@ set_put s n k e = ap (λ (ks : List (Bor Text)). map (λ x. x.now) ks) e ∙ put
 
 -- ---- one use before the others
 
+-- a text that isn't there
+pub never_there : (o : Option (Bor Text)) → ((t : Bor Text) → o ≡ Some t → ⊥) → option_copied o ≡ None
+never_there None h = refl
+never_there (Some t) h = absurd (h t refl)
+
 new_text : (texts : List (Option (Bor Text))) (t : Text) (ms : List Text) → is_some (least 0 texts t) ≡ false → with_missing texts (Some t) ms ≡ add t ms
 new_text texts t ms h = rw h refl
 
-pub missing_put : (texts : List (Option (Bor Text))) (ws : List WantedText) (p : ℕ) (d : WantedText) (t : Text) (old new : List Text) → 0 < p → p ≤ length ws → Some t ≡ not_kept texts (get_or ws (p - 1) d) → is_some (least 0 texts t) ≡ false
-    → old ≡ missing_among texts (drop p ws) → new ≡ add t old → new ≡ missing_among texts (drop (p - 1) ws)
-missing_put texts ws p d t old new pos le is none h e =
-    let one : (p - 1) + 1 ≡ p = omega arith in
-    let step : missing_among texts (drop (p - 1) ws) ≡ with_missing texts (not_kept texts (get_or ws (p - 1) d)) (missing_among texts (drop ((p - 1) + 1) ws)) = ap (missing_among texts) (drop_more ws (p - 1) d (omega arith)) in
-    e ∙ ap (add t) (h ∙ sym (ap (λ (n : ℕ). missing_among texts (drop n ws)) one)) ∙ sym (new_text texts t (missing_among texts (drop ((p - 1) + 1) ws)) none)
-    ∙ ap (λ (o : Option Text). with_missing texts o (missing_among texts (drop ((p - 1) + 1) ws))) is ∙ sym step
+module _ (texts : List (Option (Bor Text))) (ws : List WantedText) (p : ℕ) (w : WantedText) (pos : 0 < p) (at : slice_get ws (p - 1) ≡ Some w) where
+  missing_step : (o : Option Text) → o ≡ not_kept texts w → missing_among texts (drop (p - 1) ws) ≡ with_missing texts o (missing_among texts (drop p ws))
+  missing_step o is = ap (missing_among texts) (from_place ws p w pos at) ∙ ap (λ (x : Option Text). with_missing texts x (missing_among texts (drop p ws))) (sym is)
+
+  pub missing_put : (t : Text) (old new : List Text) → Some t ≡ not_kept texts w → is_some (least 0 texts t) ≡ false → old ≡ missing_among texts (drop p ws) → new ≡ add t old → new ≡ missing_among texts (drop (p - 1) ws)
+  missing_put t old new is none h e = e ∙ ap (add t) h ∙ sym (missing_step (Some t) is ∙ new_text texts t (missing_among texts (drop p ws)) none)
+
+  -- a text that some entry keeps
+  pub missing_kept : (t : Text) (old : List Text) → Some t ≡ not_kept texts w → is_some (least 0 texts t) ≡ true → old ≡ missing_among texts (drop p ws) → old ≡ missing_among texts (drop (p - 1) ws)
+  missing_kept t old is found h = h ∙ sym (missing_step (Some t) is ∙ ap (λ (b : Bool). cond b (missing_among texts (drop p ws)) (add t (missing_among texts (drop p ws)))) found)
+
+  -- a use whose entry keeps its image
+  pub missing_none : (old : List Text) → None ≡ not_kept texts w → old ≡ missing_among texts (drop p ws) → old ≡ missing_among texts (drop (p - 1) ws)
+  missing_none old is h = h ∙ sym (missing_step None is)

@@ -1,5 +1,5 @@
 -- What is known of an entry's text, use by use.
-use Rattle.std.proofs.Common.{◌≡◌, ℕ, suc, ◌+◌, ◌<◌, ◌≢◌, Bool, true, false, cond, ◌||◌, List, [], ◌∷◌, ◌++◌, length, get_or, take, Option, Some, None, option_map, refl, ap, sym, ◌∙◌, subst, bytes_eq, nat_eq, set, zero, All, get_or-set_same, get_or-set_other, one-add}
+use Rattle.std.proofs.Common.{◌≡◌, ℕ, suc, ◌+◌, ◌<◌, ◌≢◌, Bool, true, false, cond, ◌||◌, List, [], ◌∷◌, ◌++◌, length, get_or, take, Option, Some, None, option_map, map, refl, ap, sym, ◌∙◌, subst, bytes_eq, nat_eq, set, zero, All, get_or-set_same, get_or-set_other, one-add}
 use denote.Ref.{Bor}
 use mathlib.Core.Bool.{or-false, or-true, or_assoc}
 use Rattle.std.proofs.lemmas.Slice.Eq.{bytes_eq-Decides}
@@ -10,11 +10,36 @@ use Rattle.desk_laws.proofs.Slots.{kept-at}
 use Rattle.desk_new_pool.specs.Keeps.{Keeps}
 use Rattle.desk_new_pool.specs.Wants.{image_or, Differs, IsWanted, want_of, wants_of}
 use Rattle.desk_new_pool.specs.declared.wants.WantedText.{WantedText}
+use Rattle.std.specs.List.{slice_get}
 use Rattle.std.proofs.lemmas.List.{map_more}
+use Rattle.std.proofs.lemmas.List.Elements.{All-more}
+use Rattle.std.proofs.lemmas.Option.{get_or_from_slice_get, slice_get_within}
 use Rattle.std.proofs.lemmas.Bool.{eqb-true, eqb-false, or_from}
 use Rattle.std.proofs.lemmas.Cmp.{nat_list_eq_equiv}
 use Rattle.desk_new_pool.specs.declared.keeps.Keep.{Keep}
 use Rattle.desk_new_pool.specs.declared.keeps.Keep.TheVariants as keeps
+
+-- ---- the want at a place
+
+pub want_at : (ws : List WantedText) (k : ℕ) (w : WantedText) → slice_get ws k ≡ Some w → get_or ws k w ≡ w
+want_at ws k w at = get_or_from_slice_get ws k w w at
+
+pub place_within : (ws : List WantedText) (k : ℕ) (w : WantedText) → slice_get ws k ≡ Some w → k < length ws
+place_within ws k w at = slice_get_within ws k w at
+
+-- what holds of each want holds of that at a place
+pub held_at : (P : WantedText → Type 0) (ws : List WantedText) (k : ℕ) (w : WantedText) → slice_get ws k ≡ Some w → All P ws → P w
+held_at P ws k w at all = subst P (want_at ws k w at) (all k w (place_within ws k w at))
+
+-- one want more that it holds of
+pub held_more : (P : WantedText → Type 0) (ws : List WantedText) (k : ℕ) (w : WantedText) → slice_get ws k ≡ Some w → P w → All P (take k ws) → All P (take (k + 1) ws)
+held_more P ws k w at h all = All-more P ws k w (place_within ws k w at) all (subst P (sym (want_at ws k w at)) h)
+
+-- what is made of one want more
+pub made_more : (f : WantedText → ℕ) (ws : List WantedText) (k : ℕ) (w : WantedText) (ns ms : List ℕ) → slice_get ws k ≡ Some w → ns ≡ map f (take k ws) → ms ≡ ns ++ f w ∷ [] → ms ≡ map f (take (k + 1) ws)
+made_more f ws k w ns ms at h e =
+    e ∙ ap (λ (l : List ℕ). l ++ f w ∷ []) h ∙ ap (λ (v : WantedText). map f (take k ws) ++ f v ∷ []) (sym (want_at ws k w at))
+    ∙ sym (map_more f ws k w (place_within ws k w at))
 
 -- ---- one more use
 
@@ -93,13 +118,13 @@ step_at pool w ts xs r i false e lt d f h =
     let ne : i ≢ w.used.index = λ is. eqb-false w.used.index i e (sym is) in
     subst (λ (k : Keep). Keeps (text_at pool i) (wanted i ts) k) (sym (get_or-set_other xs w.used.index i r keeps.Unused ne)) h
 
-pub keeps_step : (pool : Pool) (ws : List WantedText) (k : ℕ) (d : WantedText) (xs : List Keep) (r : Keep) → k < length ws → (get_or ws k d).used.index < length xs → All (IsWanted pool) ws
-    → ((own : Text) (us : List Text) → Differs own (get_or ws k d).image → Keeps own us (get_or xs (get_or ws k d).used.index keeps.Unused) → Keeps own (us ++ image_or own (get_or ws k d).image ∷ []) r)
+pub keeps_step : (pool : Pool) (ws : List WantedText) (k : ℕ) (w : WantedText) (xs : List Keep) (r : Keep) → slice_get ws k ≡ Some w → w.used.index < length xs → All (IsWanted pool) ws
+    → ((own : Text) (us : List Text) → Differs own w.image → Keeps own us (get_or xs w.used.index keeps.Unused) → Keeps own (us ++ image_or own w.image ∷ []) r)
     → (i : ℕ) → Keeps (text_at pool i) (wanted i (wants_of pool (take k ws))) (get_or xs i keeps.Unused)
-    → Keeps (text_at pool i) (wanted i (wants_of pool (take (k + 1) ws))) (get_or (set xs (get_or ws k d).used.index r) i keeps.Unused)
-keeps_step pool ws k d xs r lt small all f i h =
-    let w : WantedText = get_or ws k d in
-    let more : wants_of pool (take (k + 1) ws) ≡ wants_of pool (take k ws) ++ want_of pool w ∷ [] = map_more (want_of pool) ws k d lt in
+    → Keeps (text_at pool i) (wanted i (wants_of pool (take (k + 1) ws))) (get_or (set xs w.used.index r) i keeps.Unused)
+keeps_step pool ws k w xs r at small all f i h =
+    let more : wants_of pool (take (k + 1) ws) ≡ wants_of pool (take k ws) ++ want_of pool w ∷ [] =
+    map_more (want_of pool) ws k w (place_within ws k w at) ∙ ap (λ (v : WantedText). wants_of pool (take k ws) ++ want_of pool v ∷ []) (want_at ws k w at) in
     let pushed : wanted i (wants_of pool (take (k + 1) ws)) ≡ cond (nat_eq w.used.index i) (wanted i (wants_of pool (take k ws)) ++ (want_of pool w).text ∷ []) (wanted i (wants_of pool (take k ws))) = ap (wanted i) more ∙ wanted-push i (wants_of pool (take k ws)) (want_of pool w) in
     subst (λ (ts : List Text). Keeps (text_at pool i) ts (get_or (set xs w.used.index r) i keeps.Unused)) (sym pushed)
-    (step_at pool w (wants_of pool (take k ws)) xs r i (nat_eq w.used.index i) refl small (all k d lt).differs f h)
+    (step_at pool w (wants_of pool (take k ws)) xs r i (nat_eq w.used.index i) refl small (held_at (IsWanted pool) ws k w at all).differs f h)

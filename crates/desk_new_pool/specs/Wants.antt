@@ -1,10 +1,20 @@
 -- What uses want, each by the image of its text where that is another.
-use Rattle.std.specs.Prelude.{◌≡◌, ◌≢◌, ◌<◌, ◌^◌, nat_lt, Bool, false, List, map, length, Option, Some, None}
+use Rattle.std.specs.Prelude.{◌≡◌, ◌≢◌, ◌<◌, ◌^◌, ℕ, zero, suc, nat_lt, Bool, false, List, map, length, slice_get, Option, Some, None}
 use denote.Ref.{Bor}
 use Rattle.desk_base.specs.Names.{Text}
 use Rattle.desk_base.specs.Entries.{Pool, text_at, utf8_at}
+use Rattle.desk_base.specs.declared.kinds.Used.{Used}
 use Rattle.desk_format.specs.Split.{Want}
 use Rattle.desk_new_pool.specs.declared.wants.WantedText.{WantedText}
+
+-- the image of a number: that at the place before it, and none where there is no such place
+abbrev pub numbered : {A : Type 0} → List A → ℕ → Option A
+numbered images zero = None
+numbered images (suc place) = slice_get images place
+
+-- a use with the image of a number
+abbrev pub with_image : List (Bor Text) → Used → ℕ → WantedText
+with_image images u n = record { used = u; image = numbered images n }
 
 -- an image where there is one, and else the text itself
 abbrev pub image_or : Text → Option (Bor Text) → Text

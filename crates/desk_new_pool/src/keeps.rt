@@ -9,7 +9,7 @@ ghost use Rattle.desk_new_pool.specs.Wants.{image_or, Differs, IsWanted, wants_o
 ghost use Rattle.desk_new_pool.specs.declared.keeps.Keep.TheVariants as keeps;
 ghost use Rattle.desk_new_pool.specs.declared.wants.WantedText.{WantedText};
 
-use crate::wants::WantedText;
+use crate::wants::WantedTexts;
 use desk_base::{Memory, PoolView};
 use std::alloc::Global;
 
@@ -42,14 +42,15 @@ fn after<'a>(state: Keep<'a>, image: Option<&'a [u8]>) -> Keep<'a>
 fn all_keeps<'a>(
     alloc: Global,
     count: u16,
-    wants: &[WantedText<'a>],
+    wants: &WantedTexts<'a>,
 ) -> Result<Vec<Keep<'a>>, Memory>
     requires { All (λ (w : WantedText). w.used.index < count) wants.now }
     ensures count { IfOk result (λ list. vec_len list ≡ count) }
     ensures each { IfOk result (λ list. (pool : Pool) → All (IsWanted pool) wants.now → (i : ℕ) → i < count → Keeps (text_at pool i) (wanted i (wants_of pool wants.now)) (get_or list.items i keeps.Unused)) }
 {
     let mut keeps = vec![in alloc; Keep::Unused; count as usize]?;
-    for want in wants {
+    for place in 0..wants.len() {
+        let want = wants.get(place);
         let index = want.used.index as usize;
         keeps[index] = after(keeps[index], want.image);
     }
@@ -76,7 +77,7 @@ pub fn kept_texts<'a, P: PoolView>(
     alloc: Global,
     view: &'a P,
     count: u16,
-    wants: &[WantedText<'a>],
+    wants: &WantedTexts<'a>,
 ) -> Result<Vec<Option<&'a [u8]>>, Memory>
     requires count { count ≡ suc (length (P.pool view.now)) }
     requires wants { All (IsWanted (P.pool view.now)) wants.now }

@@ -2,7 +2,8 @@
 //! index each use takes, and the bytes of the pool and of the body.
 //!
 //! ```text
-//! let wants = [WantedText { used, image: Some(b"jakarta/servlet/F") }];
+//! let numbers = vec![in alloc; 1]?; // of one use, which has the first image
+//! let wants = WantedTexts::new(&[used], numbers, vec![in alloc; b"jakarta/servlet/F"]?);
 //! let new = split(alloc, pool, pool.count(), &wants)?;
 //! append_pool(&mut out, pool, pool.count(), entries, &new)?;
 //! append_body(&mut out, body_at, body, body_uses, body_indices)?;
@@ -22,4 +23,4 @@ pub use body::append_body;
 pub use new_texts::{NewPoolFault, NewTexts, split};
 pub use printing::append_pool;
 pub use twins::{NumberedMember, TwinPlaces, first_twins};
-pub use wants::WantedText;
+pub use wants::{WantedText, WantedTexts};

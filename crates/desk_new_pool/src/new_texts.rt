@@ -15,7 +15,7 @@ ghost use Rattle.desk_new_pool.specs.declared.wants.WantedText.{WantedText};
 use crate::keeps::kept_texts;
 use crate::overlong::{greatest_length, least_long};
 use crate::places::{missing_texts, new_index, not_kept, places};
-use crate::wants::WantedText;
+use crate::wants::WantedTexts;
 use desk_base::{Memory, PoolView};
 use std::alloc::Global;
 use std::collections::{BTreeMap, BTreeSet};
@@ -65,12 +65,12 @@ impl From<Memory> for NewPoolFault {
 }
 
 /// Whether the entry of some use keeps another text than the use's image.
-fn any_not_kept<'a>(texts: &[Option<&'a [u8]>], wants: &[WantedText<'a>]) -> bool
+fn any_not_kept<'a>(texts: &[Option<&'a [u8]>], wants: &WantedTexts<'a>) -> bool
     requires { All (λ (w : WantedText). w.used.index < length texts.now) wants.now }
     ensures { result ≡ false → All (λ (w : WantedText). not_kept texts.now w ≡ None) wants.now }
 {
-    for want in wants {
-        if not_kept(texts, want).is_some() {
+    for place in 0..wants.len() {
+        if not_kept(texts, &wants.get(place)).is_some() {
             return true;
         }
     }
@@ -78,12 +78,12 @@ fn any_not_kept<'a>(texts: &[Option<&'a [u8]>], wants: &[WantedText<'a>]) -> boo
 }
 
 /// The index of each use.
-fn own_indices(alloc: Global, wants: &[WantedText<'_>]) -> Result<Vec<u16>, Memory>
+fn own_indices(alloc: Global, wants: &WantedTexts<'_>) -> Result<Vec<u16>, Memory>
     ensures { IfOk result (λ indices. indices.items ≡ map (λ (w : WantedText). w.used.index) wants.now) }
 {
     let mut indices = Vec::with_capacity(alloc, wants.len())?;
-    for want in wants {
-        indices.push(want.used.index)?;
+    for place in 0..wants.len() {
+        indices.push(wants.get(place).used.index)?;
     }
     Ok(indices)
 }
@@ -94,14 +94,14 @@ fn new_indices<'a>(
     texts: &[Option<&'a [u8]>],
     kept: &BTreeMap<&'a [u8], u16>,
     added: &BTreeMap<&'a [u8], u16>,
-    wants: &[WantedText<'a>],
+    wants: &WantedTexts<'a>,
 ) -> Result<Vec<u16>, Memory>
     requires { All (λ (w : WantedText). w.used.index < length texts.now) wants.now }
     ensures { IfOk result (λ indices. indices.items ≡ map (λ (w : WantedText). index_by (λ t. or_else (place_in kept.now t) (place_in added.now t)) w.used.index (not_kept texts.now w)) wants.now) }
 {
     let mut indices = Vec::with_capacity(alloc, wants.len())?;
-    for want in wants {
-        indices.push(new_index(texts, kept, added, want))?;
+    for place in 0..wants.len() {
+        indices.push(new_index(texts, kept, added, &wants.get(place)))?;
     }
     Ok(indices)
 }
@@ -123,7 +123,7 @@ fn add_texts<'a>(
 fn all_kept<'a>(
     alloc: Global,
     texts: Vec<Option<&'a [u8]>>,
-    wants: &[WantedText<'a>],
+    wants: &WantedTexts<'a>,
 ) -> Result<NewTexts<'a>, NewPoolFault>
     requires count { length texts.items ≤ 65535 }
     requires kept { All (λ (w : WantedText). not_kept texts.items w ≡ None) wants.now }
@@ -139,7 +139,7 @@ fn all_kept<'a>(
 fn with_missing<'a>(
     alloc: Global,
     mut texts: Vec<Option<&'a [u8]>>,
-    wants: &[WantedText<'a>],
+    wants: &WantedTexts<'a>,
 ) -> Result<NewTexts<'a>, NewPoolFault>
     requires count { length texts.items ≤ 65535 }
     requires few { length wants.now < 2 ^ 32 }
@@ -168,7 +168,7 @@ fn with_missing<'a>(
 fn new_texts<'a>(
     alloc: Global,
     texts: Vec<Option<&'a [u8]>>,
-    wants: &[WantedText<'a>],
+    wants: &WantedTexts<'a>,
 ) -> Result<NewTexts<'a>, NewPoolFault>
     requires count { length texts.items ≤ 65535 }
     requires few { length wants.now < 2 ^ 32 }
@@ -194,7 +194,7 @@ pub fn split<'a, P: PoolView>(
     alloc: Global,
     view: &'a P,
     count: u16,
-    wants: &[WantedText<'a>],
+    wants: &WantedTexts<'a>,
 ) -> Result<NewTexts<'a>, NewPoolFault>
     requires count { count ≡ suc (length (P.pool view.now)) }
     requires wants { All (IsWanted (P.pool view.now)) wants.now }

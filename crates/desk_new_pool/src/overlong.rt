@@ -8,7 +8,7 @@ ghost use Rattle.desk_new_pool.specs.Wants.{IsWanted, wants_of, image_is_long, i
 ghost use Rattle.desk_new_pool.specs.Refusals.{IsLeastLong, lesser};
 ghost use Rattle.desk_new_pool.specs.declared.wants.WantedText.{WantedText};
 
-use crate::wants::WantedText;
+use crate::wants::WantedTexts;
 
 /// The greatest length of a Utf8, in bytes.
 const LONGEST: usize = 65535;
@@ -34,12 +34,12 @@ fn lesser(least: Option<u16>, index: u16) -> u16
 }
 
 /// The least index of a use whose image is too long, and none where no image is.
-pub fn least_long(wants: &[WantedText<'_>]) -> Option<u16>
+pub fn least_long(wants: &WantedTexts<'_>) -> Option<u16>
     ensures { (pool : Pool) → All (IsWanted pool) wants.now → IsLeastLong (wants_of pool wants.now) result }
 {
     let mut least = None;
     for place in (0..wants.len()).rev() {
-        let want = &wants[place];
+        let want = wants.get(place);
         if is_long(want.image) {
             least = Some(lesser(least, want.used.index));
         }
@@ -58,12 +58,12 @@ fn wanted_length(own: &[u8], image: Option<&[u8]>) -> u64
 }
 
 /// The greatest length of the texts that the uses of an index want, which has a text of its own.
-pub fn greatest_length(own: &[u8], index: u16, wants: &[WantedText<'_>]) -> u64
+pub fn greatest_length(own: &[u8], index: u16, wants: &WantedTexts<'_>) -> u64
     ensures { (pool : Pool) → text_at pool index ≡ own.now → result ≡ greatest_length (wanted index (wants_of pool wants.now)) }
 {
     let mut greatest = 0;
     for place in (0..wants.len()).rev() {
-        let want = &wants[place];
+        let want = wants.get(place);
         if want.used.index == index {
             greatest = wanted_length(own, want.image).max(greatest);
         }

@@ -6,7 +6,7 @@ ghost use Rattle.desk_new_pool.specs.Places.{least, place_in, not_kept, missing_
 ghost use Rattle.desk_base.specs.Misfits.{or_else};
 ghost use Rattle.desk_new_pool.specs.declared.wants.WantedText.{WantedText};
 
-use crate::wants::WantedText;
+use crate::wants::{WantedText, WantedTexts};
 use desk_base::Memory;
 use std::alloc::Global;
 use std::collections::{BTreeMap, BTreeSet};
@@ -48,7 +48,7 @@ pub fn missing_texts<'a>(
     alloc: Global,
     texts: &[Option<&'a [u8]>],
     kept: &BTreeMap<&'a [u8], u16>,
-    wants: &[WantedText<'a>],
+    wants: &WantedTexts<'a>,
 ) -> Result<BTreeSet<&'a [u8]>, Memory>
     requires indices { All (λ (w : WantedText). w.used.index < length texts.now) wants.now }
     requires kept { (t : Text) → place_in kept.now t ≡ least 0 texts.now t }
@@ -56,7 +56,7 @@ pub fn missing_texts<'a>(
 {
     let mut missing = BTreeSet::new(alloc);
     for place in (0..wants.len()).rev() {
-        if let Some(text) = not_kept(texts, &wants[place]) {
+        if let Some(text) = not_kept(texts, &wants.get(place)) {
             if !kept.contains_key(text) {
                 missing.insert(text)?;
             }

@@ -10,3 +10,4 @@ pub mod OwnTexts
 pub mod Printed
 pub mod Making
 pub mod Numbered
+pub mod Listing

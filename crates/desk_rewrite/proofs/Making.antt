@@ -125,7 +125,7 @@ pub record IsOwnIn (im : Images) (c : Class) : Type 0 where
   pub each : All (IsOwn im c.pool) (class_uses c)
   pub wants : AllByRecursion (Own c.pool) (wants im c.pool (class_uses c))
 
-pub own_in : (im : Images) (bytes : List ℕ) (c : Class) (table : Table) (pool : Pool) (us : List Used) → IsFound bytes c → read_class bytes ≡ Ok c → pool ≡ pool_in bytes → us ≡ uses_in bytes → HasImages im pool us table → table.entries ≡ [] → IsOwnIn im c
+pub own_in : (im : Images) (bytes : List ℕ) (c : Class) (table : Table) (pool : Pool) (us : List Used) → IsFound bytes c → read_class bytes ≡ Ok c → pool ≡ pool_in bytes → us ≡ uses_in bytes → HasImages im pool us table → table.images.items ≡ [] → IsOwnIn im c
 own_in im bytes c table pool us f e p u h none =
     let p' : pool ≡ c.pool = p ∙ ap (list_in (λ (d : Class). d.pool)) e in
     let u' : us ≡ class_uses c = u ∙ ap (list_in class_uses) e in

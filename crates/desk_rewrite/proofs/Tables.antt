@@ -1,12 +1,13 @@
 -- Tables of images.
-use Rattle.std.proofs.Common.{◌≡◌, ◌⊎◌, ℕ, zero, suc, ◌+◌, ◌<◌, Bool, true, false, cond, ◌&&◌, ◌||◌, ltb, List, [], ◌∷◌, ◌++◌, length, get_or, take, set, Option, Some, None, refl, ap, ap₂, sym, ◌∙◌, subst, arith, All, inl, inr}
+use Rattle.std.proofs.Common.{◌≡◌, ◌⊎◌, ℕ, zero, suc, ◌+◌, ◌<◌, ◌≤◌, Bool, true, false, cond, ◌&&◌, ◌||◌, ltb, List, [], ◌∷◌, ◌++◌, length, get_or, take, set, Option, Some, None, unwrap_or, refl, ap, ap₂, sym, ◌∙◌, subst, arith, All, inl, inr}
 use Rattle.std.specs.Ordering.{nat_cmp, is_eq, ordering_then}
 use Rattle.std.specs.declared.cmp.Ordering.{Ordering}
 use Rattle.std.specs.declared.cmp.Ordering.TheVariants.{Equal}
 use Rattle.std.specs.BTreeMap as tree
+use Rattle.std.specs.BTreeMap.{BTreeMap}
 use Rattle.std.specs.Map.{lookup}
 use Rattle.std.proofs.lemmas.Bool.{eq-eqb, le-ltb, lt-ltb, and_parts, or_cases, cases_eq}
-use Rattle.std.proofs.lemmas.List.{length-set, get_or-set_same}
+use Rattle.std.proofs.lemmas.List.{length-append, length-set, get_or-set_same}
 use Rattle.std.proofs.lemmas.Option.{slice_get-get_or}
 use Rattle.std.specs.List.{slice_get}
 use Rattle.std.proofs.lemmas.List.Elements.{All-more, All-weaker}
@@ -19,11 +20,12 @@ use Rattle.desk_base.specs.declared.kinds.Used.{Used}
 use Rattle.desk_base.proofs.Orderings.{equal_is}
 use Rattle.desk_format.specs.Resolved.{Images, image}
 use Rattle.desk_rules.specs.Images.{IsImage}
+use Rattle.desk_new_pool.specs.Wants.{numbered}
 use Rattle.desk_rewrite.specs.declared.table.TextRole.{TextRole}
 use Rattle.desk_rewrite.specs.declared.table.TextRole.TheVariants as text_roles
 use Rattle.desk_rewrite.specs.contracts.table.TextRoleOrd.TheImpl.{ghosts as text_role_order}
 use Rattle.desk_rewrite.specs.declared.seen.RoleSet.{RoleSet}
-use Rattle.desk_rewrite.specs.Tables.{rank, role_of, text_role_of, Key, key_cmp, has_role, has_role_in, is_seen, Sees, Table, image_at, IsAnswer, FindsAt, IsSoundTable, found_by, image_found, Finds, HasImages}
+use Rattle.desk_rewrite.specs.Tables.{rank, role_of, text_role_of, Key, key_cmp, has_role, has_role_in, is_seen, Sees, Table, number_at, image_at, IsNumberedTable, Puts, IsAnswer, FindsAt, IsSoundTable, found_by, image_found, Finds, HasImages}
 
 -- ---- equal keys
 
@@ -76,19 +78,60 @@ code_cmp x y = ordering_then (nat_cmp x.0 y.0) (text_role_order.cmp x.1 y.1)
 cmp_is : (x y : Key) → code_cmp x y ≡ key_cmp x y
 cmp_is x y = ap (ordering_then (nat_cmp x.0 y.0)) (text_role_is x.1 y.1)
 
-lookup_same : (p q : Key → Bool) (es : List (Key × Text)) → ((k : Key) → p k ≡ q k) → lookup p es ≡ lookup q es
+lookup_same : (p q : Key → Bool) (es : List (Key × ℕ)) → ((k : Key) → p k ≡ q k) → lookup p es ≡ lookup q es
 lookup_same p q [] h = refl
-lookup_same p q (e ∷ es) h = ap₂ (λ (b : Bool) (o : Option Text). cond b (Some e.1) o) (h e.0) (lookup_same p q es h)
+lookup_same p q (e ∷ es) h = ap₂ (λ (b : Bool) (o : Option ℕ). cond b (Some e.1) o) (h e.0) (lookup_same p q es h)
 
-pub code_image : (table : Table) (key : Key) → tree.get code_cmp table key ≡ image_at table key
-code_image table key = lookup_same (λ k. is_eq (code_cmp key k)) (λ k. is_eq (key_cmp key k)) table.entries (λ k. ap is_eq (cmp_is key k))
+pub code_number : (numbers : BTreeMap Key ℕ) (key : Key) → tree.get code_cmp numbers key ≡ tree.get key_cmp numbers key
+code_number numbers key = lookup_same (λ k. is_eq (code_cmp key k)) (λ k. is_eq (key_cmp key k)) numbers.entries (λ k. ap is_eq (cmp_is key k))
 
--- a table with an image at a key
-abbrev pub Puts : Table → Key → Text → Table → Type 0
-Puts old key text new = (q : Key) → image_at new q ≡ cond (is_eq (key_cmp key q)) (Some text) (image_at old q)
+-- ---- numbers of images
 
-pub puts : (old new : Table) (key : Key) (text : Text) → tree.Updates code_cmp old new key (Some text) → Puts old key text new
-puts old new key text up = λ q. sym (code_image new q) ∙ up.0 q ∙ ap₂ (λ (b : Bool) (o : Option Text). cond b (Some text) o) (ap is_eq (cmp_is key q)) (code_image old q)
+get_front : {A : Type 0} (xs ys : List A) (k : ℕ) → k < length xs → slice_get (xs ++ ys) k ≡ slice_get xs k
+get_front [] ys k lt = absurd (omega arith)
+get_front (x ∷ xs) ys zero lt = refl
+get_front (x ∷ xs) ys (suc k) lt = get_front xs ys k (omega arith)
+
+get_last : {A : Type 0} (xs : List A) (x : A) → slice_get (xs ++ x ∷ []) (length xs) ≡ Some x
+get_last [] x = refl
+get_last (y ∷ xs) x = get_last xs x
+
+numbered_front : (xs ys : List Text) (n : ℕ) → n ≤ length xs → numbered (xs ++ ys) n ≡ numbered xs n
+numbered_front xs ys zero le = refl
+numbered_front xs ys (suc k) le = get_front xs ys k (omega arith)
+
+none_numbered : (n : ℕ) → numbered {A = Text} [] n ≡ None
+none_numbered zero = refl
+none_numbered (suc k) = refl
+
+-- the table to begin with
+pub begins_numbered : (table : Table) → tree.IsEmpty table.numbers → IsNumberedTable table
+begins_numbered table e = λ key.
+    let none : number_at table key ≡ 0 = ap (λ (es : List (Key × ℕ)). unwrap_or (lookup (λ (q : Key). is_eq (key_cmp key q)) es) 0) e in
+    omega arith
+
+module _ (old new : Table) (key : Key) (text : Text) (n : ℕ) (pushed : new.images.items ≡ old.images.items ++ text ∷ []) (is : n ≡ length new.images.items)
+    (up : tree.Updates code_cmp old.numbers new.numbers key (Some n)) (small : IsNumberedTable old) where
+  longer : length new.images.items ≡ suc (length old.images.items)
+  longer = ap length pushed ∙ length-append old.images.items (text ∷ []) ∙ omega arith
+
+  numbers_are : (q : Key) → tree.get key_cmp new.numbers q ≡ cond (is_eq (key_cmp key q)) (Some n) (tree.get key_cmp old.numbers q)
+  numbers_are q = sym (code_number new.numbers q) ∙ up.0 q ∙ ap₂ (λ (b : Bool) (o : Option ℕ). cond b (Some n) o) (ap is_eq (cmp_is key q)) (code_number old.numbers q)
+
+  put_by : (b : Bool) (o : Option ℕ) → unwrap_or o 0 ≤ length old.images.items → numbered new.images.items (unwrap_or (cond b (Some n) o) 0) ≡ cond b (Some text) (numbered old.images.items (unwrap_or o 0))
+  put_by true o le =
+      ap (numbered new.images.items) (is ∙ longer) ∙ ap (λ (l : List Text). numbered l (suc (length old.images.items))) pushed ∙ get_last old.images.items text
+  put_by false o le = ap (λ (l : List Text). numbered l (unwrap_or o 0)) pushed ∙ numbered_front old.images.items (text ∷ []) (unwrap_or o 0) le
+
+  pub puts : Puts old key text new
+  puts q = ap (λ (o : Option ℕ). numbered new.images.items (unwrap_or o 0)) (numbers_are q) ∙ put_by (is_eq (key_cmp key q)) (tree.get key_cmp old.numbers q) (small q)
+
+  small_by : (b : Bool) (o : Option ℕ) → unwrap_or o 0 ≤ length old.images.items → unwrap_or (cond b (Some n) o) 0 ≤ length new.images.items
+  small_by true o le = omega arith
+  small_by false o le = let more : length new.images.items ≡ suc (length old.images.items) = longer in omega arith
+
+  pub stays_numbered : IsNumberedTable new
+  stays_numbered q = subst (λ (o : Option ℕ). unwrap_or o 0 ≤ length new.images.items) (sym (numbers_are q)) (small_by (is_eq (key_cmp key q)) (tree.get key_cmp old.numbers q) (small q))
 
 -- the key itself
 number_self : (n : ℕ) → nat_cmp n n ≡ Equal
@@ -248,12 +291,18 @@ written_over n xs ys e = ap (λ (k : ℕ). take k (xs ++ ys)) e ∙ take_whole x
 
 -- ---- an empty table
 
-nothing_by : (table : Table) (i : ℕ) (o : Option TextRole) → table.entries ≡ [] → found_by table i o ≡ None
+nothing_at : (table : Table) (key : Key) → table.images.items ≡ [] → image_at table key ≡ None
+nothing_at table key e = ap (λ (l : List Text). numbered l (number_at table key)) e ∙ none_numbered (number_at table key)
+
+pub begins_sound : (im : Images) (pool : Pool) (table : Table) → table.images.items ≡ [] → IsSoundTable im pool table
+begins_sound im pool table e = λ key text at. let none : image_at table key ≡ None = nothing_at table key e in absurd cc
+
+nothing_by : (table : Table) (i : ℕ) (o : Option TextRole) → table.images.items ≡ [] → found_by table i o ≡ None
 nothing_by table i None e = refl
-nothing_by table i (Some k) e = ap (lookup (λ (q : Key). is_eq (key_cmp (i, k) q))) e
+nothing_by table i (Some k) e = nothing_at table (i, k) e
 
 -- each use has its own text as its image
-pub all_own : (im : Images) (pool : Pool) (table : Table) (us : List Used) → table.entries ≡ [] → HasImages im pool us table → All (λ (u : Used). image im u.role (text_at pool u.index) ≡ text_at pool u.index) us
+pub all_own : (im : Images) (pool : Pool) (table : Table) (us : List Used) → table.images.items ≡ [] → HasImages im pool us table → All (λ (u : Used). image im u.role (text_at pool u.index) ≡ text_at pool u.index) us
 all_own im pool table us e h =
     All-weaker (λ (u : Used). Finds im pool table u.role u.index) (λ (u : Used). image im u.role (text_at pool u.index) ≡ text_at pool u.index)
     (λ u f. subst (IsImage (text_at pool u.index) (image im u.role (text_at pool u.index))) (nothing_by table u.index (text_role_of u.role) e) f) us h

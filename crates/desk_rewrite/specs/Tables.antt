@@ -1,8 +1,8 @@
 -- The images of texts by index and role, as the code keeps them.
-use Rattle.std.specs.Prelude.{◌≡◌, ◌&&◌, ◌||◌, ℕ, nat_lt, Bool, false, List, length, slice_get, Option, Some, None, All}
+use Rattle.std.specs.Prelude.{◌≡◌, ◌≤◌, ◌&&◌, ◌||◌, ℕ, nat_lt, Bool, false, List, length, slice_get, Option, Some, None, unwrap_or, if◌then◌else◌, All}
 use Rattle.std.specs.Ordering.{nat_cmp, ordering_then, is_eq}
 use Rattle.std.specs.declared.cmp.Ordering.{Ordering}
-use Rattle.std.specs.BTreeMap.{BTreeMap, get}
+use Rattle.std.specs.BTreeMap.{get}
 use Rattle.desk_base.specs.Names.{Text}
 use Rattle.desk_base.specs.Entries.{Pool, text_at}
 use Rattle.desk_base.specs.declared.kinds.Role.{Role}
@@ -11,7 +11,9 @@ use Rattle.desk_base.specs.declared.kinds.Used.{Used}
 use Rattle.desk_format.specs.declared.members.Member.{Member}
 use Rattle.desk_format.specs.Resolved.{Images, image}
 use Rattle.desk_rules.specs.Images.{IsImage}
+use Rattle.desk_new_pool.specs.Wants.{numbered}
 use Rattle.desk_rewrite.specs.declared.seen.RoleSet.{RoleSet}
+use Rattle.desk_rewrite.specs.declared.table.ImageTable.{ImageTable}
 use Rattle.desk_rewrite.specs.declared.table.TextRole.{TextRole}
 use Rattle.desk_rewrite.specs.declared.table.TextRole.TheVariants as text_roles
 
@@ -86,11 +88,23 @@ Sees old key new = (q : Key) → is_seen new q ≡ ((is_eq (key_cmp key q) && na
 
 -- the images that are other texts
 abbrev pub Table : Type 0
-Table = BTreeMap Key Text
+Table = ImageTable
+
+-- the number of the image that a table has at a key, and 0 where it has none
+abbrev pub number_at : Table → Key → ℕ
+number_at table key = unwrap_or (get key_cmp table.numbers key) 0
 
 -- what a table has at a key
 abbrev pub image_at : Table → Key → Option Text
-image_at table key = get key_cmp table key
+image_at table key = numbered table.images.items (number_at table key)
+
+-- Each number is that of an image.
+abbrev pub IsNumberedTable : Table → Type 0
+IsNumberedTable table = (key : Key) → number_at table key ≤ length table.images.items
+
+-- a table with an image at a key
+abbrev pub Puts : Table → Key → Text → Table → Type 0
+Puts old key text new = (q : Key) → image_at new q ≡ (if is_eq (key_cmp key q) then Some text else image_at old q)
 
 -- the image of the text at the index of a key, as an answer
 abbrev pub IsAnswer : Images → Pool → Key → Option Text → Type 0

@@ -7,7 +7,7 @@ ghost use Rattle.desk_rewrite.specs.Wanting.{has_other};
 use crate::table::text_at;
 use desk_base::{Role, Used};
 use desk_names::{Which, read_signature};
-use desk_new_pool::WantedText;
+use desk_new_pool::WantedTexts;
 use desk_pool::Pool;
 
 /// Whether a text is used as a signature, and is no signature of that kind or nests more than 64 deep.
@@ -33,9 +33,15 @@ pub fn odd_uses(pool: &Pool<'_>, uses: &[Used]) -> u32
 }
 
 /// How many uses want another text than their own.
-pub fn renamed_uses(wants: &[WantedText<'_>]) -> u32
+pub fn renamed_uses(wants: &WantedTexts<'_>) -> u32
     requires { length wants.now < 2 ^ 32 }
     ensures { result ≡ count_by has_other wants.now }
 {
-    wants.iter().filter(|want| want.image.is_some()).count() as u32
+    let mut renamed = 0;
+    for place in 0..wants.len() {
+        if wants.get(place).image.is_some() {
+            renamed += 1;
+        }
+    }
+    renamed
 }

@@ -27,7 +27,7 @@ use crate::table::{ImageTable, all_images};
 use crate::wants::wanted_texts;
 use desk_base::{Memory, Text};
 use desk_class::ClassView;
-use desk_new_pool::{NewPoolFault, TwinPlaces, WantedText, first_twins, split};
+use desk_new_pool::{NewPoolFault, TwinPlaces, WantedTexts, first_twins, split};
 use desk_rename::Images;
 use desk_rules::RuleSet;
 use std::alloc::Global;
@@ -98,26 +98,27 @@ impl From<NewPoolFault> for RewriteFault {
     }
 }
 
-/// The bytes of the new class, and how many texts were added.
+/// The bytes of the new class, and how many texts were added. What the uses want is let go before the bytes are made.
 fn new_class(
     alloc: Global,
     view: &ClassView<'_>,
     table: &ImageTable,
-    wants: &[WantedText<'_>],
+    wants: WantedTexts<'_>,
 ) -> Result<(Text, u32), RewriteFault>
     requires shaped { IsShaped false (pool_in view.now) }
     requires few { length (uses_in view.now) < 2 ^ 32 }
-    requires wants { All (IsWanted (pool_in view.now)) wants.now }
-    requires images { (im : Images) × All (IsWantedUnder im (pool_in view.now)) wants.now }
-    requires used { map used_in wants.now ≡ uses_in view.now }
-    ensures bytes { IfOk result (λ new. (im : Images) (c : Class) → read_class view.now ≡ Ok c → AreWanted im c wants.now → new.0 ≡ new_bytes im view.now c) }
-    ensures added { IfOk result (λ new. (im : Images) (c : Class) → read_class view.now ≡ Ok c → AreWanted im c wants.now → new.1 ≡ length (added im c.pool (class_uses c))) }
-    ensures accepted { OnOk result ((im : Images) (c : Class) → read_class view.now ≡ Ok c → AreWanted im c wants.now → HasDescriptors im c.pool table.now (members c.body) → refusal im c ≡ None) }
-    ensures refused { IfErr result (λ fault. (im : Images) (c : Class) → read_class view.now ≡ Ok c → AreWanted im c wants.now → HasDescriptors im c.pool table.now (members c.body) → Refuses fault (refusal im c)) }
+    requires wants { All (IsWanted (pool_in view.now)) wants }
+    requires images { (im : Images) × All (IsWantedUnder im (pool_in view.now)) wants }
+    requires used { map used_in wants ≡ uses_in view.now }
+    ensures bytes { IfOk result (λ new. (im : Images) (c : Class) → read_class view.now ≡ Ok c → AreWanted im c wants.entry → new.0 ≡ new_bytes im view.now c) }
+    ensures added { IfOk result (λ new. (im : Images) (c : Class) → read_class view.now ≡ Ok c → AreWanted im c wants.entry → new.1 ≡ length (added im c.pool (class_uses c))) }
+    ensures accepted { OnOk result ((im : Images) (c : Class) → read_class view.now ≡ Ok c → AreWanted im c wants.entry → HasDescriptors im c.pool table.now (members c.body) → refusal im c ≡ None) }
+    ensures refused { IfErr result (λ fault. (im : Images) (c : Class) → read_class view.now ≡ Ok c → AreWanted im c wants.entry → HasDescriptors im c.pool table.now (members c.body) → Refuses fault (refusal im c)) }
 {
     let pool = view.pool();
     let count = pool.count();
-    let new = split(alloc, pool, count, wants)?;
+    let new = split(alloc, pool, count, &wants)?;
+    drop(wants);
     let members = numbered_members(alloc, pool, table, view.members())?;
     if let Some(TwinPlaces { first, second }) = first_twins(alloc, &members)? {
         return Err(RewriteFault::Twins { first, second });
@@ -171,8 +172,9 @@ pub fn rewrite<I: Images>(
         ((Text::from_bytes(alloc, bytes)?, 0), 0)
     } else {
         let wants = wanted_texts(alloc, &table, view.uses())?;
-        let (bytes, added) = new_class(alloc, view, &table, &wants)?;
-        ((bytes, added), renamed_uses(&wants))
+        let renamed = renamed_uses(&wants);
+        let (bytes, added) = new_class(alloc, view, &table, wants)?;
+        ((bytes, added), renamed)
     };
     // `bytes_in` says that they are bytes.
     let _each = bytes_in(&bytes);

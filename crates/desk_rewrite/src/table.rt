@@ -1,9 +1,10 @@
 //! The images of the texts of a class that are other texts.
 
-ghost use Rattle.std.specs.Prelude.{◌≡◌, IfOk, OnOk, option_copied};
+ghost use Rattle.std.specs.Prelude.{◌≡◌, ◌+◌, ◌<◌, ◌≤◌, ◌^◌, ◌↔◌, [], length, IfOk, OnOk, IsTrue, option_copied};
 ghost use Rattle.desk_base.specs.Entries.{text_at};
 ghost use Rattle.desk_follow.specs.RuleImages.{images_of};
-ghost use Rattle.desk_rewrite.specs.Tables.{Key, text_role_of, image_at, image_found, FindsAt, IsSoundTable, HasImages};
+ghost use Rattle.desk_new_pool.specs.Wants.{numbered};
+ghost use Rattle.desk_rewrite.specs.Tables.{Key, text_role_of, number_at, image_found, IsNumberedTable, Puts, FindsAt, IsSoundTable, HasImages};
 
 use crate::images::image_by_role;
 use crate::seen::{RoleSet, is_seen, see};
@@ -33,8 +34,63 @@ pub enum TextRole {
     Str,
 }
 
-/// The images that differ from their texts, by the index of the text and its role.
-pub type ImageTable = BTreeMap<(u16, TextRole), Text>;
+/// The images that differ from their texts, and the number of each by the index of the text and its role. The numbers begin
+/// with 1, in the order in which the images were found.
+#[derive(Drop)]
+pub struct ImageTable {
+    numbers: BTreeMap<(u16, TextRole), u32>,
+    images: Vec<Text>,
+}
+
+impl ImageTable {
+    /// The table without images. It takes no memory.
+    fn empty(alloc: Global) -> ImageTable
+        ensures images { result.images.items ≡ [] }
+        ensures numbers { IsNumberedTable result }
+    {
+        ImageTable {
+            numbers: BTreeMap::new(alloc),
+            images: Vec::new(alloc),
+        }
+    }
+
+    /// The images, by their numbers.
+    pub fn images(&self) -> &[Text]
+        ensures { result.now ≡ self.now.images.items }
+    {
+        self.images.as_slice()
+    }
+
+    /// Whether there is no image.
+    pub fn is_empty(&self) -> bool
+        ensures { IsTrue result ↔ (self.now.images.items ≡ []) }
+    {
+        self.images.is_empty()
+    }
+
+    /// Adds an image at a key. The only error is want of memory.
+    fn put(&mut self, key: (u16, TextRole), image: Text) -> Result<(), Memory>
+        requires few { length self.old.images.items + 1 < 2 ^ 32 }
+        requires numbers { IsNumberedTable self.old }
+        ensures puts { OnOk result (Puts self.old key image self.new) }
+        ensures numbers { OnOk result (IsNumberedTable self.new) }
+        ensures length { OnOk result (length self.new.images.items ≡ length self.old.images.items + 1) }
+    {
+        self.images.push(image)?;
+        self.numbers.insert(key, self.images.len() as u32)?;
+        Ok(())
+    }
+
+    /// The number of the image at a key, and 0 where there is none.
+    fn number(&self, key: (u16, TextRole)) -> u32
+        ensures { result ≡ number_at self.now key }
+    {
+        match self.numbers.get(&key) {
+            None => 0,
+            Some(number) => *number,
+        }
+    }
+}
 
 /// The role as one whose texts may have another image; none where each text is its own image.
 pub fn text_role_of(role: Role) -> Option<TextRole>
@@ -72,14 +128,18 @@ fn add_image<I: Images>(
     key: (u16, TextRole),
 ) -> Result<(), Memory>
     requires images { I.renames images.now ≡ rules.now.renames }
+    requires few { length table.old.images.items + 1 < 2 ^ 32 }
+    requires numbers { IsNumberedTable table.old }
     requires sound { IsSoundTable (images_of rules.now) pool.now.entries table.old }
+    ensures few { OnOk result (length table.new.images.items ≤ length table.old.images.items + 1) }
+    ensures numbers { OnOk result (IsNumberedTable table.new) }
     ensures sound { OnOk result (IsSoundTable (images_of rules.now) pool.now.entries table.new) }
     ensures finds { OnOk result (FindsAt (images_of rules.now) pool.now.entries table.new key) }
     ensures keeps { OnOk result ((q : Key) → FindsAt (images_of rules.now) pool.now.entries table.old q → FindsAt (images_of rules.now) pool.now.entries table.new q) }
 {
     let text = text_at(pool, key.0);
     if let Some(image) = image_by_role(alloc, rules, images, key.1, text)? {
-        table.insert(key, image)?;
+        table.put(key, image)?;
     }
     Ok(())
 }
@@ -93,10 +153,11 @@ pub fn all_images<I: Images>(
     pool: &Pool<'_>,
     uses: &[Used],
 ) -> Result<ImageTable, Memory>
-    requires { I.renames images.now ≡ rules.now.renames }
+    requires images { I.renames images.now ≡ rules.now.renames }
+    requires few { length uses.now < 2 ^ 32 }
     ensures { IfOk result (HasImages (images_of rules.now) pool.now.entries uses.now) }
 {
-    let mut table = BTreeMap::new(alloc);
+    let mut table = ImageTable::empty(alloc);
     let mut seen = vec![in alloc; RoleSet::none(); pool.count() as usize]?;
     for used in uses {
         if let Some(text_role) = text_role_of(used.role) {
@@ -110,13 +171,13 @@ pub fn all_images<I: Images>(
     Ok(table)
 }
 
-/// The image that a table has at a key.
-fn image_at(table: &ImageTable, key: (u16, TextRole)) -> Option<&[u8]>
-    ensures { option_copied result ≡ image_at table.now key }
+/// The number of the image of the text at an index in a role, where the table has one that is another text, and else 0.
+pub fn number_in(table: &ImageTable, index: u16, role: Role) -> u32
+    ensures { numbered table.now.images.items result ≡ image_found table.now index role }
 {
-    match table.get(&key) {
-        None => None,
-        Some(image) => Some(image.as_bytes()),
+    match text_role_of(role) {
+        None => 0,
+        Some(text_role) => table.number((index, text_role)),
     }
 }
 
@@ -124,8 +185,12 @@ fn image_at(table: &ImageTable, key: (u16, TextRole)) -> Option<&[u8]>
 pub fn image_in(table: &ImageTable, index: u16, role: Role) -> Option<&[u8]>
     ensures { option_copied result ≡ image_found table.now index role }
 {
-    match text_role_of(role) {
+    let number = number_in(table, index, role);
+    if number == 0 {
+        return None;
+    }
+    match table.images.get(number as usize - 1) {
         None => None,
-        Some(text_role) => image_at(table, (index, text_role)),
+        Some(image) => Some(image.as_bytes()),
     }
 }

@@ -6,8 +6,8 @@ use Rattle.desk_new_pool.specs.Wants.{IsWanted, wants_of}
 use Rattle.desk_new_pool.specs.declared.keeps.Keep.TheVariants as keep
 use Rattle.desk_new_pool.proofs.keeps.all_keeps.Given as goal
 
-abbrev pub invariant-loop-want : goal.invariant-loop-want
-invariant-loop-want l = record {
+abbrev pub invariant-loop-place : goal.invariant-loop-place
+invariant-loop-place l = record {
   count : vec_len l.keeps ≡ l.count;
-  each : (pool : Pool) → All (IsWanted pool) l.wants → (i : ℕ) → i < l.count → Keeps (text_at pool i) (wanted i (wants_of pool (take l.want-index l.wants))) (get_or l.keeps.items i keep.Unused);
+  each : (pool : Pool) → All (IsWanted pool) l.wants → (i : ℕ) → i < l.count → Keeps (text_at pool i) (wanted i (wants_of pool (take l.place l.wants))) (get_or l.keeps.items i keep.Unused);
 }

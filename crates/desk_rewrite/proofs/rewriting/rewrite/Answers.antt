@@ -1,7 +1,5 @@
-use Rattle.std.proofs.Common.{◌<◌, ◌^◌, ℕ, List, length, count_by, ap, sym, ◌∙◌, subst, All}
+use Rattle.std.proofs.Common.{◌<◌, ◌^◌, ℕ, List, length, ap, sym, ◌∙◌, subst, All}
 use Rattle.std.specs.List.{AllByRecursion}
-use Rattle.std.proofs.lemmas.List.{nil_from_length}
-use Rattle.std.proofs.lemmas.List.Elements.{All-same}
 use Rattle.std.proofs.lemmas.Result.{err_from_is_err_and}
 use Rattle.desk_base.specs.declared.kinds.Used.{Used}
 use Rattle.desk_format.specs.Classes.{class_uses}
@@ -11,11 +9,9 @@ use Rattle.desk_laws.proofs.Bodies.{NamesText}
 use Rattle.desk_laws.proofs.Whole.{renamed_classes, unchanged_classes}
 use Rattle.desk_laws.specs.Classes.{IsUnchangedClass}
 use Rattle.desk_format.specs.NewClass.{new_class}
-use Rattle.desk_new_pool.specs.Wants.{IsWanted}
-use Rattle.desk_new_pool.specs.declared.wants.WantedText.{WantedText}
 use Rattle.desk_follow.specs.RuleImages.{images_of}
 use Rattle.desk_follow.proofs.Follow.{follow}
-use Rattle.desk_rewrite.specs.Wanting.{has_other, IsWantedUnder, AreWanted}
+use Rattle.desk_rewrite.specs.Wanting.{IsWantedUnder}
 use Rattle.desk_rewrite.proofs.Making.{IsWantedIn, wanted_in, wants_in, IsOwnIn, own_in}
 use Rattle.desk_rewrite.proofs.Forms.{forms_kept, images_settled}
 use Rattle.desk_rewrite.proofs.Parts.{IsKnown, known, IsFound, found}
@@ -29,11 +25,15 @@ odd_uses-odd-requires g c =
     let k : IsKnown c.args.view.now = known c.args.view.now c.bytes_of-bytes.ensures.each c.bytes_of-bytes.ensures.sound in
     subst (λ (us : List Used). length us < 2 ^ 32) (sym c.uses-2.ensures) (k.few c.bytes_of-bytes.ensures.short)
 
-pub renamed_uses-requires : goal.renamed_uses-requires
-renamed_uses-requires g c =
+pub all_images-requires-clause-few : goal.all_images-requires-clause-few
+all_images-requires-clause-few g c =
     let k : IsKnown c.args.view.now = known c.args.view.now c.bytes_of-bytes.ensures.each c.bytes_of-bytes.ensures.sound in
-    subst (λ (ws : List WantedText). length ws < 2 ^ 32) (sym c.deref-else-is_empty.ensures.value)
-    (wants_few c.in_ok-wants.wants.items (uses_in c.args.view.now) (c.in_ok-wants.ensures.used ∙ c.uses-else-is_empty.ensures) (k.few c.bytes_of-bytes.ensures.short))
+    subst (λ (us : List Used). length us < 2 ^ 32) (sym c.uses.ensures) (k.few c.bytes_of-bytes.ensures.short)
+
+pub renamed_uses-renamed-requires : goal.renamed_uses-renamed-requires
+renamed_uses-renamed-requires g c =
+    let k : IsKnown c.args.view.now = known c.args.view.now c.bytes_of-bytes.ensures.each c.bytes_of-bytes.ensures.sound in
+    wants_few c.in_ok-wants.wants (uses_in c.args.view.now) (c.in_ok-wants.ensures.used ∙ c.uses-else-is_empty.ensures) (k.few c.bytes_of-bytes.ensures.short)
 
 pub new_class-requires-clause-shaped : goal.new_class-requires-clause-shaped
 new_class-requires-clause-shaped g c = let k : IsKnown c.args.view.now = known c.args.view.now c.bytes_of-bytes.ensures.each c.bytes_of-bytes.ensures.sound in k.shaped
@@ -44,16 +44,14 @@ new_class-requires-clause-few g c = let k : IsKnown c.args.view.now = known c.ar
 pub new_class-requires-clause-wants : goal.new_class-requires-clause-wants
 new_class-requires-clause-wants g c =
     let k : IsKnown c.args.view.now = known c.args.view.now c.bytes_of-bytes.ensures.each c.bytes_of-bytes.ensures.sound in
-    let each : All (IsWantedUnder (images_of c.args.rules.now) (pool_in c.args.view.now)) c.in_ok-wants.wants.items
-    = wants_in (images_of c.args.rules.now) c.in_ok-table.table c.in_ok-wants.wants.items c.pool.result.now.entries (pool_in c.args.view.now) c.uses.result.now c.uses-else-is_empty.result.now c.pool.ensures.entries (c.uses.ensures ∙ sym c.uses-else-is_empty.ensures) c.in_ok-table.ensures c.in_ok-wants.ensures.each in
-    All-same (IsWanted (pool_in c.args.view.now)) c.deref.result.now c.in_ok-wants.wants.items c.deref.ensures.value
-    (are_wanted (images_of c.args.rules.now) (pool_in c.args.view.now) c.in_ok-wants.wants.items k.shaped (subst (AllByRecursion (NamesText (pool_in c.args.view.now))) (sym (c.in_ok-wants.ensures.used ∙ c.uses-else-is_empty.ensures)) k.named) each)
+    let each : All (IsWantedUnder (images_of c.args.rules.now) (pool_in c.args.view.now)) c.in_ok-wants.wants
+    = wants_in (images_of c.args.rules.now) c.in_ok-table.table c.in_ok-wants.wants c.pool.result.now.entries (pool_in c.args.view.now) c.uses.result.now c.uses-else-is_empty.result.now c.pool.ensures.entries (c.uses.ensures ∙ sym c.uses-else-is_empty.ensures) c.in_ok-table.ensures c.in_ok-wants.ensures.each in
+    are_wanted (images_of c.args.rules.now) (pool_in c.args.view.now) c.in_ok-wants.wants k.shaped (subst (AllByRecursion (NamesText (pool_in c.args.view.now))) (sym (c.in_ok-wants.ensures.used ∙ c.uses-else-is_empty.ensures)) k.named) each
 
 pub new_class-requires-clause-images : goal.new_class-requires-clause-images
 new_class-requires-clause-images g c = (
   images_of c.args.rules.now,
-  All-same (IsWantedUnder (images_of c.args.rules.now) (pool_in c.args.view.now)) c.deref.result.now c.in_ok-wants.wants.items c.deref.ensures.value
-      (wants_in (images_of c.args.rules.now) c.in_ok-table.table c.in_ok-wants.wants.items c.pool.result.now.entries (pool_in c.args.view.now) c.uses.result.now c.uses-else-is_empty.result.now c.pool.ensures.entries (c.uses.ensures ∙ sym c.uses-else-is_empty.ensures) c.in_ok-table.ensures c.in_ok-wants.ensures.each),
+  wants_in (images_of c.args.rules.now) c.in_ok-table.table c.in_ok-wants.wants c.pool.result.now.entries (pool_in c.args.view.now) c.uses.result.now c.uses-else-is_empty.result.now c.pool.ensures.entries (c.uses.ensures ∙ sym c.uses-else-is_empty.ensures) c.in_ok-table.ensures c.in_ok-wants.ensures.each,
 )
 
 pub returns-in_err-bytes-clause-refused : goal.returns-in_err-bytes-clause-refused
@@ -61,9 +59,9 @@ returns-in_err-bytes-clause-refused g c =
     let p = err_from_is_err_and c.from_residual-in_err-bytes.result c.from_residual-in_err-bytes.ensures.1 in
     rw (p.1, p.2)
     (λ d e.
-    let w : IsWantedIn (images_of c.args.rules.now) d c.in_ok-wants.wants.items c.in_ok-table.table
-    = wanted_in (images_of c.args.rules.now) c.args.view.now d c.in_ok-table.table c.in_ok-wants.wants.items c.pool.result.now.entries c.uses.result.now c.uses-else-is_empty.result.now e c.pool.ensures.entries c.uses.ensures c.uses-else-is_empty.ensures c.in_ok-table.ensures c.in_ok-wants.ensures.used c.in_ok-wants.ensures.each in
-    c.in_err-bytes.ensures.refused (images_of c.args.rules.now) d e (subst (AreWanted (images_of c.args.rules.now) d) (sym c.deref.ensures.value) w.wants) w.descriptors)
+    let w : IsWantedIn (images_of c.args.rules.now) d c.in_ok-wants.wants c.in_ok-table.table
+    = wanted_in (images_of c.args.rules.now) c.args.view.now d c.in_ok-table.table c.in_ok-wants.wants c.pool.result.now.entries c.uses.result.now c.uses-else-is_empty.result.now e c.pool.ensures.entries c.uses.ensures c.uses-else-is_empty.ensures c.in_ok-table.ensures c.in_ok-wants.ensures.used c.in_ok-wants.ensures.each in
+    c.in_err-bytes.ensures.refused (images_of c.args.rules.now) d e w.wants w.descriptors)
 
 pub returns-clause-renamed : goal.returns-clause-renamed
 returns-clause-renamed g c = λ d e.
@@ -71,12 +69,12 @@ returns-clause-renamed g c = λ d e.
     elim c.if-is_empty.branch [
       | then-is_empty+in_ok-from_bytes v ↦
           let o : IsOwnIn (images_of c.args.rules.now) d
-          = own_in (images_of c.args.rules.now) c.args.view.now d c.in_ok-table.table c.pool.result.now.entries c.uses.result.now f e c.pool.ensures.entries c.uses.ensures c.in_ok-table.ensures (nil_from_length c.in_ok-table.table.entries (c.is_empty.ensures.0 v.if-is_empty.true)) in
+          = own_in (images_of c.args.rules.now) c.args.view.now d c.in_ok-table.table c.pool.result.now.entries c.uses.result.now f e c.pool.ensures.entries c.uses.ensures c.in_ok-table.ensures (c.is_empty.ensures.0 v.if-is_empty.true) in
           ap (λ (x : (List ℕ × ℕ) × ℕ). x.1) v.bytes-is ∙ sym (none_renamed (images_of c.args.rules.now) d.pool (class_uses d) o.each)
       | else-is_empty+in_ok-wants+in_ok-bytes v ↦
-          let w : IsWantedIn (images_of c.args.rules.now) d v.in_ok-wants.wants.items c.in_ok-table.table
-          = wanted_in (images_of c.args.rules.now) c.args.view.now d c.in_ok-table.table v.in_ok-wants.wants.items c.pool.result.now.entries c.uses.result.now v.uses-else-is_empty.result.now e c.pool.ensures.entries c.uses.ensures v.uses-else-is_empty.ensures c.in_ok-table.ensures v.in_ok-wants.ensures.used v.in_ok-wants.ensures.each in
-          ap (λ (x : (List ℕ × ℕ) × ℕ). x.1) v.bytes-is ∙ v.renamed_uses.ensures ∙ ap (count_by has_other) v.deref-else-is_empty.ensures.value ∙ renamed_are (images_of c.args.rules.now) d.pool (class_uses d) v.in_ok-wants.wants.items w.wants.used w.wants.each
+          let w : IsWantedIn (images_of c.args.rules.now) d v.in_ok-wants.wants c.in_ok-table.table
+          = wanted_in (images_of c.args.rules.now) c.args.view.now d c.in_ok-table.table v.in_ok-wants.wants c.pool.result.now.entries c.uses.result.now v.uses-else-is_empty.result.now e c.pool.ensures.entries c.uses.ensures v.uses-else-is_empty.ensures c.in_ok-table.ensures v.in_ok-wants.ensures.used v.in_ok-wants.ensures.each in
+          ap (λ (x : (List ℕ × ℕ) × ℕ). x.1) v.bytes-is ∙ v.renamed_uses-renamed.ensures ∙ renamed_are (images_of c.args.rules.now) d.pool (class_uses d) v.in_ok-wants.wants w.wants.used w.wants.each
     ]
 
 pub returns-clause-bytes : goal.returns-clause-bytes
@@ -85,12 +83,12 @@ returns-clause-bytes g c = λ d e.
     elim c.if-is_empty.branch [
       | then-is_empty+in_ok-from_bytes v ↦
           let o : IsOwnIn (images_of c.args.rules.now) d
-          = own_in (images_of c.args.rules.now) c.args.view.now d c.in_ok-table.table c.pool.result.now.entries c.uses.result.now f e c.pool.ensures.entries c.uses.ensures c.in_ok-table.ensures (nil_from_length c.in_ok-table.table.entries (c.is_empty.ensures.0 v.if-is_empty.true)) in
+          = own_in (images_of c.args.rules.now) c.args.view.now d c.in_ok-table.table c.pool.result.now.entries c.uses.result.now f e c.pool.ensures.entries c.uses.ensures c.in_ok-table.ensures (c.is_empty.ensures.0 v.if-is_empty.true) in
           ap (λ (x : (List ℕ × ℕ) × ℕ). x.0.0) v.bytes-is ∙ v.in_ok-from_bytes.ensures ∙ c.bytes_of-bytes.ensures.bytes ∙ sym (same_bytes (images_of c.args.rules.now) c.args.view.now d f o.wants)
       | else-is_empty+in_ok-wants+in_ok-bytes v ↦
-          let w : IsWantedIn (images_of c.args.rules.now) d v.in_ok-wants.wants.items c.in_ok-table.table
-          = wanted_in (images_of c.args.rules.now) c.args.view.now d c.in_ok-table.table v.in_ok-wants.wants.items c.pool.result.now.entries c.uses.result.now v.uses-else-is_empty.result.now e c.pool.ensures.entries c.uses.ensures v.uses-else-is_empty.ensures c.in_ok-table.ensures v.in_ok-wants.ensures.used v.in_ok-wants.ensures.each in
-          ap (λ (x : (List ℕ × ℕ) × ℕ). x.0.0) v.bytes-is ∙ v.in_ok-bytes.ensures.bytes (images_of c.args.rules.now) d e (subst (AreWanted (images_of c.args.rules.now) d) (sym v.deref.ensures.value) w.wants)
+          let w : IsWantedIn (images_of c.args.rules.now) d v.in_ok-wants.wants c.in_ok-table.table
+          = wanted_in (images_of c.args.rules.now) c.args.view.now d c.in_ok-table.table v.in_ok-wants.wants c.pool.result.now.entries c.uses.result.now v.uses-else-is_empty.result.now e c.pool.ensures.entries c.uses.ensures v.uses-else-is_empty.ensures c.in_ok-table.ensures v.in_ok-wants.ensures.used v.in_ok-wants.ensures.each in
+          ap (λ (x : (List ℕ × ℕ) × ℕ). x.0.0) v.bytes-is ∙ v.in_ok-bytes.ensures.bytes (images_of c.args.rules.now) d e w.wants
     ]
 
 pub returns-clause-added : goal.returns-clause-added
@@ -99,12 +97,12 @@ returns-clause-added g c = λ d e.
     elim c.if-is_empty.branch [
       | then-is_empty+in_ok-from_bytes v ↦
           let o : IsOwnIn (images_of c.args.rules.now) d
-          = own_in (images_of c.args.rules.now) c.args.view.now d c.in_ok-table.table c.pool.result.now.entries c.uses.result.now f e c.pool.ensures.entries c.uses.ensures c.in_ok-table.ensures (nil_from_length c.in_ok-table.table.entries (c.is_empty.ensures.0 v.if-is_empty.true)) in
+          = own_in (images_of c.args.rules.now) c.args.view.now d c.in_ok-table.table c.pool.result.now.entries c.uses.result.now f e c.pool.ensures.entries c.uses.ensures c.in_ok-table.ensures (c.is_empty.ensures.0 v.if-is_empty.true) in
           ap (λ (x : (List ℕ × ℕ) × ℕ). x.0.1) v.bytes-is ∙ sym (ap length (no_added (images_of c.args.rules.now) c.args.view.now d f o.wants))
       | else-is_empty+in_ok-wants+in_ok-bytes v ↦
-          let w : IsWantedIn (images_of c.args.rules.now) d v.in_ok-wants.wants.items c.in_ok-table.table
-          = wanted_in (images_of c.args.rules.now) c.args.view.now d c.in_ok-table.table v.in_ok-wants.wants.items c.pool.result.now.entries c.uses.result.now v.uses-else-is_empty.result.now e c.pool.ensures.entries c.uses.ensures v.uses-else-is_empty.ensures c.in_ok-table.ensures v.in_ok-wants.ensures.used v.in_ok-wants.ensures.each in
-          ap (λ (x : (List ℕ × ℕ) × ℕ). x.0.1) v.bytes-is ∙ v.in_ok-bytes.ensures.added (images_of c.args.rules.now) d e (subst (AreWanted (images_of c.args.rules.now) d) (sym v.deref.ensures.value) w.wants)
+          let w : IsWantedIn (images_of c.args.rules.now) d v.in_ok-wants.wants c.in_ok-table.table
+          = wanted_in (images_of c.args.rules.now) c.args.view.now d c.in_ok-table.table v.in_ok-wants.wants c.pool.result.now.entries c.uses.result.now v.uses-else-is_empty.result.now e c.pool.ensures.entries c.uses.ensures v.uses-else-is_empty.ensures c.in_ok-table.ensures v.in_ok-wants.ensures.used v.in_ok-wants.ensures.each in
+          ap (λ (x : (List ℕ × ℕ) × ℕ). x.0.1) v.bytes-is ∙ v.in_ok-bytes.ensures.added (images_of c.args.rules.now) d e w.wants
     ]
 
 pub returns-clause-accepted : goal.returns-clause-accepted
@@ -113,12 +111,12 @@ returns-clause-accepted g c = λ d e.
     elim c.if-is_empty.branch [
       | then-is_empty+in_ok-from_bytes v ↦
           let o : IsOwnIn (images_of c.args.rules.now) d
-          = own_in (images_of c.args.rules.now) c.args.view.now d c.in_ok-table.table c.pool.result.now.entries c.uses.result.now f e c.pool.ensures.entries c.uses.ensures c.in_ok-table.ensures (nil_from_length c.in_ok-table.table.entries (c.is_empty.ensures.0 v.if-is_empty.true)) in
+          = own_in (images_of c.args.rules.now) c.args.view.now d c.in_ok-table.table c.pool.result.now.entries c.uses.result.now f e c.pool.ensures.entries c.uses.ensures c.in_ok-table.ensures (c.is_empty.ensures.0 v.if-is_empty.true) in
           not_refused (images_of c.args.rules.now) c.args.view.now d f o.wants
       | else-is_empty+in_ok-wants+in_ok-bytes v ↦
-          let w : IsWantedIn (images_of c.args.rules.now) d v.in_ok-wants.wants.items c.in_ok-table.table
-          = wanted_in (images_of c.args.rules.now) c.args.view.now d c.in_ok-table.table v.in_ok-wants.wants.items c.pool.result.now.entries c.uses.result.now v.uses-else-is_empty.result.now e c.pool.ensures.entries c.uses.ensures v.uses-else-is_empty.ensures c.in_ok-table.ensures v.in_ok-wants.ensures.used v.in_ok-wants.ensures.each in
-          v.in_ok-bytes.ensures.accepted (images_of c.args.rules.now) d e (subst (AreWanted (images_of c.args.rules.now) d) (sym v.deref.ensures.value) w.wants) w.descriptors
+          let w : IsWantedIn (images_of c.args.rules.now) d v.in_ok-wants.wants c.in_ok-table.table
+          = wanted_in (images_of c.args.rules.now) c.args.view.now d c.in_ok-table.table v.in_ok-wants.wants c.pool.result.now.entries c.uses.result.now v.uses-else-is_empty.result.now e c.pool.ensures.entries c.uses.ensures v.uses-else-is_empty.ensures c.in_ok-table.ensures v.in_ok-wants.ensures.used v.in_ok-wants.ensures.each in
+          v.in_ok-bytes.ensures.accepted (images_of c.args.rules.now) d e w.wants w.descriptors
     ]
 
 pub returns-clause-isomorphic : goal.returns-clause-isomorphic

@@ -1,10 +1,10 @@
-use Rattle.std.proofs.Common.{◌≡◌, ◌+◌, List, length, drop, get_or, sym, ap, ◌∙◌, subst, arith}
+use Rattle.std.proofs.Common.{◌≡◌, ◌+◌, ◌≤◌, List, length, drop, get_or, sym, ap, ◌∙◌, subst, arith}
 use Rattle.std.proofs.lemmas.List.{take_all}
 use Rattle.desk_base.specs.declared.kinds.Role.TheVariants.{Class}
 use Rattle.desk_base.specs.declared.kinds.Used.{Used}
 use Rattle.desk_follow.specs.RuleImages.{images_of}
 use Rattle.desk_rewrite.specs.declared.seen.RoleSet.{RoleSet}
-use Rattle.desk_rewrite.specs.Tables.{Table, Key, Sees, FindsAt, IsSoundTable, HasImages, is_seen}
+use Rattle.desk_rewrite.specs.Tables.{Table, Key, Sees, FindsAt, IsNumberedTable, IsSoundTable, HasImages, is_seen}
 use Rattle.desk_rewrite.proofs.Tables.{FindsSeen, HasBefore, has_more, seen_more, finds_use, own_use, none_of, written_over}
 use Rattle.desk_rewrite.proofs.table.all_images.Goals as goal
 use Rattle.desk_rewrite.proofs.table.all_images.Goals.{in-Some+then-not-is_seen+in_ok-add_image, in-Some+else-not-is_seen, in_default}
@@ -26,6 +26,8 @@ loop-used-preserved g c =
           let up : Sees c.loop-used.seen.items key w.see.new.seen = subst (λ (s : List RoleSet). Sees s key w.see.new.seen) w.deref_mut.ensures.value w.see.ensures.sees in
           let same : c.loop-used.seen.len ≡ length w.see.new.seen = sym (w.see.ensures.length ∙ w.deref_mut.ensures.len) in
           record {
+            few = subst (λ (t : Table). length t.images.items ≤ i + 1) (sym w.table-is) (omega (arith, w.in_ok-add_image.ensures.few, c.loop-used.invariant.few));
+            numbers = subst IsNumberedTable (sym w.table-is) w.in_ok-add_image.ensures.numbers;
             sound = subst (IsSoundTable im pool) (sym w.table-is) w.in_ok-add_image.ensures.sound;
             seen = subst (λ (t : Table). FindsSeen im pool t c.match-text_role_of.seen.items) (sym w.table-is)
                 (subst (λ (s : List RoleSet). FindsSeen im pool new s) (sym (ap (λ v. v.items) w.seen-is ∙ written_over c.loop-used.seen.len w.see.new.seen (drop (length w.see.new.seen) c.loop-used.seen.items) same))
@@ -39,6 +41,8 @@ loop-used-preserved g c =
           let here : FindsAt im pool c.loop-used.table key =
           c.loop-used.invariant.seen key (ap (λ (s : List RoleSet). is_seen s key) (sym w.deref.ensures.value) ∙ sym w.is_seen.ensures ∙ w.if-not-is_seen.false) in
           record {
+            few = subst (λ (t : Table). length t.images.items ≤ i + 1) (sym w.table-is) (omega (arith, c.loop-used.invariant.few));
+            numbers = subst IsNumberedTable (sym w.table-is) c.loop-used.invariant.numbers;
             sound = subst (IsSoundTable im pool) (sym w.table-is) c.loop-used.invariant.sound;
             seen = subst (λ (t : Table). FindsSeen im pool t c.match-text_role_of.seen.items) (sym w.table-is)
                 (subst (λ (s : List RoleSet). FindsSeen im pool c.loop-used.table s) (sym (ap (λ v. v.items) w.seen-is)) c.loop-used.invariant.seen);
@@ -47,6 +51,8 @@ loop-used-preserved g c =
                 (finds_use im pool c.loop-used.table u.role u.index w.in-Some.text_role (sym c.text_role_of.ensures ∙ w.in-Some.is) here) c.loop-used.invariant.has);
           }
       | in_default w ↦ record {
+        few = subst (λ (t : Table). length t.images.items ≤ i + 1) (sym w.table-is) (omega (arith, c.loop-used.invariant.few));
+        numbers = subst IsNumberedTable (sym w.table-is) c.loop-used.invariant.numbers;
         sound = subst (IsSoundTable im pool) (sym w.table-is) c.loop-used.invariant.sound;
         seen = subst (λ (t : Table). FindsSeen im pool t c.match-text_role_of.seen.items) (sym w.table-is)
             (subst (λ (s : List RoleSet). FindsSeen im pool c.loop-used.table s) (sym (ap (λ v. v.items) w.seen-is)) c.loop-used.invariant.seen);
