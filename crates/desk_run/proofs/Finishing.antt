@@ -23,11 +23,12 @@ use Rattle.desk_run.proofs.Preparing.{names_of, planned}
 use Rattle.desk_run.specs.Answers.{other_run}
 use Rattle.desk_run.specs.Endings.{AllWritten, GatheredFrom, HasGathered, IsWritten, Planned, StandsAfter, Tells, WhereTold}
 use Rattle.desk_run.specs.Meaning.{defined_in, finds_in}
-use Rattle.desk_run.specs.Asked.{asked_roots}
+use Rattle.desk_run.specs.Asked.{Asked, asked_roots}
 use Rattle.desk_intake.proofs.There.{files_there}
 use Rattle.desk_readings.specs.declared.measured.ClassNote.{ClassNote}
 use Rattle.desk_run.specs.Notes.{bare, details_of, measured_in, noted_by, stays_in}
-use Rattle.desk_run.specs.Reports.{summary_by, summary_text}
+use Rattle.desk_report.specs.Texts.{summary_text}
+use Rattle.desk_run.specs.Reports.{summary_by}
 use Rattle.desk_run.specs.Stops.{StopsAt, status_of_stop}
 use Rattle.desk_run.specs.Truth.{IsOurs}
 use Rattle.desk_run.specs.declared.gather.Gathered.{Gathered}
@@ -71,9 +72,18 @@ is_planned names g graph noted f0 k0 k1 sound gathered is clear rows ours other 
 plan_at : (names : Roots) (g : Gathered) (defined : List Text) (noted : List Noted) (f0 : Option Contents) (k0 k1 : Option Ledger) (m : Contents) (l : Ledger) → f0 ≡ Some m → k0 ≡ Some l → IsPlanned names g defined noted f0 k0 k1
     → Planned (asked_roots names) m l names.to g.header (works_in (image_in g.ruled.value.rules (defined_in g.notes.scanned.items)) names.from m noted)
 plan_at names g defined noted f0 k0 k1 m l ef ek p =
-    subst (Planned (asked_roots names) m l names.to g.header) (works_bare (image_in g.ruled.value.rules (defined_in g.notes.scanned.items)) names.from m noted)
-    (planned names m l g (map bare noted) p.sound (subst (λ o. HasGathered names o g) ef p.gathered) p.clear (p.rows m l ef ek)
-    (at_some (λ l. IsOurs g.header l.header) k0 l ek p.ours) (at_some (λ l. other_run g.header l.header ≡ None) k0 l ek p.other))
+    let p0 = planned names m l g (map bare noted) p.sound (subst (λ o. HasGathered names o g) ef p.gathered) p.clear (p.rows m l ef ek)
+    (at_some (λ l. IsOurs g.header l.header) k0 l ek p.ours) (at_some (λ l. other_run g.header l.header ≡ None) k0 l ek p.other) in
+    record {
+      run = p0.run;
+      ready = p0.ready;
+      runs = p0.runs;
+      to_is = p0.to_is;
+      header_is = p0.header_is;
+      other = p0.other;
+      ours = p0.ours;
+      are = sym (works_bare (image_in g.ruled.value.rules (defined_in g.notes.scanned.items)) names.from m noted) ∙ p0.are;
+    }
 
 -- the report says nothing of what was known before
 written_bare : (asked : Asked) (m0 : Contents) (l0 : Ledger) (noted : List Noted) (outcomes : List Outcome) (f' : Option Contents) (k' : Option Ledger) → Tells f' k' (λ m l. IsWritten asked m0 l0 m l (map bare noted) outcomes)
