@@ -1,12 +1,9 @@
 -- Tables of images.
-use Rattle.std.proofs.Common.{◌≡◌, ◌⊎◌, ℕ, zero, suc, ◌+◌, ◌<◌, ◌≤◌, Bool, true, false, cond, ◌&&◌, ◌||◌, ltb, List, [], ◌∷◌, ◌++◌, length, get_or, take, set, Option, Some, None, unwrap_or, refl, ap, ap₂, sym, ◌∙◌, subst, arith, All, inl, inr}
+use Rattle.std.proofs.Common.{◌≡◌, ◌⊎◌, ℕ, zero, suc, ◌+◌, ◌<◌, ◌≤◌, Bool, true, false, cond, ◌||◌, List, [], ◌∷◌, ◌++◌, length, get_or, take, set, replicate, Option, Some, None, refl, ap, sym, ◌∙◌, subst, arith, All, inl, inr}
 use Rattle.std.specs.Ordering.{nat_cmp, is_eq, ordering_then}
 use Rattle.std.specs.declared.cmp.Ordering.{Ordering}
 use Rattle.std.specs.declared.cmp.Ordering.TheVariants.{Equal}
-use Rattle.std.specs.BTreeMap as tree
-use Rattle.std.specs.BTreeMap.{BTreeMap}
-use Rattle.std.specs.Map.{lookup}
-use Rattle.std.proofs.lemmas.Bool.{eq-eqb, le-ltb, lt-ltb, and_parts, or_cases, cases_eq}
+use Rattle.std.proofs.lemmas.Bool.{eq-eqb, le-ltb, or_cases, cases_eq}
 use Rattle.std.proofs.lemmas.List.{length-append, length-set, get_or-set_same}
 use Rattle.std.proofs.lemmas.Option.{slice_get-get_or}
 use Rattle.std.specs.List.{slice_get}
@@ -23,9 +20,10 @@ use Rattle.desk_rules.specs.Images.{IsImage}
 use Rattle.desk_new_pool.specs.Wants.{numbered}
 use Rattle.desk_rewrite.specs.declared.table.TextRole.{TextRole}
 use Rattle.desk_rewrite.specs.declared.table.TextRole.TheVariants as text_roles
-use Rattle.desk_rewrite.specs.contracts.table.TextRoleOrd.TheImpl.{ghosts as text_role_order}
-use Rattle.desk_rewrite.specs.declared.seen.RoleSet.{RoleSet}
-use Rattle.desk_rewrite.specs.Tables.{rank, role_of, text_role_of, Key, key_cmp, has_role, has_role_in, is_seen, Sees, Table, number_at, image_at, IsNumberedTable, Puts, IsAnswer, FindsAt, IsSoundTable, found_by, image_found, Finds, HasImages}
+use Rattle.desk_rewrite.specs.declared.seen.ByRole.{ByRole}
+use Rattle.desk_rewrite.specs.declared.seen.Looked.{Looked}
+use Rattle.desk_rewrite.specs.declared.seen.Looked.TheVariants as looks
+use Rattle.desk_rewrite.specs.Tables.{rank, role_of, text_role_of, Key, key_cmp, looked_of, looked_in, looked_at, Notes, was_looked_at, number_of, Table, is_seen, number_at, image_at, IsNumberedTable, IsAnswer, FindsAt, found_by, image_found, Finds, HasImages}
 
 -- ---- equal keys
 
@@ -53,37 +51,12 @@ rank_same a b e = sym (role_at-rank a) ∙ ap role_at (exact_unsigned (rank a) (
 key_same : (x y : Key) → is_eq (key_cmp x y) ≡ true → x ≡ y
 key_same x y h = exact_pairs nat_cmp (λ (a b : TextRole). nat_cmp (rank a) (rank b)) exact_unsigned rank_same x y (equal_is (key_cmp x y) h)
 
--- ---- the order of the code
+-- the key itself
+number_self : (n : ℕ) → nat_cmp n n ≡ Equal
+number_self n = rw (le-ltb n n (omega arith), eq-eqb n n refl) refl
 
-text_role_is : (a b : TextRole) → text_role_order.cmp a b ≡ nat_cmp (rank a) (rank b)
-text_role_is text_roles.Class text_roles.Class = refl
-text_role_is text_roles.Class _ = refl
-text_role_is text_roles.Package text_roles.Class = refl
-text_role_is text_roles.Package _ = refl
-text_role_is text_roles.Descriptor text_roles.Class = refl
-text_role_is text_roles.Descriptor _ = refl
-text_role_is text_roles.ClassSig text_roles.Class = refl
-text_role_is text_roles.ClassSig _ = refl
-text_role_is text_roles.MethodSig text_roles.Class = refl
-text_role_is text_roles.MethodSig _ = refl
-text_role_is text_roles.FieldSig text_roles.Class = refl
-text_role_is text_roles.FieldSig _ = refl
-text_role_is text_roles.Str text_roles.Class = refl
-text_role_is text_roles.Str _ = refl
-
--- the order of keys, as the code compares them
-abbrev code_cmp : Key → Key → Ordering
-code_cmp x y = ordering_then (nat_cmp x.0 y.0) (text_role_order.cmp x.1 y.1)
-
-cmp_is : (x y : Key) → code_cmp x y ≡ key_cmp x y
-cmp_is x y = ap (ordering_then (nat_cmp x.0 y.0)) (text_role_is x.1 y.1)
-
-lookup_same : (p q : Key → Bool) (es : List (Key × ℕ)) → ((k : Key) → p k ≡ q k) → lookup p es ≡ lookup q es
-lookup_same p q [] h = refl
-lookup_same p q (e ∷ es) h = ap₂ (λ (b : Bool) (o : Option ℕ). cond b (Some e.1) o) (h e.0) (lookup_same p q es h)
-
-pub code_number : (numbers : BTreeMap Key ℕ) (key : Key) → tree.get code_cmp numbers key ≡ tree.get key_cmp numbers key
-code_number numbers key = lookup_same (λ k. is_eq (code_cmp key k)) (λ k. is_eq (key_cmp key k)) numbers.entries (λ k. ap is_eq (cmp_is key k))
+key_self : (key : Key) → is_eq (key_cmp key key) ≡ true
+key_self key = ap (λ (r : Ordering). is_eq (ordering_then r (nat_cmp (rank key.1) (rank key.1)))) (number_self key.0) ∙ ap is_eq (number_self (rank key.1))
 
 -- ---- numbers of images
 
@@ -104,75 +77,115 @@ none_numbered : (n : ℕ) → numbered {A = Text} [] n ≡ None
 none_numbered zero = refl
 none_numbered (suc k) = refl
 
--- the table to begin with
-pub begins_numbered : (table : Table) → tree.IsEmpty table.numbers → IsNumberedTable table
-begins_numbered table e = λ key.
-    let none : number_at table key ≡ 0 = ap (λ (es : List (Key × ℕ)). unwrap_or (lookup (λ (q : Key). is_eq (key_cmp key q)) es) 0) e in
-    omega arith
+-- ---- what is known of the text of one key more
 
-module _ (old new : Table) (key : Key) (text : Text) (n : ℕ) (pushed : new.images.items ≡ old.images.items ++ text ∷ []) (is : n ≡ length new.images.items)
-    (up : tree.Updates code_cmp old.numbers new.numbers key (Some n)) (small : IsNumberedTable old) where
-  longer : length new.images.items ≡ suc (length old.images.items)
-  longer = ap length pushed ∙ length-append old.images.items (text ∷ []) ∙ omega arith
+get_set_other : {A : Type 0} (xs : List A) (i j : ℕ) (x : A) → (i ≡ j → ⊥) → slice_get (set xs i x) j ≡ slice_get xs j
+get_set_other [] i j x h = refl
+get_set_other (y ∷ ys) zero zero x h = absurd (h refl)
+get_set_other (y ∷ ys) zero (suc j) x h = refl
+get_set_other (y ∷ ys) (suc i) zero x h = refl
+get_set_other (y ∷ ys) (suc i) (suc j) x h = get_set_other ys i j x (λ e. h (ap suc e))
 
-  numbers_are : (q : Key) → tree.get key_cmp new.numbers q ≡ cond (is_eq (key_cmp key q)) (Some n) (tree.get key_cmp old.numbers q)
-  numbers_are q = sym (code_number new.numbers q) ∙ up.0 q ∙ ap₂ (λ (b : Bool) (o : Option ℕ). cond b (Some n) o) (ap is_eq (cmp_is key q)) (code_number old.numbers q)
+get_set_same : {A : Type 0} (xs : List A) (i : ℕ) (x : A) → i < length xs → slice_get (set xs i x) i ≡ Some x
+get_set_same {A} xs i x lt = slice_get-get_or (set xs i x) i x (let l : length (set xs i x) ≡ length xs = length-set xs i x in omega arith) ∙ ap (λ (y : A). Some y) (get_or-set_same xs i x x lt)
 
-  put_by : (b : Bool) (o : Option ℕ) → unwrap_or o 0 ≤ length old.images.items → numbered new.images.items (unwrap_or (cond b (Some n) o) 0) ≡ cond b (Some text) (numbered old.images.items (unwrap_or o 0))
-  put_by true o le =
-      ap (numbered new.images.items) (is ∙ longer) ∙ ap (λ (l : List Text). numbered l (suc (length old.images.items))) pushed ∙ get_last old.images.items text
-  put_by false o le = ap (λ (l : List Text). numbered l (unwrap_or o 0)) pushed ∙ numbered_front old.images.items (text ∷ []) (unwrap_or o 0) le
+-- this is known of a text in a role, and in each other role what was known before
+abbrev pub NotesRole : ByRole → TextRole → Looked → ByRole → Type 0
+NotesRole old role looked new = (k : TextRole) → looked_of new k ≡ cond (is_eq (nat_cmp (rank role) (rank k))) looked (looked_of old k)
 
-  pub puts : Puts old key text new
-  puts q = ap (λ (o : Option ℕ). numbered new.images.items (unwrap_or o 0)) (numbers_are q) ∙ put_by (is_eq (key_cmp key q)) (tree.get key_cmp old.numbers q) (small q)
+notes_by : (rows : List ByRole) (key q : Key) (old new : ByRole) (looked : Looked) (b : Bool) → is_eq (key_cmp key q) ≡ b → key.0 < length rows → slice_get rows key.0 ≡ Some old → NotesRole old key.1 looked new
+    → looked_at (set rows key.0 new) q ≡ cond b looked (looked_at rows q)
+notes_by rows key q old new looked true e lt at notes =
+    let P : Key → Type 0 = λ k. looked_at (set rows key.0 new) k ≡ looked in
+    subst P (key_same key q e)
+    (ap (λ (o : Option ByRole). looked_in o key.1) (get_set_same rows key.0 new lt) ∙ notes key.1
+    ∙ ap (λ (c : Bool). cond c looked (looked_of old key.1)) (ap is_eq (number_self (rank key.1))))
+notes_by rows key q old new looked false e lt at notes =
+    elim (cases_eq key.0 q.0) [
+      | inl same ↦
+          let ranks : is_eq (nat_cmp (rank key.1) (rank q.1)) ≡ false =
+          sym (ap (λ (r : Ordering). is_eq (ordering_then r (nat_cmp (rank key.1) (rank q.1)))) (ap (nat_cmp key.0) (sym same) ∙ number_self key.0)) ∙ e in
+          ap (λ (n : ℕ). looked_in (slice_get (set rows key.0 new) n) q.1) (sym same)
+          ∙ ap (λ (o : Option ByRole). looked_in o q.1) (get_set_same rows key.0 new lt) ∙ notes q.1
+          ∙ ap (λ (c : Bool). cond c looked (looked_of old q.1)) ranks
+          ∙ sym (ap (λ (o : Option ByRole). looked_in o q.1) at)
+          ∙ ap (λ (n : ℕ). looked_in (slice_get rows n) q.1) same
+      | inr other ↦ ap (λ (o : Option ByRole). looked_in o q.1) (get_set_other rows key.0 q.0 new other)
+    ]
 
-  small_by : (b : Bool) (o : Option ℕ) → unwrap_or o 0 ≤ length old.images.items → unwrap_or (cond b (Some n) o) 0 ≤ length new.images.items
-  small_by true o le = omega arith
-  small_by false o le = let more : length new.images.items ≡ suc (length old.images.items) = longer in omega arith
+pub notes : (rows : List ByRole) (key : Key) (old new : ByRole) (looked : Looked) → key.0 < length rows → slice_get rows key.0 ≡ Some old → NotesRole old key.1 looked new → Notes rows key looked (set rows key.0 new)
+notes rows key old new looked lt at adds = λ q. notes_by rows key q old new looked (is_eq (key_cmp key q)) refl lt at adds
 
-  pub stays_numbered : IsNumberedTable new
-  stays_numbered q = subst (λ (o : Option ℕ). unwrap_or o 0 ≤ length new.images.items) (sym (numbers_are q)) (small_by (is_eq (key_cmp key q)) (tree.get key_cmp old.numbers q) (small q))
+-- ---- the table to begin with
 
--- the key itself
-number_self : (n : ℕ) → nat_cmp n n ≡ Equal
-number_self n = rw (le-ltb n n (omega arith), eq-eqb n n refl) refl
+pub unseen_at : (row : ByRole) → ((k : TextRole) → looked_of row k ≡ looks.NotYet) → (n i : ℕ) (k : TextRole) → looked_in (slice_get (replicate n row) i) k ≡ looks.NotYet
+unseen_at row h zero i k = refl
+unseen_at row h (suc n) zero k = h k
+unseen_at row h (suc n) (suc i) k = unseen_at row h n i k
 
-key_self : (key : Key) → is_eq (key_cmp key key) ≡ true
-key_self key = ap (λ (r : Ordering). is_eq (ordering_then r (nat_cmp (rank key.1) (rank key.1)))) (number_self key.0) ∙ ap is_eq (number_self (rank key.1))
+-- no text was looked at
+abbrev pub IsUnseen : Table → Type 0
+IsUnseen table = (key : Key) → looked_at table.rows.items key ≡ looks.NotYet
+
+pub begins_numbered : (table : Table) → IsUnseen table → IsNumberedTable table
+begins_numbered table h = λ key. let none : number_at table key ≡ 0 = ap number_of (h key) in omega arith
 
 -- ---- one key more
 
+-- A key has this answer, and each other key the one that it had.
+abbrev pub Answers : Table → Key → Option Text → Table → Type 0
+Answers old key answer new = (q : Key) → image_at new q ≡ cond (is_eq (key_cmp key q)) answer (image_at old q)
+
+-- each image keeps its number
+abbrev pub KeepsNumbers : Table → Table → Type 0
+KeepsNumbers old new = (n : ℕ) → n ≤ length old.images.items → numbered new.images.items n ≡ numbered old.images.items n
+
+module _ (old new : Table) (key : Key) (looked : Looked) (is : Notes old.rows.items key looked new.rows.items) where
+  answers_by : (answer : Option Text) (b : Bool) (q : Key) → numbered new.images.items (number_of looked) ≡ answer → KeepsNumbers old new → IsNumberedTable old
+      → numbered new.images.items (number_of (cond b looked (looked_at old.rows.items q))) ≡ cond b answer (image_at old q)
+  answers_by answer true q here stay small = here
+  answers_by answer false q here stay small = stay (number_at old q) (small q)
+
+  pub answers : (answer : Option Text) → numbered new.images.items (number_of looked) ≡ answer → KeepsNumbers old new → IsNumberedTable old → Answers old key answer new
+  answers answer here stay small = λ q. ap (λ (l : Looked). numbered new.images.items (number_of l)) (is q) ∙ answers_by answer (is_eq (key_cmp key q)) q here stay small
+
+  small_by : (b : Bool) (q : Key) → number_of looked ≤ length new.images.items → length old.images.items ≤ length new.images.items → IsNumberedTable old → number_of (cond b looked (looked_at old.rows.items q)) ≤ length new.images.items
+  small_by true q here more small = here
+  small_by false q here more small = omega (arith, small q)
+
+  pub stays_numbered : number_of looked ≤ length new.images.items → length old.images.items ≤ length new.images.items → IsNumberedTable old → IsNumberedTable new
+  stays_numbered here more small = λ q. subst (λ (l : Looked). number_of l ≤ length new.images.items) (sym (is q)) (small_by (is_eq (key_cmp key q)) q here more small)
+
+  seen_by : (b : Bool) (q : Key) → was_looked_at looked ≡ true → was_looked_at (cond b looked (looked_at old.rows.items q)) ≡ (b || is_seen old q)
+  seen_by true q h = h
+  seen_by false q h = refl
+
+  pub one_seen : was_looked_at looked ≡ true → (q : Key) → is_seen new q ≡ (is_eq (key_cmp key q) || is_seen old q)
+  one_seen h q = ap was_looked_at (is q) ∙ seen_by (is_eq (key_cmp key q)) q h
+
+-- an image at the end of the others has their count as its number
+pub last_numbered : (xs ys : List Text) (t : Text) → ys ≡ xs ++ t ∷ [] → numbered ys (length ys) ≡ Some t
+last_numbered xs ys t e =
+    let longer : length ys ≡ suc (length xs) = ap length e ∙ length-append xs (t ∷ []) ∙ omega arith in
+    ap (numbered ys) longer ∙ ap (λ (l : List Text). numbered l (suc (length xs))) e ∙ get_last xs t
+
+pub front_numbered : (xs ys : List Text) (t : Text) → ys ≡ xs ++ t ∷ [] → (n : ℕ) → n ≤ length xs → numbered ys n ≡ numbered xs n
+front_numbered xs ys t e n le = ap (λ (l : List Text). numbered l n) e ∙ numbered_front xs (t ∷ []) n le
+
 module _ (im : Images) (pool : Pool) where
   -- an image that was made of the text of a key
-  pub answers_by : (key : Key) (own : Text) (answer : Option Text) (text : Text) → own ≡ text_at pool key.0 → answer ≡ Some text → IsImage own (image im (role_of key.1) own) answer → IsAnswer im pool key (Some text)
-  answers_by key own answer text o e h = subst (IsAnswer im pool key) e (subst (λ (t : Text). IsImage t (image im (role_of key.1) t) answer) o h)
+  pub answer_is : (key : Key) (own : Text) (made answer : Option Text) → own ≡ text_at pool key.0 → made ≡ answer → IsImage own (image im (role_of key.1) own) made → IsAnswer im pool key answer
+  answer_is key own made answer o e h = subst (IsAnswer im pool key) e (subst (λ (t : Text). IsImage t (image im (role_of key.1) t) made) o h)
 
-  sound_by : (b : Bool) (old : Table) (key q : Key) (text t : Text) → is_eq (key_cmp key q) ≡ b → IsAnswer im pool key (Some text) → IsSoundTable im pool old → cond b (Some text) (image_at old q) ≡ Some t → IsAnswer im pool q (Some t)
-  sound_by true old key q text t e is s h =
-      let same : text ≡ t = cc in
-      subst (λ (k : Key). IsAnswer im pool k (Some t)) (key_same key q e) (subst (λ (u : Text). IsAnswer im pool key (Some u)) same is)
-  sound_by false old key q text t e is s h = s q t h
+  keeps_by : (b : Bool) (old : Table) (key q : Key) (answer : Option Text) → is_eq (key_cmp key q) ≡ b → IsAnswer im pool key answer → FindsAt im pool old q → IsAnswer im pool q (cond b answer (image_at old q))
+  keeps_by true old key q answer e is h = subst (λ (k : Key). IsAnswer im pool k answer) (key_same key q e) is
+  keeps_by false old key q answer e is h = h
 
-  pub sound_put : (old new : Table) (key : Key) (text : Text) → Puts old key text new → IsAnswer im pool key (Some text) → IsSoundTable im pool old → IsSoundTable im pool new
-  sound_put old new key text up is s = λ q t h. sound_by (is_eq (key_cmp key q)) old key q text t refl is s (sym (up q) ∙ h)
+  pub keeps_found : (old new : Table) (key : Key) (answer : Option Text) → Answers old key answer new → IsAnswer im pool key answer → (q : Key) → FindsAt im pool old q → FindsAt im pool new q
+  keeps_found old new key answer up is q h = subst (IsAnswer im pool q) (sym (up q)) (keeps_by (is_eq (key_cmp key q)) old key q answer refl is h)
 
-  keeps_by : (b : Bool) (old : Table) (key q : Key) (text : Text) → is_eq (key_cmp key q) ≡ b → IsAnswer im pool key (Some text) → FindsAt im pool old q → IsAnswer im pool q (cond b (Some text) (image_at old q))
-  keeps_by true old key q text e is h = subst (λ (k : Key). IsAnswer im pool k (Some text)) (key_same key q e) is
-  keeps_by false old key q text e is h = h
-
-  pub keeps_put : (old new : Table) (key : Key) (text : Text) → Puts old key text new → IsAnswer im pool key (Some text) → (q : Key) → FindsAt im pool old q → FindsAt im pool new q
-  keeps_put old new key text up is q h = subst (IsAnswer im pool q) (sym (up q)) (keeps_by (is_eq (key_cmp key q)) old key q text refl is h)
-
-  pub finds_put : (old new : Table) (key : Key) (text : Text) → Puts old key text new → IsAnswer im pool key (Some text) → FindsAt im pool new key
-  finds_put old new key text up is = subst (IsAnswer im pool key) (sym (up key ∙ ap (λ (b : Bool). cond b (Some text) (image_at old key)) (key_self key))) is
-
-  -- where the text is its own image, a table has nothing
-  none_by : (table : Table) (key : Key) (o : Option Text) → IsSoundTable im pool table → image_at table key ≡ o → IsAnswer im pool key None → IsAnswer im pool key o
-  none_by table key None s e h = h
-  none_by table key (Some t) s e h = absurd ((s key t e).1 h)
-
-  pub finds_none : (table : Table) (key : Key) → IsSoundTable im pool table → IsAnswer im pool key None → FindsAt im pool table key
-  finds_none table key s h = none_by table key (image_at table key) s refl h
+  pub finds_new : (old new : Table) (key : Key) (answer : Option Text) → Answers old key answer new → IsAnswer im pool key answer → FindsAt im pool new key
+  finds_new old new key answer up is = subst (IsAnswer im pool key) (sym (up key ∙ ap (λ (b : Bool). cond b answer (image_at old key)) (key_self key))) is
 
   -- ---- what is found of a use
 
@@ -226,76 +239,27 @@ module _ (im : Images) (pool : Pool) where
       (All-weaker (λ (u : Used). Finds im pool old u.role u.index) (λ (u : Used). Finds im pool new u.role u.index) (λ u h. keeps_use old new keeps u.role u.index h) (take i us) before) here
 
   -- what is found for each key that was looked at
-  abbrev pub FindsSeen : Table → List RoleSet → Type 0
-  FindsSeen table seen = (q : Key) → is_seen seen q ≡ true → FindsAt im pool table q
+  abbrev pub FindsSeen : Table → Type 0
+  FindsSeen table = (q : Key) → is_seen table q ≡ true → FindsAt im pool table q
 
-  seen_by : (old new : Table) (seen : List RoleSet) (key q : Key) (room : Bool) → ((k : Key) → FindsAt im pool old k → FindsAt im pool new k) → FindsAt im pool new key → FindsSeen old seen
-      → (((is_eq (key_cmp key q) && room) ≡ true) ⊎ (is_seen seen q ≡ true)) → FindsAt im pool new q
-  seen_by old new seen key q room keeps here f (inl e) = subst (FindsAt im pool new) (key_same key q (and_parts _ _ e).0) here
-  seen_by old new seen key q room keeps here f (inr e) = keeps q (f q e)
+  pub begins_seen : (table : Table) → IsUnseen table → FindsSeen table
+  begins_seen table h = λ q seen. let none : is_seen table q ≡ false = ap was_looked_at (h q) in absurd cc
 
-  pub seen_more : (old new : Table) (seen seen' : List RoleSet) (key : Key) → Sees seen key seen' → ((k : Key) → FindsAt im pool old k → FindsAt im pool new k) → FindsAt im pool new key → FindsSeen old seen → FindsSeen new seen'
-  seen_more old new seen seen' key up keeps here f = λ q h. seen_by old new seen key q (ltb key.0 (length seen)) keeps here f (or_cases _ _ (sym (up q) ∙ h))
+  seen_more_by : (old new : Table) (key q : Key) → ((k : Key) → FindsAt im pool old k → FindsAt im pool new k) → FindsAt im pool new key → FindsSeen old → ((is_eq (key_cmp key q) ≡ true) ⊎ (is_seen old q ≡ true)) → FindsAt im pool new q
+  seen_more_by old new key q keeps here f (inl e) = subst (FindsAt im pool new) (key_same key q e) here
+  seen_more_by old new key q keeps here f (inr e) = keeps q (f q e)
+
+  pub seen_more : (old new : Table) (key : Key) → ((q : Key) → is_seen new q ≡ (is_eq (key_cmp key q) || is_seen old q)) → ((k : Key) → FindsAt im pool old k → FindsAt im pool new k) → FindsAt im pool new key → FindsSeen old → FindsSeen new
+  seen_more old new key up keeps here f = λ q h. seen_more_by old new key q keeps here f (or_cases _ _ (sym (up q) ∙ h))
 
 pub none_of : (o : Option TextRole) → ((k : TextRole) → o ≡ Some k → ⊥) → o ≡ None
 none_of None h = refl
 none_of (Some k) h = absurd (h k refl)
 
--- ---- what was looked at
-
-get_set_other : {A : Type 0} (xs : List A) (i j : ℕ) (x : A) → (i ≡ j → ⊥) → slice_get (set xs i x) j ≡ slice_get xs j
-get_set_other [] i j x h = refl
-get_set_other (y ∷ ys) zero zero x h = absurd (h refl)
-get_set_other (y ∷ ys) zero (suc j) x h = refl
-get_set_other (y ∷ ys) (suc i) zero x h = refl
-get_set_other (y ∷ ys) (suc i) (suc j) x h = get_set_other ys i j x (λ e. h (ap suc e))
-
-get_set_same : {A : Type 0} (xs : List A) (i : ℕ) (x : A) → i < length xs → slice_get (set xs i x) i ≡ Some x
-get_set_same {A} xs i x lt = slice_get-get_or (set xs i x) i x (let l : length (set xs i x) ≡ length xs = length-set xs i x in omega arith) ∙ ap (λ (y : A). Some y) (get_or-set_same xs i x x lt)
-
--- a set of roles with one role more
-abbrev pub Adds : RoleSet → TextRole → RoleSet → Type 0
-Adds old role new = (k : TextRole) → has_role new k ≡ (is_eq (nat_cmp (rank role) (rank k)) || has_role old k)
-
-sees_by : (seen : List RoleSet) (key q : Key) (old new : RoleSet) (b : Bool) → is_eq (key_cmp key q) ≡ b → key.0 < length seen → slice_get seen key.0 ≡ Some old → Adds old key.1 new
-    → is_seen (set seen key.0 new) q ≡ ((b && ltb key.0 (length seen)) || is_seen seen q)
-sees_by seen key q old new true e lt at adds =
-    let P : Key → Type 0 = λ k. is_seen (set seen key.0 new) k ≡ ((true && ltb key.0 (length seen)) || is_seen seen k) in
-    subst P (key_same key q e)
-    (ap (λ (o : Option RoleSet). has_role_in o key.1) (get_set_same seen key.0 new lt) ∙ adds key.1
-    ∙ ap (λ (c : Bool). c || has_role old key.1) (ap is_eq (number_self (rank key.1)))
-    ∙ sym (ap (λ (c : Bool). c || is_seen seen key) (lt-ltb key.0 (length seen) lt)))
-sees_by seen key q old new false e lt at adds =
-    elim (cases_eq key.0 q.0) [
-      | inl same ↦
-          let ranks : is_eq (nat_cmp (rank key.1) (rank q.1)) ≡ false =
-          sym (ap (λ (r : Ordering). is_eq (ordering_then r (nat_cmp (rank key.1) (rank q.1)))) (ap (nat_cmp key.0) (sym same) ∙ number_self key.0)) ∙ e in
-          ap (λ (n : ℕ). has_role_in (slice_get (set seen key.0 new) n) q.1) (sym same)
-          ∙ ap (λ (o : Option RoleSet). has_role_in o q.1) (get_set_same seen key.0 new lt) ∙ adds q.1
-          ∙ ap (λ (c : Bool). c || has_role old q.1) ranks
-          ∙ sym (ap (λ (o : Option RoleSet). has_role_in o q.1) at)
-          ∙ ap (λ (n : ℕ). has_role_in (slice_get seen n) q.1) same
-      | inr other ↦ ap (λ (o : Option RoleSet). has_role_in o q.1) (get_set_other seen key.0 q.0 new other)
-    ]
-
-pub sees : (seen : List RoleSet) (key : Key) (old new : RoleSet) → key.0 < length seen → slice_get seen key.0 ≡ Some old → Adds old key.1 new → Sees seen key (set seen key.0 new)
-sees seen key old new lt at adds = λ q. sees_by seen key q old new (is_eq (key_cmp key q)) refl lt at adds
-
-take_whole : (xs ys : List RoleSet) → take (length xs) (xs ++ ys) ≡ xs
-take_whole [] ys = refl
-take_whole (x ∷ xs) ys = ap (λ (zs : List RoleSet). x ∷ zs) (take_whole xs ys)
-
--- what a list has after a write over its whole length
-pub written_over : (n : ℕ) (xs ys : List RoleSet) → n ≡ length xs → take n (xs ++ ys) ≡ xs
-written_over n xs ys e = ap (λ (k : ℕ). take k (xs ++ ys)) e ∙ take_whole xs ys
-
 -- ---- an empty table
 
 nothing_at : (table : Table) (key : Key) → table.images.items ≡ [] → image_at table key ≡ None
 nothing_at table key e = ap (λ (l : List Text). numbered l (number_at table key)) e ∙ none_numbered (number_at table key)
-
-pub begins_sound : (im : Images) (pool : Pool) (table : Table) → table.images.items ≡ [] → IsSoundTable im pool table
-begins_sound im pool table e = λ key text at. let none : image_at table key ≡ None = nothing_at table key e in absurd cc
 
 nothing_by : (table : Table) (i : ℕ) (o : Option TextRole) → table.images.items ≡ [] → found_by table i o ≡ None
 nothing_by table i None e = refl

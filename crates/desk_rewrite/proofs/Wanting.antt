@@ -1,5 +1,5 @@
 -- What uses want is what the definitions say.
-use Rattle.std.proofs.Common.{◌≡◌, ℕ, ◌+◌, ◌<◌, ◌^◌, Bool, false, not, cond, List, [], ◌∷◌, map, length, Option, Some, None, option_map, refl, ap, ap₂, sym, ◌∙◌, subst, bytes_eq, count_by, arith, All}
+use Rattle.std.proofs.Common.{◌≡◌, ℕ, ◌+◌, ◌<◌, ◌≤◌, ◌^◌, Bool, false, not, cond, List, [], ◌∷◌, map, length, Option, Some, None, option_map, refl, ap, ap₂, sym, ◌∙◌, subst, bytes_eq, count_by, arith, All}
 use denote.Ref.{Bor}
 use Rattle.std.specs.List.{AllByRecursion}
 use Rattle.std.specs.Option.{is_some, option_copied}
@@ -9,7 +9,7 @@ use Rattle.std.proofs.lemmas.Slice.Eq.{bytes_eq-Decides}
 use Rattle.desk_base.specs.Names.{Text}
 use Rattle.desk_base.specs.Referents.{fits}
 use Rattle.std.proofs.lemmas.List.{length-map}
-use Rattle.desk_new_pool.proofs.Texts.{entry_of_text}
+use Rattle.desk_new_pool.proofs.Texts.{entry_of_text, text_in_range}
 use Rattle.desk_base.specs.Entries.{Entry, utf8, tag_of, Pool, entry_at, utf8_in, text_in, text_at}
 use Rattle.desk_base.specs.declared.kinds.Used.{Used}
 use Rattle.desk_base.specs.Utf8.{bad_form}
@@ -70,6 +70,13 @@ pub are_wanted : (im : Images) (pool : Pool) (ws : List WantedText) → IsShaped
 are_wanted im pool [] shaped named h = All-nil (IsWanted pool)
 are_wanted im pool (w ∷ ws) shaped named h =
     All-cons (IsWanted pool) w ws (is_wanted_text im pool w shaped (named.0) (All-head (IsWantedUnder im pool) w ws h)) (are_wanted im pool ws shaped (named.1) (All-tail (IsWantedUnder im pool) w ws h))
+
+-- each use names an index of the pool
+pub within : (pool : Pool) (us : List Used) → AllByRecursion (NamesText pool) us → All (λ (u : Used). u.index ≤ length pool) us
+within pool [] named = All-nil (λ (u : Used). u.index ≤ length pool)
+within pool (u ∷ us) named =
+    let p = is_utf8 (entry_at pool u.index) named.0 in
+    All-cons (λ (v : Used). v.index ≤ length pool) u us (text_in_range pool u.index p.0 (ap utf8_in p.1)) (within pool us named.1)
 
 -- ---- counts
 

@@ -1,8 +1,7 @@
 -- The images of texts by index and role, as the code keeps them.
-use Rattle.std.specs.Prelude.{◌≡◌, ◌≤◌, ◌&&◌, ◌||◌, ℕ, nat_lt, Bool, false, List, length, slice_get, Option, Some, None, unwrap_or, if◌then◌else◌, All}
+use Rattle.std.specs.Prelude.{◌≡◌, ◌≤◌, ℕ, Bool, true, false, List, length, slice_get, Option, Some, None, if◌then◌else◌, All}
 use Rattle.std.specs.Ordering.{nat_cmp, ordering_then, is_eq}
 use Rattle.std.specs.declared.cmp.Ordering.{Ordering}
-use Rattle.std.specs.BTreeMap.{get}
 use Rattle.desk_base.specs.Names.{Text}
 use Rattle.desk_base.specs.Entries.{Pool, text_at}
 use Rattle.desk_base.specs.declared.kinds.Role.{Role}
@@ -12,7 +11,9 @@ use Rattle.desk_format.specs.declared.members.Member.{Member}
 use Rattle.desk_format.specs.Resolved.{Images, image}
 use Rattle.desk_rules.specs.Images.{IsImage}
 use Rattle.desk_new_pool.specs.Wants.{numbered}
-use Rattle.desk_rewrite.specs.declared.seen.RoleSet.{RoleSet}
+use Rattle.desk_rewrite.specs.declared.seen.ByRole.{ByRole}
+use Rattle.desk_rewrite.specs.declared.seen.Looked.{Looked}
+use Rattle.desk_rewrite.specs.declared.seen.Looked.TheVariants as looks
 use Rattle.desk_rewrite.specs.declared.table.ImageTable.{ImageTable}
 use Rattle.desk_rewrite.specs.declared.table.TextRole.{TextRole}
 use Rattle.desk_rewrite.specs.declared.table.TextRole.TheVariants as text_roles
@@ -60,29 +61,40 @@ Key = ℕ × TextRole
 abbrev pub key_cmp : Key → Key → Ordering
 key_cmp x y = ordering_then (nat_cmp x.0 y.0) (nat_cmp (rank x.1) (rank y.1))
 
--- ---- what was looked at
+-- ---- what is known of texts
 
--- whether a role is one of a set
-abbrev pub has_role : RoleSet → TextRole → Bool
-has_role roles text_roles.Class = roles.classes
-has_role roles text_roles.Package = roles.packages
-has_role roles text_roles.Descriptor = roles.descriptors
-has_role roles text_roles.ClassSig = roles.class_signatures
-has_role roles text_roles.MethodSig = roles.method_signatures
-has_role roles text_roles.FieldSig = roles.field_signatures
-has_role roles text_roles.Str = roles.strings
+-- what is known of a text in a role
+abbrev pub looked_of : ByRole → TextRole → Looked
+looked_of known text_roles.Class = known.class
+looked_of known text_roles.Package = known.package
+looked_of known text_roles.Descriptor = known.descriptor
+looked_of known text_roles.ClassSig = known.class_signature
+looked_of known text_roles.MethodSig = known.method_signature
+looked_of known text_roles.FieldSig = known.field_signature
+looked_of known text_roles.Str = known.string
 
-abbrev pub has_role_in : Option RoleSet → TextRole → Bool
-has_role_in None text_role = false
-has_role_in (Some roles) text_role = has_role roles text_role
+abbrev pub looked_in : Option ByRole → TextRole → Looked
+looked_in None text_role = looks.NotYet
+looked_in (Some known) text_role = looked_of known text_role
 
--- whether the text of a key was looked at
-abbrev pub is_seen : List RoleSet → Key → Bool
-is_seen seen key = has_role_in (slice_get seen key.0) key.1
+-- what is known of the text of a key, by what is known of the text at each index
+abbrev pub looked_at : List ByRole → Key → Looked
+looked_at rows key = looked_in (slice_get rows key.0) key.1
 
--- one key more was looked at, if there is room for its index
-abbrev pub Sees : List RoleSet → Key → List RoleSet → Type 0
-Sees old key new = (q : Key) → is_seen new q ≡ ((is_eq (key_cmp key q) && nat_lt key.0 (length old)) || is_seen old q)
+-- this is known of the text of a key, and of each other what was known before
+abbrev pub Notes : List ByRole → Key → Looked → List ByRole → Type 0
+Notes old key looked new = (q : Key) → looked_at new q ≡ (if is_eq (key_cmp key q) then looked else looked_at old q)
+
+abbrev pub was_looked_at : Looked → Bool
+was_looked_at looks.NotYet = false
+was_looked_at looks.Own = true
+was_looked_at (looks.Image n) = true
+
+-- the number of an image that is another text, and else 0
+abbrev pub number_of : Looked → ℕ
+number_of looks.NotYet = 0
+number_of looks.Own = 0
+number_of (looks.Image n) = n
 
 -- ---- tables
 
@@ -90,9 +102,13 @@ Sees old key new = (q : Key) → is_seen new q ≡ ((is_eq (key_cmp key q) && na
 abbrev pub Table : Type 0
 Table = ImageTable
 
+-- whether the text of a key was looked at
+abbrev pub is_seen : Table → Key → Bool
+is_seen table key = was_looked_at (looked_at table.rows.items key)
+
 -- the number of the image that a table has at a key, and 0 where it has none
 abbrev pub number_at : Table → Key → ℕ
-number_at table key = unwrap_or (get key_cmp table.numbers key) 0
+number_at table key = number_of (looked_at table.rows.items key)
 
 -- what a table has at a key
 abbrev pub image_at : Table → Key → Option Text
@@ -102,10 +118,6 @@ image_at table key = numbered table.images.items (number_at table key)
 abbrev pub IsNumberedTable : Table → Type 0
 IsNumberedTable table = (key : Key) → number_at table key ≤ length table.images.items
 
--- a table with an image at a key
-abbrev pub Puts : Table → Key → Text → Table → Type 0
-Puts old key text new = (q : Key) → image_at new q ≡ (if is_eq (key_cmp key q) then Some text else image_at old q)
-
 -- the image of the text at the index of a key, as an answer
 abbrev pub IsAnswer : Images → Pool → Key → Option Text → Type 0
 IsAnswer im pool key answer = IsImage (text_at pool key.0) (image im (role_of key.1) (text_at pool key.0)) answer
@@ -113,10 +125,6 @@ IsAnswer im pool key answer = IsImage (text_at pool key.0) (image im (role_of ke
 -- What a table has at a key is the image of its text, and nothing where that is the text itself.
 abbrev pub FindsAt : Images → Pool → Table → Key → Type 0
 FindsAt im pool table key = IsAnswer im pool key (image_at table key)
-
--- each text of a table is the image of another
-abbrev pub IsSoundTable : Images → Pool → Table → Type 0
-IsSoundTable im pool table = (key : Key) (text : Text) → image_at table key ≡ Some text → IsAnswer im pool key (Some text)
 
 -- ---- what is found
 

@@ -1,6 +1,7 @@
 //! Classes that are their own images.
 
-ghost use Rattle.std.specs.Prelude.{◌≡◌, Ok, IfOk, IfSome, OnOk, count_by, length, nat_eq, not};
+ghost use Rattle.std.specs.Prelude.{◌≡◌, ◌<◌, ◌≤◌, All, Ok, IfOk, IfSome, OnOk, count_by, length, nat_eq, not};
+ghost use Rattle.desk_base.specs.declared.kinds.Used.{Used};
 ghost use Rattle.desk_follow.specs.RuleImages.{images_of};
 ghost use Rattle.desk_format.specs.Classes.{Class, read_class};
 ghost use Rattle.desk_rewrite.specs.Counts.{is_renamed};
@@ -9,7 +10,7 @@ ghost use Rattle.desk_rewrite.specs.Unchanged.{AreOwn, IsItself, odd_if_unchange
 use crate::counts::odd_uses;
 use crate::images::image_by_role;
 use crate::printing::bytes_of;
-use crate::seen::{RoleSet, is_seen, see};
+use crate::seen::{ByRole, Looked, looked_at, note};
 use crate::table::{text_at, text_role_of};
 use desk_base::{Memory, Used};
 use desk_class::ClassView;
@@ -18,24 +19,25 @@ use desk_rename::NoImages;
 use desk_rules::RuleSet;
 use std::alloc::Global;
 
-/// Whether the text of a use is its own image. A text that is one is noted as looked at.
+/// Whether the text of a use is its own image, which is noted of a text that is.
 fn is_own(
     alloc: Global,
     rules: &RuleSet,
     pool: &Pool<'_>,
-    seen: &mut [RoleSet],
+    rows: &mut [ByRole],
     used: &Used,
 ) -> Result<bool, Memory>
-    requires { AreOwn (images_of rules.now) pool.now.entries seen.old }
+    requires room { used.now.index < length rows.old }
+    requires rows { AreOwn (images_of rules.now) pool.now.entries rows.old }
     ensures own { IfOk result (λ own. own ≡ not (is_renamed (images_of rules.now) pool.now.entries used.now)) }
-    ensures seen { OnOk result (AreOwn (images_of rules.now) pool.now.entries seen.new) }
-    ensures length { length seen.new ≡ length seen.old }
+    ensures rows { OnOk result (AreOwn (images_of rules.now) pool.now.entries rows.new) }
+    ensures length { length rows.new ≡ length rows.old }
 {
     let Some(text_role) = text_role_of(used.role) else {
         return Ok(true);
     };
     let key = (used.index, text_role);
-    if is_seen(seen, key) {
+    if matches!(looked_at(rows, key), Looked::Own) {
         return Ok(true);
     }
     let images = NoImages::new(rules);
@@ -43,17 +45,18 @@ fn is_own(
     if image_by_role(alloc, rules, &images, text_role, text)?.is_some() {
         return Ok(false);
     }
-    see(seen, key);
+    note(rows, key, Looked::Own);
     Ok(true)
 }
 
 /// Whether the text of each use is its own image. Each text is looked at once in a role, up to the first with another image.
 fn are_own(alloc: Global, rules: &RuleSet, pool: &Pool<'_>, uses: &[Used]) -> Result<bool, Memory>
+    requires { All (λ (u : Used). u.index ≤ length pool.now.entries) uses.now }
     ensures { IfOk result (λ own. own ≡ nat_eq (count_by (is_renamed (images_of rules.now) pool.now.entries) uses.now) 0) }
 {
-    let mut seen = vec![in alloc; RoleSet::none(); pool.count() as usize]?;
+    let mut rows = vec![in alloc; ByRole::unseen(); pool.count() as usize]?;
     for used in uses {
-        if !is_own(alloc, rules, pool, &mut seen, used)? {
+        if !is_own(alloc, rules, pool, &mut rows, used)? {
             return Ok(false);
         }
     }

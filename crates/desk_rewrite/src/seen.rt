@@ -1,95 +1,104 @@
-//! Which texts were looked at, by index and role.
+//! What is known of texts, by index and role.
 
-ghost use Rattle.std.specs.Prelude.{◌≡◌, ◌||◌, false, length};
+ghost use Rattle.std.specs.Prelude.{◌≡◌, ◌<◌, if◌then◌else◌, length};
 ghost use Rattle.std.specs.Ordering.{nat_cmp, is_eq};
-ghost use Rattle.desk_rewrite.specs.Tables.{rank, has_role, is_seen, Sees};
+ghost use Rattle.desk_rewrite.specs.Tables.{rank, looked_of, looked_at, Notes};
 ghost use Rattle.desk_rewrite.specs.declared.table.TextRole.{TextRole as RoleOf};
 
 use crate::table::TextRole;
 
-/// A set of roles.
+/// What is known of a text in a role.
 #[derive(Clone, Copy, Debug)]
-pub struct RoleSet {
-    /// Whether names of classes and arrays are in it.
-    classes: bool,
-    /// Whether packages are.
-    packages: bool,
-    /// Whether descriptors are.
-    descriptors: bool,
-    /// Whether signatures of classes are.
-    class_signatures: bool,
-    /// Whether signatures of methods are.
-    method_signatures: bool,
-    /// Whether signatures of fields are.
-    field_signatures: bool,
-    /// Whether string constants are.
-    strings: bool,
+pub enum Looked {
+    /// It wasn't looked at.
+    NotYet,
+    /// It is its own image.
+    Own,
+    /// Its image is another text, of this number.
+    Image(u32),
 }
 
-impl RoleSet {
-    /// No role.
-    pub fn none() -> RoleSet
-        ensures { (k : RoleOf) → has_role result k ≡ false }
+/// What is known of a text in each role.
+#[derive(Clone, Copy, Debug)]
+pub struct ByRole {
+    /// As the name of a class or an array.
+    class: Looked,
+    /// As a package.
+    package: Looked,
+    /// As a descriptor.
+    descriptor: Looked,
+    /// As the signature of a class.
+    class_signature: Looked,
+    /// As the signature of a method.
+    method_signature: Looked,
+    /// As the signature of a field.
+    field_signature: Looked,
+    /// As a string constant.
+    string: Looked,
+}
+
+impl ByRole {
+    /// What is known of a text that wasn't looked at.
+    pub fn unseen() -> ByRole
+        ensures { (k : RoleOf) → looked_of result k ≡ Looked.NotYet }
     {
-        RoleSet {
-            classes: false,
-            packages: false,
-            descriptors: false,
-            class_signatures: false,
-            method_signatures: false,
-            field_signatures: false,
-            strings: false,
+        ByRole {
+            class: Looked::NotYet,
+            package: Looked::NotYet,
+            descriptor: Looked::NotYet,
+            class_signature: Looked::NotYet,
+            method_signature: Looked::NotYet,
+            field_signature: Looked::NotYet,
+            string: Looked::NotYet,
         }
     }
 
-    /// Whether a role is in the set.
-    fn has(&self, text_role: TextRole) -> bool
-        ensures { result ≡ has_role self.now text_role }
-    {
-        match text_role {
-            TextRole::Class => self.classes,
-            TextRole::Package => self.packages,
-            TextRole::Descriptor => self.descriptors,
-            TextRole::ClassSig => self.class_signatures,
-            TextRole::MethodSig => self.method_signatures,
-            TextRole::FieldSig => self.field_signatures,
-            TextRole::Str => self.strings,
-        }
-    }
-
-    /// Puts a role into the set.
-    fn put(&mut self, text_role: TextRole)
-        ensures { (k : RoleOf) → has_role self.new k ≡ (is_eq (nat_cmp (rank text_role) (rank k)) || has_role self.old k) }
+    /// What is known in a role.
+    fn get(&self, text_role: TextRole) -> Looked
+        ensures { result ≡ looked_of self.now text_role }
     {
         match text_role {
-            TextRole::Class => self.classes = true,
-            TextRole::Package => self.packages = true,
-            TextRole::Descriptor => self.descriptors = true,
-            TextRole::ClassSig => self.class_signatures = true,
-            TextRole::MethodSig => self.method_signatures = true,
-            TextRole::FieldSig => self.field_signatures = true,
-            TextRole::Str => self.strings = true,
+            TextRole::Class => self.class,
+            TextRole::Package => self.package,
+            TextRole::Descriptor => self.descriptor,
+            TextRole::ClassSig => self.class_signature,
+            TextRole::MethodSig => self.method_signature,
+            TextRole::FieldSig => self.field_signature,
+            TextRole::Str => self.string,
+        }
+    }
+
+    /// Notes what is known in a role.
+    fn set(&mut self, text_role: TextRole, looked: Looked)
+        ensures { (k : RoleOf) → looked_of self.new k ≡ (if is_eq (nat_cmp (rank text_role) (rank k)) then looked else looked_of self.old k) }
+    {
+        match text_role {
+            TextRole::Class => self.class = looked,
+            TextRole::Package => self.package = looked,
+            TextRole::Descriptor => self.descriptor = looked,
+            TextRole::ClassSig => self.class_signature = looked,
+            TextRole::MethodSig => self.method_signature = looked,
+            TextRole::FieldSig => self.field_signature = looked,
+            TextRole::Str => self.string = looked,
         }
     }
 }
 
-/// Whether the text at an index was looked at in a role.
-pub fn is_seen(seen: &[RoleSet], key: (u16, TextRole)) -> bool
-    ensures { result ≡ is_seen seen.now key }
+/// What is known of the text at an index in a role.
+pub fn looked_at(rows: &[ByRole], key: (u16, TextRole)) -> Looked
+    ensures { result ≡ looked_at rows.now key }
 {
-    match seen.get(key.0 as usize) {
-        None => false,
-        Some(roles) => roles.has(key.1),
+    match rows.get(key.0 as usize) {
+        None => Looked::NotYet,
+        Some(row) => row.get(key.1),
     }
 }
 
-/// Notes that the text at an index was looked at in a role, if there is room for the index.
-pub fn see(seen: &mut [RoleSet], key: (u16, TextRole))
-    ensures sees { Sees seen.old key seen.new }
-    ensures length { length seen.new ≡ length seen.old }
+/// Notes what is known of the text at an index in a role.
+pub fn note(rows: &mut [ByRole], key: (u16, TextRole), looked: Looked)
+    requires { key.0 < length rows.old }
+    ensures notes { Notes rows.old key looked rows.new }
+    ensures length { length rows.new ≡ length rows.old }
 {
-    let index = key.0 as usize;
-    if index < seen.len() {
-        seen[index].put(key.1);
-    }
+    rows[key.0 as usize].set(key.1, looked);
 }

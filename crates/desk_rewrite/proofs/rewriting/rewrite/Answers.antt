@@ -1,6 +1,7 @@
-use Rattle.std.proofs.Common.{◌<◌, ◌^◌, ℕ, List, length, ap, sym, ◌∙◌, subst, All}
+use Rattle.std.proofs.Common.{◌<◌, ◌≤◌, ◌^◌, ℕ, List, length, ap, sym, ◌∙◌, subst, All}
 use Rattle.std.specs.List.{AllByRecursion}
 use Rattle.std.proofs.lemmas.Result.{err_from_is_err_and}
+use Rattle.desk_base.specs.Entries.{Pool}
 use Rattle.desk_base.specs.declared.kinds.Used.{Used}
 use Rattle.desk_format.specs.Classes.{class_uses}
 use Rattle.desk_format.specs.Classes.{uses_in}
@@ -16,7 +17,7 @@ use Rattle.desk_rewrite.proofs.Making.{IsWantedIn, wanted_in, wants_in, IsOwnIn,
 use Rattle.desk_rewrite.proofs.Forms.{forms_kept, images_settled}
 use Rattle.desk_rewrite.proofs.Parts.{IsKnown, known, IsFound, found}
 use Rattle.desk_rewrite.proofs.Unchanged.{no_added, same_bytes, not_refused}
-use Rattle.desk_rewrite.proofs.Wanting.{are_wanted, wants_few, renamed_are, none_renamed}
+use Rattle.desk_rewrite.proofs.Wanting.{are_wanted, within, wants_few, renamed_are, none_renamed}
 use Rattle.desk_rewrite.proofs.rewriting.rewrite.Goals as goal
 use Rattle.desk_rewrite.proofs.rewriting.rewrite.Goals.{then-is_empty+in_ok-from_bytes, else-is_empty+in_ok-wants+in_ok-bytes}
 
@@ -29,6 +30,12 @@ pub all_images-requires-clause-few : goal.all_images-requires-clause-few
 all_images-requires-clause-few g c =
     let k : IsKnown c.args.view.now = known c.args.view.now c.bytes_of-bytes.ensures.each c.bytes_of-bytes.ensures.sound in
     subst (λ (us : List Used). length us < 2 ^ 32) (sym c.uses.ensures) (k.few c.bytes_of-bytes.ensures.short)
+
+pub all_images-requires-clause-indices : goal.all_images-requires-clause-indices
+all_images-requires-clause-indices g c =
+    let k : IsKnown c.args.view.now = known c.args.view.now c.bytes_of-bytes.ensures.each c.bytes_of-bytes.ensures.sound in
+    subst (λ (us : List Used). All (λ (u : Used). u.index ≤ length c.pool.result.now.entries) us) (sym c.uses.ensures)
+    (subst (λ (q : Pool). All (λ (u : Used). u.index ≤ length q) (uses_in c.args.view.now)) (sym c.pool.ensures.entries) (within (pool_in c.args.view.now) (uses_in c.args.view.now) k.named))
 
 pub renamed_uses-renamed-requires : goal.renamed_uses-renamed-requires
 renamed_uses-renamed-requires g c =

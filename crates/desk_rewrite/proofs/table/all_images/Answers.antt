@@ -1,16 +1,31 @@
-use Rattle.std.proofs.Common.{◌≡◌, ◌+◌, ◌≤◌, List, length, drop, get_or, sym, ap, ◌∙◌, subst, arith}
+use Rattle.std.proofs.Common.{◌≡◌, ◌+◌, ◌≤◌, suc, List, length, get_or, sym, ap, ◌∙◌, subst, arith}
 use Rattle.std.proofs.lemmas.List.{take_all}
+use Rattle.std.proofs.lemmas.List.Elements.{All-nil}
 use Rattle.desk_base.specs.declared.kinds.Role.TheVariants.{Class}
 use Rattle.desk_base.specs.declared.kinds.Used.{Used}
 use Rattle.desk_follow.specs.RuleImages.{images_of}
-use Rattle.desk_rewrite.specs.declared.seen.RoleSet.{RoleSet}
-use Rattle.desk_rewrite.specs.Tables.{Table, Key, Sees, FindsAt, IsNumberedTable, IsSoundTable, HasImages, is_seen}
-use Rattle.desk_rewrite.proofs.Tables.{FindsSeen, HasBefore, has_more, seen_more, finds_use, own_use, none_of, written_over}
+use Rattle.desk_rewrite.specs.Tables.{Table, Key, FindsAt, Finds, IsNumberedTable, HasImages}
+use Rattle.desk_rewrite.proofs.Tables.{FindsSeen, HasBefore, begins_numbered, begins_seen, has_more, seen_more, finds_use, own_use, none_of}
 use Rattle.desk_rewrite.proofs.table.all_images.Goals as goal
 use Rattle.desk_rewrite.proofs.table.all_images.Goals.{in-Some+then-not-is_seen+in_ok-add_image, in-Some+else-not-is_seen, in_default}
 
 abbrev default : Used
 default = record { at = 0; index = 0; role = Class }
+
+pub loop-used-init : goal.loop-used-init
+loop-used-init g c =
+    let im = images_of c.args.rules.now in
+    let none : length c.in_ok-table.table.images.items ≡ 0 = ap length c.in_ok-table.ensures.images in
+    record {
+      few = omega arith;
+      rows = omega (arith, c.in_ok-table.ensures.rows, c.count.ensures);
+      numbers = begins_numbered c.in_ok-table.table c.in_ok-table.ensures.unseen;
+      seen = begins_seen im c.args.pool.now.entries c.in_ok-table.table c.in_ok-table.ensures.unseen;
+      has = All-nil (λ (u : Used). Finds im c.args.pool.now.entries c.in_ok-table.table u.role u.index);
+    }
+
+pub add_image-requires-clause-room : goal.add_image-requires-clause-room
+add_image-requires-clause-room g c = omega (arith, c.requires.indices c.loop-used.used-index default c.loop-used-test.true, c.loop-used.invariant.rows)
 
 pub loop-used-preserved : goal.loop-used-preserved
 loop-used-preserved g c =
@@ -23,39 +38,32 @@ loop-used-preserved g c =
       | in-Some+then-not-is_seen+in_ok-add_image w ↦
           let key : Key = (u.index, w.in-Some.text_role) in
           let new : Table = w.add_image.new.table in
-          let up : Sees c.loop-used.seen.items key w.see.new.seen = subst (λ (s : List RoleSet). Sees s key w.see.new.seen) w.deref_mut.ensures.value w.see.ensures.sees in
-          let same : c.loop-used.seen.len ≡ length w.see.new.seen = sym (w.see.ensures.length ∙ w.deref_mut.ensures.len) in
           record {
             few = subst (λ (t : Table). length t.images.items ≤ i + 1) (sym w.table-is) (omega (arith, w.in_ok-add_image.ensures.few, c.loop-used.invariant.few));
+            rows = subst (λ (t : Table). length t.rows.items ≡ suc (length pool)) (sym w.table-is) (w.in_ok-add_image.ensures.rows ∙ c.loop-used.invariant.rows);
             numbers = subst IsNumberedTable (sym w.table-is) w.in_ok-add_image.ensures.numbers;
-            sound = subst (IsSoundTable im pool) (sym w.table-is) w.in_ok-add_image.ensures.sound;
-            seen = subst (λ (t : Table). FindsSeen im pool t c.match-text_role_of.seen.items) (sym w.table-is)
-                (subst (λ (s : List RoleSet). FindsSeen im pool new s) (sym (ap (λ v. v.items) w.seen-is ∙ written_over c.loop-used.seen.len w.see.new.seen (drop (length w.see.new.seen) c.loop-used.seen.items) same))
-                (seen_more im pool c.loop-used.table new c.loop-used.seen.items w.see.new.seen key up w.in_ok-add_image.ensures.keeps w.in_ok-add_image.ensures.finds c.loop-used.invariant.seen));
+            seen = subst (FindsSeen im pool) (sym w.table-is) (seen_more im pool c.loop-used.table new key w.in_ok-add_image.ensures.seen w.in_ok-add_image.ensures.keeps w.in_ok-add_image.ensures.finds c.loop-used.invariant.seen);
             has = subst (λ (t : Table). HasBefore im pool t us (i + 1)) (sym w.table-is)
                 (has_more im pool c.loop-used.table new us i default c.loop-used-test.true w.in_ok-add_image.ensures.keeps
                 (finds_use im pool new u.role u.index w.in-Some.text_role (sym c.text_role_of.ensures ∙ w.in-Some.is) w.in_ok-add_image.ensures.finds) c.loop-used.invariant.has);
           }
       | in-Some+else-not-is_seen w ↦
           let key : Key = (u.index, w.in-Some.text_role) in
-          let here : FindsAt im pool c.loop-used.table key =
-          c.loop-used.invariant.seen key (ap (λ (s : List RoleSet). is_seen s key) (sym w.deref.ensures.value) ∙ sym w.is_seen.ensures ∙ w.if-not-is_seen.false) in
+          let here : FindsAt im pool c.loop-used.table key = c.loop-used.invariant.seen key (sym w.is_seen.ensures ∙ w.if-not-is_seen.false) in
           record {
             few = subst (λ (t : Table). length t.images.items ≤ i + 1) (sym w.table-is) (omega (arith, c.loop-used.invariant.few));
+            rows = subst (λ (t : Table). length t.rows.items ≡ suc (length pool)) (sym w.table-is) c.loop-used.invariant.rows;
             numbers = subst IsNumberedTable (sym w.table-is) c.loop-used.invariant.numbers;
-            sound = subst (IsSoundTable im pool) (sym w.table-is) c.loop-used.invariant.sound;
-            seen = subst (λ (t : Table). FindsSeen im pool t c.match-text_role_of.seen.items) (sym w.table-is)
-                (subst (λ (s : List RoleSet). FindsSeen im pool c.loop-used.table s) (sym (ap (λ v. v.items) w.seen-is)) c.loop-used.invariant.seen);
+            seen = subst (FindsSeen im pool) (sym w.table-is) c.loop-used.invariant.seen;
             has = subst (λ (t : Table). HasBefore im pool t us (i + 1)) (sym w.table-is)
                 (has_more im pool c.loop-used.table c.loop-used.table us i default c.loop-used-test.true (λ q h. h)
                 (finds_use im pool c.loop-used.table u.role u.index w.in-Some.text_role (sym c.text_role_of.ensures ∙ w.in-Some.is) here) c.loop-used.invariant.has);
           }
       | in_default w ↦ record {
         few = subst (λ (t : Table). length t.images.items ≤ i + 1) (sym w.table-is) (omega (arith, c.loop-used.invariant.few));
+        rows = subst (λ (t : Table). length t.rows.items ≡ suc (length pool)) (sym w.table-is) c.loop-used.invariant.rows;
         numbers = subst IsNumberedTable (sym w.table-is) c.loop-used.invariant.numbers;
-        sound = subst (IsSoundTable im pool) (sym w.table-is) c.loop-used.invariant.sound;
-        seen = subst (λ (t : Table). FindsSeen im pool t c.match-text_role_of.seen.items) (sym w.table-is)
-            (subst (λ (s : List RoleSet). FindsSeen im pool c.loop-used.table s) (sym (ap (λ v. v.items) w.seen-is)) c.loop-used.invariant.seen);
+        seen = subst (FindsSeen im pool) (sym w.table-is) c.loop-used.invariant.seen;
         has = subst (λ (t : Table). HasBefore im pool t us (i + 1)) (sym w.table-is)
             (has_more im pool c.loop-used.table c.loop-used.table us i default c.loop-used-test.true (λ q h. h)
             (own_use im pool c.loop-used.table u.role u.index (sym c.text_role_of.ensures ∙ none_of c.text_role_of.result w.in_default.not-Some)) c.loop-used.invariant.has);
