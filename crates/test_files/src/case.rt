@@ -46,7 +46,6 @@ impl Case {
             Command::Body => pools::tell_body(alloc, out),
             Command::Class => put::class(alloc, &mut self.classes, words, out),
             Command::Classes => put::many(alloc, &mut self.classes, words),
-            Command::Scan => put::scanned(alloc, &mut self.classes, words, out),
             _ => self.obey_by_rules(command, words, out),
         }
     }
@@ -63,6 +62,7 @@ impl Case {
             return told::text(out, "no rule set");
         };
         match command {
+            Command::Scan => put::scanned(alloc, rules, &mut self.classes, words, out),
             Command::Goes => paths::tell_goal(alloc, rules, word(words, 0), out),
             Command::Service => images::tell_service(alloc, rules, content(words, 0), out),
             Command::Manifest => images::tell_manifest(alloc, rules, content(words, 0), out),

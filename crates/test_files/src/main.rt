@@ -19,7 +19,7 @@
 //! rewrite-servlet-with-255                   at how many places the servlet is answered with 255 in place of the byte there
 //! class selected|unselected PATH NAME ..     puts a class of this name that holds these names
 //! classes PACKAGE COUNT                      puts so many classes, whose names are the package and a number
-//! scan selected|unselected PATH CONTENT      puts what a scan keeps of a class
+//! scan selected|unselected PATH CONTENT      puts what a scan keeps of a class, and tells whether it is its own image
 //! graph image|node|links WORD ..             takes the classes that were put, and asks their graph
 //! treated PATH                               where a file goes, how it is treated, and whether it is read whole
 //! file PATH CONTENT                          what becomes of a file in the application of the classes that were put

@@ -4,8 +4,9 @@ use crate::told;
 use crate::words::{content, number, word};
 use desk_base::{Memory, Text};
 use desk_class::HeldNames;
-use desk_file::scan_class;
+use desk_file::{NotedClass, note_class};
 use desk_graph::Scanned;
+use desk_rules::RuleSet;
 use std::alloc::Global;
 use test_cases::Shown;
 
@@ -46,21 +47,33 @@ pub fn class(
     put(classes, class, out)
 }
 
-/// What a scan keeps of a class, or nothing of other bytes: the words are whether it is selected, its path, and its bytes.
-fn scan(alloc: Global, words: &[Text]) -> Result<Option<Scanned>, Memory> {
+/// What is noted of a class, or nothing of other bytes: the words are whether it is selected, its path, and its bytes.
+fn note(alloc: Global, rules: &RuleSet, words: &[Text]) -> Result<Option<NotedClass>, Memory> {
     let path = Text::from_bytes(alloc, word(words, 1))?;
-    scan_class(alloc, &path, is_selected(words), content(words, 2))
+    note_class(alloc, rules, &path, is_selected(words), content(words, 2))
 }
 
-/// Puts what a scan keeps of a class.
+/// Tells how many odd texts a class has that is noted as its own image.
+fn tell_odd(odd: Option<u32>, out: &mut String) -> Result<(), Memory> {
+    match odd {
+        Some(odd) => Ok(writeln!(out, "  unchanged odd={odd}")?),
+        None => Ok(()),
+    }
+}
+
+/// Puts what is kept of a class, and tells whether it is noted as its own image.
 pub fn scanned(
     alloc: Global,
+    rules: &RuleSet,
     classes: &mut Vec<Scanned>,
     words: &[Text],
     out: &mut String,
 ) -> Result<(), Memory> {
-    match scan(alloc, words)? {
-        Some(class) => put(classes, class, out),
+    match note(alloc, rules, words)? {
+        Some(NotedClass { scanned, odd }) => {
+            put(classes, scanned, out)?;
+            tell_odd(odd, out)
+        }
         None => told::text(out, "no class"),
     }
 }
