@@ -38,11 +38,6 @@ scanned_read rules path read = scanned_as path (selects rules.selection path) re
 abbrev pub scanned_at : Rules → Text → Text → List Scanned
 scanned_at rules path bytes = if is_class_kind (kind_of path) then scanned_read rules path (read_class bytes) else []
 
--- one class, or none
-abbrev pub one_scanned : Option Scanned → List Scanned
-one_scanned None = []
-one_scanned (Some class) = class ∷ []
-
 -- ---- what is noted
 
 -- how many uses of a class have an odd text, where it is selected and nothing in it changes

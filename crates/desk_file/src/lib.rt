@@ -20,6 +20,6 @@ mod treatments;
 
 pub use images::{FileFault, Image, migrate_file, outgrows};
 pub use routes::{Route, route_of};
-pub use scans::{NotedClass, note_class, scan_class};
+pub use scans::{NotedClass, note_class};
 pub use targets::target_of;
 pub use treatments::{Treatment, is_whole, treatment_of};
