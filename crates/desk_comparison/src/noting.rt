@@ -3,12 +3,11 @@
 ghost use Rattle.std.specs.Prelude.{All, ◌≡◌, ◌≤◌, ◌++◌, IfOk, OnOk, is_some, length, map, true};
 ghost use Rattle.desk_comparison.specs.Files.{IsNoted, KeepsBytes, scans_of, source_of};
 ghost use Rattle.desk_file.specs.ClassScans.{odd_in, scanned_in};
-ghost use Rattle.desk_file.specs.Treatments.{is_selected_class};
 ghost use Rattle.desk_readings.specs.Readings.{scanned_route};
 
 use crate::reading::SourceFile;
 use desk_base::Memory;
-use desk_file::{NotedClass, Treatment, note_class};
+use desk_file::{NotedClass, note_class};
 use desk_graph::Scanned;
 use desk_rules::RuleSet;
 use std::alloc::Global;
@@ -32,13 +31,6 @@ pub struct NotedFiles {
     pub classes: Vec<Scanned>,
 }
 
-/// Whether a file is a selected class.
-fn is_selected(treatment: Treatment) -> bool
-    ensures { result ≡ is_selected_class treatment }
-{
-    matches!(treatment, Treatment::Class)
-}
-
 /// What is noted of a file; nothing where it is no well-formed class.
 fn note_file(
     alloc: Global,
@@ -51,7 +43,7 @@ fn note_file(
     if !file.route.treatment.is_class() {
         return Ok(None);
     }
-    let selected = is_selected(file.route.treatment);
+    let selected = file.route.treatment.is_selected_class();
     note_class(
         alloc,
         rules,

@@ -29,13 +29,20 @@ pub enum Treatment {
 
 impl Treatment {
     ghost use Rattle.std.specs.Prelude.{not};
-    ghost use Rattle.desk_file.specs.Treatments.{is_class, is_copy};
+    ghost use Rattle.desk_file.specs.Treatments.{is_class, is_copy, is_selected_class};
 
     /// Whether the file is a class, selected or not.
     pub fn is_class(self) -> bool
         ensures { result ≡ is_class self }
     {
         matches!(self, Treatment::Class | Treatment::UnselectedClass)
+    }
+
+    /// Whether the file is a selected class.
+    pub fn is_selected_class(self) -> bool
+        ensures { result ≡ is_selected_class self }
+    {
+        matches!(self, Treatment::Class)
     }
 
     /// Whether the file is read whole. Any other file is copied in parts.

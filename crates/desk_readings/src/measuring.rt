@@ -4,14 +4,13 @@ ghost use Rattle.std.specs.Prelude.{◌≡◌, ◌≤◌, ◌<◌, ◌+◌, ◌+
 ghost use Rattle.desk_readings.specs.Sizes.{found_of};
 ghost use Rattle.desk_readings.specs.Readings.{all_scanned, found_in, founds_in, measured_by, measured_with, measures_of, noted_in, notes_in};
 ghost use Rattle.desk_readings.specs.declared.waiting.FirstRead.TheVariants.{Class};
-ghost use Rattle.desk_file.specs.Treatments.{is_selected_class};
 
 use crate::contents::Content;
 use crate::measured::{ClassNote, Measured};
 use crate::reading::SizeAndDigest;
 use crate::waiting::{FirstRead, WaitingFile};
 use desk_base::Memory;
-use desk_file::{NotedClass, Route, Treatment, note_class};
+use desk_file::{NotedClass, Route, note_class};
 use desk_graph::Scanned;
 use desk_ledger::digest_of;
 use desk_rules::RuleSet;
@@ -27,13 +26,6 @@ pub struct Measures {
     pub class: Option<NotedClass>,
 }
 
-/// Whether a file is a selected class.
-fn is_selected(treatment: Treatment) -> bool
-    ensures { result ≡ is_selected_class treatment }
-{
-    matches!(treatment, Treatment::Class)
-}
-
 /// What is noted of a class; nothing of bytes that are none.
 fn note_read(
     alloc: Global,
@@ -43,7 +35,7 @@ fn note_read(
 ) -> Result<Option<NotedClass>, Memory>
     ensures { IfOk result (λ found. found ≡ noted_in rules.now route.now (Class bytes.now)) }
 {
-    let selected = is_selected(route.treatment);
+    let selected = route.treatment.is_selected_class();
     note_class(alloc, rules, &route.path, selected, bytes.as_bytes())
 }
 
