@@ -8,7 +8,6 @@ use Rattle.std.proofs.lemmas.List.Sums.{sum_by-cons}
 use Rattle.std.proofs.lemmas.Slice.Eq.{bytes_eq-Decides}
 use Rattle.desk_base.specs.Entries.{Pool, text_at}
 use Rattle.desk_base.specs.declared.kinds.Role.{Role}
-use Rattle.desk_base.specs.declared.kinds.Role.TheVariants as roles
 use Rattle.desk_base.specs.declared.kinds.Used.{Used}
 use Rattle.desk_format.specs.Classes.{Class, class_uses, entries_at, list_in, read_class, uses_in}
 use Rattle.desk_format.specs.Laws.{IsBytes}
@@ -18,31 +17,17 @@ use Rattle.desk_class.specs.Parts.{pool_in}
 use Rattle.desk_laws.proofs.Bodies.{all_named}
 use Rattle.desk_laws.proofs.Stable.{Own}
 use Rattle.desk_rewrite.specs.Counts.{is_renamed, renamed_count, odd_count}
-use Rattle.desk_rewrite.specs.Tables.{IsAnswer, role_of, text_role_of}
+use Rattle.desk_rewrite.specs.Tables.{IsAnswer, text_role_of}
 use Rattle.desk_rewrite.specs.Unchanged.{IsItself, odd_if_unchanged}
 use Rattle.desk_rewrite.specs.declared.table.TextRole.{TextRole}
-use Rattle.desk_rewrite.specs.declared.table.TextRole.TheVariants as text_roles
 use Rattle.desk_rewrite.proofs.Parts.{IsFound, found}
+use Rattle.desk_rewrite.proofs.Tables.{role_is}
 use Rattle.desk_rewrite.proofs.Unchanged.{no_added, same_bytes, not_refused}
 use Rattle.desk_rewrite.proofs.Wanting.{IsOwn, own_wants}
 
 -- as it is counted
 abbrev once : Bool → ℕ
 once b = cond b 1 0
-
--- ---- roles
-
-role_is : (role : Role) (k : TextRole) → text_role_of role ≡ Some k → role ≡ role_of k
-role_is roles.Class k f = let same : text_roles.Class ≡ k = cc in ap role_of same
-role_is roles.Package k f = let same : text_roles.Package ≡ k = cc in ap role_of same
-role_is roles.Module k f = absurd cc
-role_is roles.Descriptor k f = let same : text_roles.Descriptor ≡ k = cc in ap role_of same
-role_is roles.ClassSig k f = let same : text_roles.ClassSig ≡ k = cc in ap role_of same
-role_is roles.MethodSig k f = let same : text_roles.MethodSig ≡ k = cc in ap role_of same
-role_is roles.FieldSig k f = let same : text_roles.FieldSig ≡ k = cc in ap role_of same
-role_is roles.Str k f = let same : text_roles.Str ≡ k = cc in ap role_of same
-role_is roles.Plain k f = absurd cc
-role_is roles.AttrName k f = absurd cc
 
 module _ (im : Images) (pool : Pool) where
   -- ---- one use

@@ -58,6 +58,20 @@ number_self n = rw (le-ltb n n (omega arith), eq-eqb n n refl) refl
 key_self : (key : Key) → is_eq (key_cmp key key) ≡ true
 key_self key = ap (λ (r : Ordering). is_eq (ordering_then r (nat_cmp (rank key.1) (rank key.1)))) (number_self key.0) ∙ ap is_eq (number_self (rank key.1))
 
+-- ---- roles
+
+pub role_is : (role : Role) (k : TextRole) → text_role_of role ≡ Some k → role ≡ role_of k
+role_is roles.Class k f = let same : text_roles.Class ≡ k = cc in ap role_of same
+role_is roles.Package k f = let same : text_roles.Package ≡ k = cc in ap role_of same
+role_is roles.Module k f = absurd cc
+role_is roles.Descriptor k f = let same : text_roles.Descriptor ≡ k = cc in ap role_of same
+role_is roles.ClassSig k f = let same : text_roles.ClassSig ≡ k = cc in ap role_of same
+role_is roles.MethodSig k f = let same : text_roles.MethodSig ≡ k = cc in ap role_of same
+role_is roles.FieldSig k f = let same : text_roles.FieldSig ≡ k = cc in ap role_of same
+role_is roles.Str k f = let same : text_roles.Str ≡ k = cc in ap role_of same
+role_is roles.Plain k f = absurd cc
+role_is roles.AttrName k f = absurd cc
+
 -- ---- numbers of images
 
 get_front : {A : Type 0} (xs ys : List A) (k : ℕ) → k < length xs → slice_get (xs ++ ys) k ≡ slice_get xs k
@@ -208,18 +222,6 @@ module _ (im : Images) (pool : Pool) where
 
   pub finds_use : (table : Table) (role : Role) (i : ℕ) (k : TextRole) → text_role_of role ≡ Some k → FindsAt im pool table (i, k) → Finds im pool table role i
   finds_use table role i k f h = finds_by table role i k (role_is role k f) f h
-    where
-      role_is : (role : Role) (k : TextRole) → text_role_of role ≡ Some k → role ≡ role_of k
-      role_is roles.Class k f = let same : text_roles.Class ≡ k = cc in ap role_of same
-      role_is roles.Package k f = let same : text_roles.Package ≡ k = cc in ap role_of same
-      role_is roles.Module k f = absurd cc
-      role_is roles.Descriptor k f = let same : text_roles.Descriptor ≡ k = cc in ap role_of same
-      role_is roles.ClassSig k f = let same : text_roles.ClassSig ≡ k = cc in ap role_of same
-      role_is roles.MethodSig k f = let same : text_roles.MethodSig ≡ k = cc in ap role_of same
-      role_is roles.FieldSig k f = let same : text_roles.FieldSig ≡ k = cc in ap role_of same
-      role_is roles.Str k f = let same : text_roles.Str ≡ k = cc in ap role_of same
-      role_is roles.Plain k f = absurd cc
-      role_is roles.AttrName k f = absurd cc
 
   pub own_use : (table : Table) (role : Role) (i : ℕ) → text_role_of role ≡ None → Finds im pool table role i
   own_use table roles.Module i f = refl
