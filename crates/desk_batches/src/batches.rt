@@ -14,7 +14,7 @@ ghost use Rattle.desk_words.specs.Roots.{IsPathRoot, RootsApart};
 
 use crate::cutting::batch_end;
 use crate::images::images_of_batch;
-use crate::migrating::{Migration, Workers};
+use crate::migrating::Migration;
 use crate::noted::{Noted, Outcome, Way};
 use crate::stops::Stop;
 use crate::writing::write_noted;
@@ -23,7 +23,7 @@ use desk_folders::Folders;
 use desk_graph::ClassGraph;
 use desk_ledger::Keeper;
 use desk_rules::RuleSet;
-use desk_workers::Gate;
+use desk_workers::{Gate, Workers};
 use std::alloc::Global;
 use std::thread::Threads;
 

@@ -11,13 +11,13 @@ ghost use Rattle.desk_batches.specs.declared.stops.Stop.TheVariants as stop;
 use crate::cutting::split_slice;
 use crate::digested::DigestedImage;
 use crate::inputs::{Input, read_batch};
-use crate::migrating::{Migration, Workers, migrate_and_read, migrate_batch};
+use crate::migrating::{Migration, migrate_and_read, migrate_batch};
 use crate::noted::Noted;
 use crate::stops::Stop;
 use desk_base::Text;
 use desk_folders::Folders;
 use desk_report::Reason;
-use desk_workers::Gate;
+use desk_workers::{Gate, Workers};
 use std::thread::Threads;
 
 /// Puts the images of a slice behind those before it.

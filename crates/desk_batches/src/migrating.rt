@@ -21,7 +21,7 @@ use desk_graph::ClassGraph;
 use desk_ledger::{Digest, digest_of};
 use desk_report::Reason;
 use desk_rules::RuleSet;
-use desk_workers::{Gate, Job, map_batch, map_beside};
+use desk_workers::{Gate, Job, Workers, map_batch, map_beside};
 use std::alloc::Global;
 use std::thread::Threads;
 
@@ -32,19 +32,6 @@ pub enum Again {
     Same(Result<DigestedImage, Reason>),
     /// They have this digest instead.
     Other(Digest),
-}
-
-/// So many workers, and the gate that each item passes.
-#[derive(Drop)]
-pub struct Workers<'r, R, G> {
-    /// What starts their threads.
-    pub(crate) rt: &'r R,
-    /// What is told of each item.
-    pub(crate) gate: &'r G,
-    /// How many they are, from 1 to 64.
-    pub(crate) count: u32,
-    ghost some: { 0 < count },
-    ghost most: { count ≤ 64 },
 }
 
 /// Migrates files that were read whole, in an application: what the workers share.

@@ -15,8 +15,7 @@ use crate::waiting::WaitingFile;
 use desk_base::{Memory, Text};
 use desk_folders::Folders;
 use desk_graph::Scanned;
-use desk_rules::RuleSet;
-use desk_workers::{Gate, map_beside};
+use desk_workers::{Gate, Workers, map_beside};
 use std::alloc::Global;
 use std::thread::Threads;
 
@@ -62,23 +61,18 @@ impl MeasuredFiles {
     /// Adds the files of a slice, which so many workers measure while this thread reads the next one.
     pub(crate) fn add_and_read<R: Threads + Sync, F: Folders, G: Gate + Sync>(
         &mut self,
-        rt: &R,
-        alloc: Global,
+        workers: &Workers<'_, R, G>,
+        job: &Measuring<'_>,
         folders: &mut F,
-        gate: &G,
-        rules: &RuleSet,
         from: &Text,
-        workers: u32,
         unread: &mut Unread,
         slice: Vec<WaitingFile>,
     ) -> Result<Vec<WaitingFile>, NoteFault>
-        requires some { 0 < workers }
-        requires workers { workers ≤ 64 }
         requires few { length slice.items < 2 ^ 32 }
         requires there { IfSome (F.told folders.old) (λ m. All (λ route. IsSome (fin.get m (full from.now route.path))) unread.old.routes.items) }
         requires ahead { IsAhead from.now (F.told folders.old) unread.old }
         ensures files { OnOk result (self.new.files.items ≡ self.old.files.items ++ map measured_by slice.items) }
-        ensures notes { OnOk result (self.new.class_notes.items ≡ self.old.class_notes.items ++ map (note_by rules.now) slice.items) }
+        ensures notes { OnOk result (self.new.class_notes.items ≡ self.old.class_notes.items ++ map (note_by job.now.rules.now) slice.items) }
         ensures classes { OnOk result (self.new.scanned.items ≡ self.old.scanned.items ++ scans_of slice.items) }
         ensures few { OnOk result (length self.new.scanned.items ≤ length self.old.scanned.items + length slice.items) }
         ensures told { F.told folders.new ≡ F.told folders.old }
@@ -88,13 +82,14 @@ impl MeasuredFiles {
         ensures counts { F.faults folders.old ≤ F.faults folders.new }
         ensures err { IfErr result (NoteFails (λ m. first_large from.now m (left_in unread.old)) (F.told folders.old) (F.faults folders.old) (F.faults folders.new)) }
     {
+        let alloc = job.alloc;
         let (found, next) = map_beside(
-            rt,
+            workers.rt,
             alloc,
             &slice,
-            &Measuring { alloc, rules },
-            gate,
-            workers,
+            job,
+            workers.gate,
+            workers.count,
             &mut || -> Result<Vec<WaitingFile>, NoteFault>
                 requires { IfSome (F.told folders.now) (λ m. All (λ route. IsSome (fin.get m (full from.now route.path))) unread.now.routes.items)
                     × IsAhead from.now (F.told folders.now) unread.now }

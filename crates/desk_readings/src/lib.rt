@@ -2,7 +2,7 @@
 //! classes are scanned on the workers and dropped.
 //!
 //! ```text
-//! let notes = note_all(&rt, alloc, &mut folders, &gate, &rules, &from, workers, routes)?;
+//! let notes = note_all(&workers, alloc, &mut folders, &rules, &from, routes)?;
 //! notes.files          // of each file, in their order, its route, how many bytes it has, and their digest
 //! notes.class_notes    // of each file whether it is a class in which nothing changes
 //! notes.scanned        // what is kept of the classes among them

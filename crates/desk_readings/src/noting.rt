@@ -16,6 +16,7 @@ ghost use Rattle.desk_readings.specs.Readings.{first_large, found_in, measured_b
 use crate::contents::Content;
 use crate::faults::NoteFault;
 use crate::gathering::MeasuredFiles;
+use crate::measuring::Measuring;
 use crate::paths::full_path;
 use crate::reading::{read_first, read_whole};
 use crate::unread::{Unread, read_slice};
@@ -25,7 +26,7 @@ use desk_base::{MAX_FILE_SIZE, Text};
 use desk_file::{Route, Treatment};
 use desk_folders::{FolderFault, Folders};
 use desk_rules::RuleSet;
-use desk_workers::Gate;
+use desk_workers::{Gate, Workers};
 use std::alloc::Global;
 use std::collections::VecDeque;
 use std::thread::Threads;
@@ -143,17 +144,13 @@ pub(crate) fn note_one<F: Folders>(
 /// have at most 67,108,864; those of each are measured by so many workers, while this thread reads the next slice, and then dropped.
 /// No other file is kept. The other errors are a fault of the folders and want of memory.
 pub fn note_all<R: Threads + Sync, F: Folders, G: Gate + Sync>(
-    rt: &R,
+    workers: &Workers<'_, R, G>,
     alloc: Global,
     folders: &mut F,
-    gate: &G,
     rules: &RuleSet,
     from: &Text,
-    workers: u32,
     routes: Vec<Route>,
 ) -> Result<MeasuredFiles, NoteFault>
-    requires some { 0 < workers }
-    requires workers { workers ≤ 64 }
     requires few { length routes.items < 2 ^ 32 }
     requires there { IfSome (F.told folders.old) (λ m. All (λ route. IsSome (fin.get m (full from.now route.path))) routes.items) }
     ensures told { F.told folders.new ≡ F.told folders.old }
@@ -170,20 +167,11 @@ pub fn note_all<R: Threads + Sync, F: Folders, G: Gate + Sync>(
         ahead: None,
         routes: VecDeque::from_vec(routes),
     };
+    let job = Measuring { alloc, rules };
     let mut notes = MeasuredFiles::new(alloc);
     let mut slice = read_slice(alloc, folders, from, &mut unread)?;
     while !slice.is_empty() {
-        slice = notes.add_and_read(
-            rt,
-            alloc,
-            folders,
-            gate,
-            rules,
-            from,
-            workers,
-            &mut unread,
-            slice,
-        )?;
+        slice = notes.add_and_read(workers, &job, folders, from, &mut unread, slice)?;
     }
     Ok(notes)
 }

@@ -19,7 +19,7 @@ use desk_intake::{Halt, Ruled, list_routes, read_rules, refuse_clash};
 use desk_ledger::Header;
 use desk_readings::{MeasuredFiles, note_all};
 use desk_words::Roots;
-use desk_workers::Gate;
+use desk_workers::{Gate, Workers};
 use std::alloc::Global;
 use std::thread::Threads;
 
@@ -70,17 +70,12 @@ fn read_files<R: Threads + Sync, F: Folders, G: Gate + Sync>(
     ensures counts { F.faults folders.old ≤ F.faults folders.new }
 {
     let routes = list_routes(alloc, folders, &ruled.rules, &names.from)?;
-    let rules = &ruled.rules;
-    let notes = note_all(
+    let workers = Workers {
         rt,
-        alloc,
-        folders,
         gate,
-        rules,
-        &names.from,
-        workers,
-        routes,
-    )?;
+        count: workers,
+    };
+    let notes = note_all(&workers, alloc, folders, &ruled.rules, &names.from, routes)?;
     refuse_clash(alloc, &notes.files)?;
     Ok(notes)
 }

@@ -10,8 +10,8 @@ use Rattle.desk_readings.specs.Readings.{measured_by, note_at, scans_of}
 use Rattle.desk_readings.specs.declared.measured.Measured.{Measured}
 use Rattle.desk_readings.proofs.noting.note_all.Given as goal
 
-abbrev pub invariant-loop-alloc : goal.invariant-loop-alloc
-invariant-loop-alloc g l = record {
+abbrev pub invariant-loop-job : goal.invariant-loop-job
+invariant-loop-job g l = record {
   told : g.F.Folders.told l.folders ≡ g.F.Folders.told l.fn.folders;
   counts : g.F.Folders.faults l.fn.folders ≤ g.F.Folders.faults l.folders;
   split : l.fn.routes.items ≡ (map (λ (file : Measured). file.route) l.notes.files.items ++ routes_in l.slice.items) ++ left_in l.unread;
@@ -27,5 +27,5 @@ invariant-loop-alloc g l = record {
   ahead : IsAhead l.from (g.F.Folders.told l.fn.folders) l.unread;
 }
 
-abbrev pub decreases-loop-alloc : goal.decreases-loop-alloc
-decreases-loop-alloc g l = length l.slice.items + length (left_in l.unread)
+abbrev pub decreases-loop-job : goal.decreases-loop-job
+decreases-loop-job g l = length l.slice.items + length (left_in l.unread)
