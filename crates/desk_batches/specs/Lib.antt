@@ -3,3 +3,4 @@ pub mod Notes
 pub mod Stops
 pub mod Fresh
 pub mod Turns
+pub mod Details

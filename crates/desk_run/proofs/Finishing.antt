@@ -26,7 +26,8 @@ use Rattle.desk_run.specs.Meaning.{defined_in, finds_in}
 use Rattle.desk_run.specs.Asked.{Asked, asked_roots}
 use Rattle.desk_intake.proofs.There.{files_there}
 use Rattle.desk_readings.specs.declared.measured.ClassNote.{ClassNote}
-use Rattle.desk_run.specs.Notes.{bare, details_of, measured_in, noted_by, stays_in}
+use Rattle.desk_batches.specs.Details.{bare, details_of, stays_in}
+use Rattle.desk_run.specs.Notes.{measured_in, noted_by}
 use Rattle.desk_report.specs.Texts.{summary_text}
 use Rattle.desk_run.specs.Reports.{summary_by}
 use Rattle.desk_run.specs.Stops.{StopsAt, status_of_stop}

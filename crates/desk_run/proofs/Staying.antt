@@ -1,11 +1,12 @@
 -- Classes in which nothing changes: what they become is known before they are read again.
-use Rattle.std.proofs.Common.{All, ◌≡◌, ◌<◌, ℕ, zero, suc, ◌+◌, Bool, true, false, List, [], ◌∷◌, ◌++◌, length, map, take, drop, set, get_or, refl, sym, ap, ◌∙◌, subst, arith, Option, Some, None, Result, Ok, Err, unwrap_or}
+use Rattle.std.proofs.Common.{All, ◌≡◌, ℕ, Bool, true, false, List, [], ◌∷◌, ◌++◌, map, refl, sym, ap, ◌∙◌, subst, Option, Some, None, Result, Ok, Err, unwrap_or}
 use Rattle.std.specs.Prelude.{IfSome, if◌then◌else◌}
-use Rattle.std.proofs.lemmas.List.{append_assoc, drop_more, map-append, take_more_set}
+use Rattle.std.proofs.lemmas.List.{map-append}
 use Rattle.std.proofs.lemmas.List.Elements.{All-cons, All-head, All-nil, All-tail}
 use Rattle.desk_base.specs.Names.{Text}
 use Rattle.desk_base.specs.Paths.{full}
 use Rattle.desk_base.specs.declared.faults.Malformed.{Malformed}
+use Rattle.desk_batches.specs.Details.{bare, counts_behind, detail_with, details_of, stays_in}
 use Rattle.desk_batches.specs.Notes.{IsSound, StaysAsNoted}
 use Rattle.desk_batches.specs.Turns.{work_in, works_in}
 use Rattle.desk_batches.specs.Works.{Work}
@@ -43,31 +44,8 @@ use Rattle.desk_rules.specs.Rules.{Rules}
 use Rattle.desk_second.specs.Applications.{classes_of}
 use Rattle.desk_ledger.specs.Ledger.{Rows}
 use Rattle.desk_ledger.specs.declared.keeper.Held.{Held}
-use Rattle.desk_run.specs.Notes.{bare, class_note_of, counts_behind, detail_with, details_of, measured_in, measured_of, noted_by, stays_in}
+use Rattle.desk_run.specs.Notes.{class_note_of, measured_in, measured_of, noted_by}
 use Rattle.desk_run.specs.Reports.{lines_of, outcome_line}
-
--- ---- notes of what files become, file by file
-
-bare_set : (xs : List Noted) (i : ℕ) (x one : Noted) → i < length xs → one ≡ get_or xs i one → bare x ≡ bare one → map bare (set xs i x) ≡ map bare xs
-bare_set [] i x one lt is same = absurd (omega arith)
-bare_set (y ∷ xs) zero x one lt is same = ap (λ (z : Noted). z ∷ map bare xs) (same ∙ ap bare is)
-bare_set (y ∷ xs) (suc i) x one lt is same = ap (λ (zs : List Noted). bare y ∷ zs) (bare_set xs i x one (omega arith) is same)
-
--- one file more has what it becomes
-pub bare_more : (xs first : List Noted) (i : ℕ) (x one : Noted) → i < length xs → one ≡ get_or xs i one → bare x ≡ bare one → map bare xs ≡ map bare first → map bare (set xs i x) ≡ map bare first
-bare_more xs first i x one lt is same before = bare_set xs i x one lt is same ∙ before
-
-pub details_more : (all : List (Option Detail)) (xs : List Noted) (notes : List ClassNote) (i : ℕ) (x : Noted) (note : ClassNote) (left behind : List ℕ) → i < length xs → i < length notes → note ≡ get_or notes i note
-    → all ≡ stays_in (take i xs) ++ details_of (drop i notes) left → x.stays ≡ detail_with note left → behind ≡ counts_behind note left
-    → all ≡ stays_in (take (i + 1) (set xs i x)) ++ details_of (drop (i + 1) notes) behind
-details_more all xs notes i x note left behind lt there is before one rest =
-    let first : drop i notes ≡ note ∷ drop (i + 1) notes = drop_more notes i note there ∙ ap (λ (n : ClassNote). n ∷ drop (i + 1) notes) (sym is) in
-    before ∙ ap (λ (ns : List ClassNote). stays_in (take i xs) ++ details_of ns left) first
-    ∙ ap (λ (d : Option Detail). stays_in (take i xs) ++ d ∷ details_of (drop (i + 1) notes) (counts_behind note left)) (sym one)
-    ∙ ap (λ (cs : List ℕ). stays_in (take i xs) ++ x.stays ∷ details_of (drop (i + 1) notes) cs) (sym rest)
-    ∙ sym (append_assoc (stays_in (take i xs)) (x.stays ∷ []) (details_of (drop (i + 1) notes) behind))
-    ∙ ap (λ (ds : List (Option Detail)). ds ++ details_of (drop (i + 1) notes) behind)
-    (sym (ap stays_in (take_more_set xs i x lt) ∙ map-append (λ (noted : Noted). noted.stays) (take i xs) (x ∷ [])))
 
 -- ---- what doesn't depend on them
 

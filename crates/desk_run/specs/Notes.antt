@@ -1,14 +1,11 @@
 -- Files as the first reading finds them, and what is done with each by the rows of the ledger.
-use Rattle.std.specs.Prelude.{ℕ, Bool, List, [], ◌∷◌, length, map, drop, Option, Some, None, not, cond, is_some}
+use Rattle.std.specs.Prelude.{Bool, length, None, not, cond, is_some}
 use Rattle.std.specs.FinMap as fin
 use Rattle.desk_base.specs.Names.{Text}
 use Rattle.desk_readings.specs.Noting.{IsWithin}
 use Rattle.desk_readings.specs.Readings.{class_note, noted_route}
 use Rattle.desk_readings.specs.declared.measured.ClassNote.{ClassNote}
-use Rattle.desk_readings.specs.declared.measured.ClassNote.TheVariants.{NoClass, Changes, Stays}
 use Rattle.desk_readings.specs.declared.measured.Measured.{Measured}
-use Rattle.desk_report.specs.declared.lines.Detail.{Detail}
-use Rattle.desk_report.specs.declared.lines.Detail.TheVariants as detail
 use Rattle.desk_batches.specs.declared.noted.Noted.{Noted}
 use Rattle.desk_batches.specs.declared.noted.Way.{Way}
 use Rattle.desk_batches.specs.declared.noted.Way.TheVariants.{Keep, Migrate, Copy}
@@ -34,10 +31,6 @@ way_of finds rows file =
 abbrev pub noted_by : (Text → Held → Bool) → Rows → Measured → Noted
 noted_by finds rows file = record { route = file.route; size = file.size; digest = file.digest; stays = None; way = way_of finds rows file }
 
--- a file that was noted, without what it is known to become
-abbrev pub bare : Noted → Noted
-bare noted = record { route = noted.route; size = noted.size; digest = noted.digest; stays = None; way = noted.way }
-
 -- what the first reading found of a file that was noted
 abbrev pub measured_in : Noted → Measured
 measured_in noted = record { route = noted.route; size = noted.size; digest = noted.digest }
@@ -49,28 +42,6 @@ measured_of rules file = record { route = route_of rules file.path; size = lengt
 -- what is noted of a file of the source as a class
 abbrev pub class_note_of : Rules → File → ClassNote
 class_note_of rules file = class_note (noted_route rules (route_of rules file.path) file.bytes)
-
--- Of a file, the detail of its image where it is a class in which nothing changes. Where it is a class, the first of these numbers
--- says how many defined names it holds.
-abbrev pub detail_with : ClassNote → List ℕ → Option Detail
-detail_with NoClass counts = None
-detail_with Changes counts = None
-detail_with (Stays odd) [] = None
-detail_with (Stays odd) (links ∷ counts) = Some (detail.Class 0 0 odd links)
-
--- the numbers of the classes behind it
-abbrev pub counts_behind : ClassNote → List ℕ → List ℕ
-counts_behind NoClass counts = counts
-counts_behind Changes counts = drop 1 counts
-counts_behind (Stays odd) counts = drop 1 counts
-
--- of files of which this is noted, the details of those that are known to stay as they are
-abbrev pub details_of : List ClassNote → List ℕ → List (Option Detail)
-details_of [] counts = []
-details_of (note ∷ notes) counts = detail_with note counts ∷ details_of notes (counts_behind note counts)
-
-abbrev pub stays_in : List Noted → List (Option Detail)
-stays_in = map (λ (noted : Noted). noted.stays)
 
 -- what is known of a file that was read, whatever the folders tell: its route is that of its path, and it has no more bytes than
 -- it may have

@@ -22,7 +22,6 @@ ghost use Rattle.desk_run.specs.Queries.{AnswersQuery, LeavesAnswer};
 ghost use Rattle.desk_words.specs.declared.roots.Query.TheVariants as query;
 ghost use Rattle.desk_run.specs.Resuming.{LeavesSources, Resumes};
 
-mod details;
 mod finish;
 mod gather;
 mod generate;

@@ -1,9 +1,9 @@
 //! What those files become that are known to stay as they are.
 
 ghost use Rattle.std.specs.Prelude.{◌≡◌, length, map};
-ghost use Rattle.desk_run.specs.Notes.{bare, counts_behind, detail_with, details_of, stays_in};
+ghost use Rattle.desk_batches.specs.Details.{bare, counts_behind, detail_with, details_of, stays_in};
 
-use desk_batches::Noted;
+use crate::noted::Noted;
 use desk_readings::ClassNote;
 use desk_report::Detail;
 
@@ -33,7 +33,7 @@ fn next_detail(note: ClassNote, counts: &[u32]) -> (Option<Detail>, &[u32])
 
 /// The files, each with the detail of its image where it is a class in which nothing changes: by what was noted of each as a class, and
 /// how many defined names of the application each class holds, in the files' order.
-pub(crate) fn with_details(noted: Vec<Noted>, notes: &[ClassNote], counts: &[u32]) -> Vec<Noted>
+pub fn with_details(noted: Vec<Noted>, notes: &[ClassNote], counts: &[u32]) -> Vec<Noted>
     requires { length noted.items ≡ length notes.now }
     ensures bare { map bare result.items ≡ map bare noted.items }
     ensures stays { stays_in result.items ≡ details_of notes.now counts.now }

@@ -4,9 +4,9 @@ use Rattle.desk_batches.specs.declared.noted.Noted.{Noted}
 use Rattle.std.proofs.lemmas.List.{get_or_default}
 use Rattle.desk_readings.specs.declared.measured.ClassNote.{ClassNote}
 use Rattle.desk_readings.specs.declared.measured.ClassNote.TheVariants.{NoClass}
-use Rattle.desk_run.specs.Notes.{details_of}
-use Rattle.desk_run.proofs.Staying.{bare_more, details_more}
-use Rattle.desk_run.proofs.details.with_details.Goals as goal
+use Rattle.desk_batches.specs.Details.{details_of}
+use Rattle.desk_batches.proofs.Detailing.{bare_more, details_more}
+use Rattle.desk_batches.proofs.details.with_details.Goals as goal
 
 pub loop-place-preserved : goal.loop-place-preserved
 loop-place-preserved c =

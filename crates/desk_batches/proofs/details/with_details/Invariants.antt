@@ -1,6 +1,6 @@
 use Rattle.std.proofs.Common.{◌≡◌, ◌++◌, map, take, drop, length}
-use Rattle.desk_run.specs.Notes.{bare, details_of, stays_in}
-use Rattle.desk_run.proofs.details.with_details.Given as goal
+use Rattle.desk_batches.specs.Details.{bare, details_of, stays_in}
+use Rattle.desk_batches.proofs.details.with_details.Given as goal
 
 abbrev pub invariant-loop-place : goal.invariant-loop-place
 invariant-loop-place l = record {
