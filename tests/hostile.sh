@@ -1,8 +1,9 @@
 #!/usr/bin/env bash
 # Uses the built program where everything around it is hostile: odd names, links, pipes, sockets and devices; what may not be read or
 # written; full disks; ledgers that are none; sources that change while they are read; standard streams that are closed, full or cut
-# off; little memory. Each case ends with a status and a line by name, changes nothing else, and leaves a true ledger, and once its
-# cause is gone a run brings the target to that of a run that never met it. The expected lines are written by hand.
+# off; little memory, and files that take much of it. Each case ends with a status and a line by name, changes nothing else, and leaves a
+# true ledger, and once its cause is gone a run brings the target to that of a run that never met it. The expected lines are written by
+# hand.
 #
 # Usage: tests/hostile.sh [COUNT], where COUNT is how many empty files the largest source has: 100,000 where it isn't given, none for
 # 0. It needs python3; what else a case needs (the root user, strace, gcc) is told where the case is skipped.
@@ -1071,6 +1072,53 @@ texted '("a" * 499999 + "b") * 134' '"a" * 500000' '"c"'
 over
 check 'a source that nearly stands everywhere: status' 0 "$status"
 check 'a source that nearly stands everywhere: the text stays' '' "$(cmp app/text.txt to/text.txt 2>&1)"
+
+# ---- files that take much memory
+
+# in_eight_times NAME: a run completes, and its memory is never more than eight times the bytes of its rules and its application
+in_eight_times() {
+  "$python" - "$program" $words >out 2>err <<'PY'
+import os
+import subprocess
+import sys
+read = sum(os.path.getsize(os.path.join(folder, name)) for root in ("rules", "app") for folder, _, names in os.walk(root) for name in names)
+run = subprocess.Popen(sys.argv[1:])
+_, status, usage = os.wait4(run.pid, 0)
+times = usage.ru_maxrss * 1024 / read
+print("ended", os.waitstatus_to_exitcode(status), "within" if times <= 8 else f"with {times:.1f} times")
+PY
+  check "$1: status, and memory" 'ended 0 within' "$(tail -1 out)"
+}
+
+fresh; rm -r app; mkdir app
+"$python" - <<'PY'
+from struct import pack
+def utf8(text):
+    return pack(">BH", 1, len(text)) + text.encode()
+# Entry 1 is the class's name, 3 its superclass's, 5 the attribute's, 6 the annotation's type, 7 to 14 strings, and then 300 names.
+texts = ["javax.servlet.http.Cookie", "plain", "javax.servlet", "java.lang.String", "javax/servlet", "a b c", "javax.el.EL", "x"]
+names = [f"m{i}" for i in range(300)]
+pool = [utf8("p/Strings"), pack(">BH", 7, 1), utf8("java/lang/Object"), pack(">BH", 7, 3), utf8("RuntimeVisibleAnnotations"), utf8("Lp/Marks;")]
+pool += map(utf8, texts + names)
+strings = b"".join(b"s" + pack(">H", 7 + i % len(texts)) for i in range(65535))
+body = pack(">HHH", 1, 6, len(names)) + b"".join(pack(">H", 15 + i) + b"[" + pack(">H", 65535) + strings for i in range(len(names)))
+with open("app/Strings.class", "wb") as file:
+    file.write(pack(">IHHH", 0xCAFEBABE, 0, 65, len(pool) + 1) + b"".join(pool) + pack(">HHHHHH", 0x21, 2, 4, 0, 0, 0))
+    file.write(pack(">HHI", 1, 5, len(body)) + body)
+PY
+in_eight_times 'a class of 19,660,500 strings in annotations'
+
+fresh; rm -r app; mkdir app
+echo 'name.of.a.package1x7' >app/texts1.txt
+"$python" - <<'PY'
+with open("rules/text.properties", "w") as texts:
+    for i in range(300):
+        texts.write(f"texts{i}.txt=grown{i}.properties\n")
+        with open(f"rules/grown{i}.properties", "w") as rules:
+            rules.writelines(f"name.of.a.package{i}x{j}=another.name{j}\n" for j in range(18000))
+PY
+in_eight_times '300 files of text rules'
+check '300 files of text rules: the text' another.name7 "$(cat to/texts1.txt 2>&1)"
 
 # ---- many files
 
