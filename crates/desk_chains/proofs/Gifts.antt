@@ -1,20 +1,20 @@
 -- What was looked for in vain isn't looked for again.
-use Rattle.std.proofs.Common.{◌≡◌, ℕ, Bool, true, false, not, cond, ◌&&◌, ◌||◌, ◌==◌, List, [], ◌∷◌, ◌++◌, Option, Some, None, Result, Ok, Err, OnOk, OnErr, IfSome, refl, sym, ap, subst, ◌∙◌, ◌⊎◌, inl, inr}
+use Rattle.std.proofs.Common.{◌≡◌, Bool, true, false, not, cond, ◌&&◌, List, [], ◌∷◌, ◌++◌, Option, Some, None, Result, Ok, Err, OnOk, OnErr, IfSome, refl, sym, ap, subst, ◌∙◌, ◌⊎◌, inl, inr}
 use Rattle.std.specs.Option.{option_copied}
-use Rattle.std.specs.List.{find, list_any, list_all, slice_split}
+use Rattle.std.specs.List.{find, list_any, list_all}
 use Rattle.std.specs.Str.{bytes_eq}
 use Rattle.std.specs.Ordering.{nat_cmp}
 use Rattle.std.specs.BTreeMap.{is_at}
 use Rattle.std.specs.Cmp.Lexicographic.{slice_cmp}
 use Rattle.std.specs.BTreeSet.{BTreeSet, Updates, IsUnchanged, IsEmpty}
-use Rattle.std.proofs.lemmas.Bool.{and_parts, and_from, both_ways, or_cases, cases_Bool}
+use Rattle.std.proofs.lemmas.Bool.{and_parts, and_from, both_ways, cases_Bool}
 use Rattle.std.proofs.lemmas.List.{append_cancel_right}
 use Rattle.std.proofs.lemmas.List.Folds.{list_all-append}
 use Rattle.std.proofs.lemmas.Map.Text.{is_eq-slice_cmp}
 use Rattle.std.proofs.lemmas.Slice.Eq.{bytes_eq-Decides}
 use Rattle.desk_base.specs.Names.{Text, Package, segments, written, is_package, is_identifier, is_empty}
-use Rattle.desk_packages.specs.Renames.{Renaming, changes, is_rename}
-use Rattle.desk_packages.proofs.Picks.{In, find_None}
+use Rattle.desk_packages.specs.Renames.{Renaming, changes}
+use Rattle.desk_packages.proofs.Picks.{find_None}
 use Rattle.desk_packages.proofs.Searched.{find_nothing}
 use Rattle.desk_packages.proofs.Cuts.{segments_behind}
 use Rattle.desk_packages.proofs.KeyLaws.{identifier_cuts}

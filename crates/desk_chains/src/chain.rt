@@ -73,7 +73,7 @@ fn leads_below(first: &PackageRename, renames: &[PackageRename]) -> bool
 fn gift_of(rename: &PackageRename) -> Option<&[u8]>
     ensures { IfSome result (λ text. IsGift rename.now text.now) }
 {
-    let _ = rename.is_formed();
+    rename.recall_form();
     if !rename.changes() {
         return None;
     }
@@ -103,7 +103,7 @@ impl LeadsTo<PackageRename, AsGiven> for PackageRename {
         if !self.changes() {
             return &rules[..0];
         }
-        let _ = self.is_formed();
+        self.recall_form();
         match changing_for(rules, self.dotted_target(), Separator::Dot) {
             Some(_) => rules,
             None if leads_below(self, rules) => rules,
@@ -133,7 +133,7 @@ impl LeadsTo<DirectRule, AsGiven> for PackageRename {
     }
 
     fn candidates<'r>(&self, rules: &'r [DirectRule]) -> &'r [DirectRule] {
-        let _ = self.is_formed();
+        self.recall_form();
         rules_under(rules, self.target_start())
     }
 
@@ -245,7 +245,7 @@ impl LeadsTo<PackageRename, PackageAsText> for PackageRename {
         if !self.changes() {
             return &rules[..0];
         }
-        let _ = self.is_formed();
+        self.recall_form();
         let target = self.dotted_target();
         match changing_for(rules, &target[..front_end(target, b'.')], Separator::Dot) {
             Some(_) => rules,
@@ -274,7 +274,7 @@ impl LeadsTo<PackageRename, TextAsPackage> for PackageRename {
     }
 
     fn candidates<'r>(&self, rules: &'r [PackageRename]) -> &'r [PackageRename] {
-        let _ = self.is_formed();
+        self.recall_form();
         rules_under(rules, self.target_start())
     }
 

@@ -40,7 +40,7 @@ pub fn meet(first: &PackageRename, second: &PackageRename) -> bool
 pub(crate) fn front_in_reach(rename: &PackageRename, text: &[u8]) -> bool
     ensures { result ≡ front_in_reach rename.now text.now }
 {
-    let _ = rename.is_formed();
+    rename.recall_form();
     is_dotted(text) && goes_on(rename.dotted_target(), rename.is_below(), text)
 }
 
@@ -48,7 +48,7 @@ pub(crate) fn front_in_reach(rename: &PackageRename, text: &[u8]) -> bool
 pub(crate) fn front_in_scope(rename: &PackageRename, text: &[u8]) -> bool
     ensures { result ≡ front_in_scope rename.now text.now }
 {
-    let _ = rename.is_formed();
+    rename.recall_form();
     is_dotted(text) && goes_on(rename.dotted_source(), rename.is_below(), text)
 }
 
@@ -56,7 +56,7 @@ pub(crate) fn front_in_scope(rename: &PackageRename, text: &[u8]) -> bool
 pub(crate) fn target_in_scope(rename: &PackageRename, other: &PackageRename) -> bool
     ensures { result ≡ in_scope rename.now (front other.now.target) }
 {
-    let _ = other.is_formed();
+    other.recall_form();
     front_in_scope(rename, other.dotted_target())
 }
 
@@ -65,6 +65,6 @@ pub(crate) fn target_in_scope(rename: &PackageRename, other: &PackageRename) -> 
 pub fn source_in_reach(rename: &PackageRename, other: &PackageRename) -> bool
     ensures reached { result ≡ in_reach rename.now (front other.now.source) }
 {
-    let _ = other.is_formed();
+    other.recall_form();
     front_in_reach(rename, other.dotted_source())
 }

@@ -39,7 +39,7 @@ fn copied(alloc: Global, texts: &[Text]) -> Result<TextList, Memory>
 fn flipped(alloc: Global, rename: &PackageRename) -> Result<PackageRename, Memory>
     ensures { IfOk result (λ back. back ≡ flipped rename.now) }
 {
-    let _ = rename.is_formed();
+    rename.recall_form();
     let reach = if rename.is_below() {
         Reach::Below
     } else {

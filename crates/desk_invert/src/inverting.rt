@@ -79,7 +79,7 @@ pub fn invert(alloc: Global, rules: &RuleSet) -> Result<Text, InvertError>
     // What the laws of classes ask for.
     ensures invertible { OnOk result (IsInvertible rules.now) }
 {
-    let _ = rules.is_settled();
+    rules.recall_settled();
     if let Some(file) = rules.first_other() {
         return Err(InvertError::Fault(InvertFault::NotRenames {
             file: Text::from_bytes(alloc, file)?,

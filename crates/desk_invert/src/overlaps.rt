@@ -18,8 +18,8 @@ use desk_packages::{Keyed, PackageRename, Separator, front_end, longest_of, rule
 fn target_in_reach(rename: &PackageRename, other: &PackageRename) -> bool
     ensures { result ≡ in_reach rename.now (front other.now.target) }
 {
-    let _ = rename.is_formed();
-    let _ = other.is_formed();
+    rename.recall_form();
+    other.recall_form();
     goes_on(
         rename.dotted_target(),
         rename.is_below(),
@@ -102,7 +102,7 @@ fn may_be_touched(rename: &PackageRename, backs: &[PackageRename]) -> bool
     requires { IsTable backs.now }
     ensures { result ≡ false → NoneTouches rename.now backs.now }
 {
-    let _ = rename.is_formed();
+    rename.recall_form();
     let target = rename.dotted_target();
     match longest_of(backs, &target[..front_end(target, b'.')], Separator::Dot) {
         Some(_) => true,
@@ -117,7 +117,7 @@ fn may_be_taken_back(rename: &PackageRename, backs: &[PackageRename]) -> bool
     requires { IsTable backs.now }
     ensures { result ≡ false → NoneTakesBack rename.now backs.now }
 {
-    let _ = rename.is_formed();
+    rename.recall_form();
     if rename.is_below() {
         longest_of(backs, rename.dotted_target(), Separator::Dot).is_some()
     } else {

@@ -102,7 +102,7 @@ pub fn migrate_manifest(
     ensures refused { IfErr result (IsManifestFault rules.now text.now) }
     ensures again { IfOk result (λ new. ManifestStays rules.now new.bytes) }
 {
-    let _ = rules.is_settled();
+    rules.recall_settled();
     let version = bundle_version(alloc, rules, text)?;
     let between = fold_end(text);
     let mut edits = Edits::new(alloc);

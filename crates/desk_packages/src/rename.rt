@@ -172,13 +172,11 @@ impl PackageRename {
         self.reach == reach
     }
 
-    /// True: source and target are packages.
-    pub fn is_formed(&self) -> bool
-        ensures yes { IsTrue result }
+    /// Recalls what every rename promises by its type, for a proof: source and target are packages. It does nothing.
+    pub fn recall_form(&self)
         ensures formed { IsTrue (is_rename self.now) }
     {
         let _ = &self.source;
-        true
     }
 }
 

@@ -46,7 +46,7 @@ fn first_name(text: &[u8]) -> Option<(&[u8], &[u8])>
 fn may_change(rules: &RuleSet, text: &[u8]) -> bool
     ensures { result ≡ false → desc rules.now.renames text.now ≡ text.now }
 {
-    let _ = rules.is_settled();
+    rules.recall_settled();
     let mut rest = text;
     while let Some((name, behind)) = first_name(rest) {
         if rules.begins(name, Separator::Slash) {
@@ -85,7 +85,7 @@ pub fn rename_descriptor(
     ensures image { IfOk result (IsImage text.now (desc rules.now.renames text.now)) }
     ensures settled { IsRuleSet rules.now }
 {
-    let _ = rules.is_settled();
+    rules.recall_settled();
     if !may_change(rules, text) {
         return Ok(None);
     }

@@ -44,7 +44,7 @@ pub fn rename_signature(
     ensures image { IfOk result (IsImage text.now (sig rules.now.renames (wanted_signature which) text.now)) }
     ensures settled { IsRuleSet rules.now }
 {
-    let _ = rules.is_settled();
+    rules.recall_settled();
     match read_signature(text, which) {
         None => Ok(None),
         Some(parts) => rename_signature_parts(alloc, rules, which, text, parts),

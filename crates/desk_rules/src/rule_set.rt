@@ -70,6 +70,23 @@ fn updated_by(rule: &BundleRule) -> BundleUpdate<'_>
     }
 }
 
+/// The rules of rule files as they were read. An image under them may still be changed again.
+#[derive(Drop)]
+struct FileRules {
+    /// The rules of `renames.properties`, exceptions among them, in byte order of their keys.
+    renames: Vec<PackageRename>,
+    /// The rules of `versions.properties`, in byte order of their keys.
+    versions: Vec<VersionRule>,
+    /// The rules of `bundles.properties`, in byte order of their keys.
+    bundles: Vec<BundleRule>,
+    /// The rules of `direct.properties`, in byte order of their keys.
+    direct: Vec<DirectRule>,
+    /// Which paths `selection.properties` selects.
+    selection: Selection,
+    /// The patterns of `text.properties` in the order of that file, each with the rules of the file that it names.
+    texts: PatternTexts,
+}
+
 /// The rules of a rule folder. No image under them is changed again.
 #[derive(Drop)]
 pub struct RuleSet {
@@ -100,46 +117,38 @@ impl Model for RuleSet {
 
 impl RuleSet {
     /// The rule set of rules in byte order of their keys. The fault is their first chain, or want of memory.
-    pub(crate) fn settled(
-        alloc: Global,
-        renames: Vec<PackageRename>,
-        versions: Vec<VersionRule>,
-        bundles: Vec<BundleRule>,
-        direct: Vec<DirectRule>,
-        selection: Selection,
-        texts: PatternTexts,
-    ) -> Result<RuleSet, BuildFault>
-        requires renames { IsTable renames.items }
-        requires versions { RiseBy (λ v. v.0) versions.items }
-        requires bundles { RiseBy (λ b. b.0) bundles.items }
-        requires direct { RiseBy (λ d. d.0) direct.items }
-        requires utf8 { HaveUtf8Targets renames.items }
-        requires packages { AreWritten renames.items }
-        requires direct_utf8 { HaveUtf8Texts (finite.from_entries direct.items) }
-        requires versioned { HaveVersions (finite.from_entries versions.items) }
-        requires updated { HaveUpdates (finite.from_entries bundles.items) }
-        ensures built { IfOk result (λ rules. settled (rules_of renames.items versions.items bundles.items direct.items selection texts) ≡ Ok rules) }
-        ensures refused { IfErr result (IsFaultOf (settled (rules_of renames.items versions.items bundles.items direct.items selection texts))) }
+    fn settled(alloc: Global, rules: FileRules) -> Result<RuleSet, BuildFault>
+        requires renames { IsTable rules.renames.items }
+        requires versions { RiseBy (λ v. v.0) rules.versions.items }
+        requires bundles { RiseBy (λ b. b.0) rules.bundles.items }
+        requires direct { RiseBy (λ d. d.0) rules.direct.items }
+        requires utf8 { HaveUtf8Targets rules.renames.items }
+        requires packages { AreWritten rules.renames.items }
+        requires direct_utf8 { HaveUtf8Texts (finite.from_entries rules.direct.items) }
+        requires versioned { HaveVersions (finite.from_entries rules.versions.items) }
+        requires updated { HaveUpdates (finite.from_entries rules.bundles.items) }
+        ensures built { IfOk result (λ set. settled (rules_of rules.renames.items rules.versions.items rules.bundles.items rules.direct.items rules.selection rules.texts) ≡ Ok set) }
+        ensures refused { IfErr result (IsFaultOf (settled (rules_of rules.renames.items rules.versions.items rules.bundles.items rules.direct.items rules.selection rules.texts))) }
         ensures settled { IfOk result IsRuleSet }
     {
-        if let Some(chain) = first_chain(alloc, &renames, &direct, &bundles) {
+        if let Some(chain) = first_chain(alloc, &rules.renames, &rules.direct, &rules.bundles) {
             return Err(BuildFault::Rules(RuleFault::Chain {
                 kind: chain.kind,
                 first: Text::from_bytes(alloc, chain.first)?,
                 second: Text::from_bytes(alloc, chain.second)?,
             }));
         }
-        let firsts = FirstSegments::of(alloc, &renames)?;
-        let begun = FirstBytes::of(&direct);
+        let firsts = FirstSegments::of(alloc, &rules.renames)?;
+        let begun = FirstBytes::of(&rules.direct);
         Ok(RuleSet {
-            renames,
+            renames: rules.renames,
             firsts,
-            versions,
-            bundles,
-            direct,
+            versions: rules.versions,
+            bundles: rules.bundles,
+            direct: rules.direct,
             begun,
-            selection,
-            texts,
+            selection: rules.selection,
+            texts: rules.texts,
         })
     }
 
@@ -160,17 +169,24 @@ impl RuleSet {
         let direct = read_all(alloc, files, DIRECT)?;
         let selection = read_selection(alloc, files)?;
         let texts = read_texts(alloc, files)?;
-        RuleSet::settled(alloc, renames, versions, bundles, direct, selection, texts)
+        let rules = FileRules {
+            renames,
+            versions,
+            bundles,
+            direct,
+            selection,
+            texts,
+        };
+        RuleSet::settled(alloc, rules)
     }
 
-    /// True: the rules are well-formed and settled, their new packages and direct texts are modified UTF-8 (JVMS 4.4.7), their
-    /// versions are versions or ranges of versions, and the new names of bundles symbolic names (OSGi Core 3.2.4, 3.2.5).
-    pub fn is_settled(&self) -> bool
-        ensures yes { IsTrue result }
+    /// Recalls what every rule set promises by its type, for a proof: the rules are well-formed and settled, their new packages and
+    /// direct texts are modified UTF-8 (JVMS 4.4.7), their versions are versions or ranges of versions, and the new names of bundles
+    /// symbolic names (OSGi Core 3.2.4, 3.2.5). It does nothing.
+    pub fn recall_settled(&self)
         ensures settled { IsRuleSet self.now }
     {
         let _ = &self.renames;
-        true
     }
 
     /// How many renames there are, exceptions among them. It takes no memory.

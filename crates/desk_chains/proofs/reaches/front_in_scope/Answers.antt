@@ -9,4 +9,4 @@ returns-then-is_dotted c =
     c.goes_on.ensures.behind
     ∙ ap (λ (w : Text). goes_on c.is_below.result w c.args.text.now) c.dotted_source.ensures
     ∙ ap (λ (b : Bool). goes_on b (written 46 c.args.rename.now.source) c.args.text.now) c.is_below.ensures
-    ∙ scope_told c.args.rename.now c.is_formed.ensures.formed c.args.text.now (sym c.if-is_dotted.ensures)
+    ∙ scope_told c.args.rename.now c.recall_form.ensures.formed c.args.text.now (sym c.if-is_dotted.ensures)

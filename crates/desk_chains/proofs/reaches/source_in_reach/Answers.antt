@@ -9,5 +9,5 @@ returns c = record {
   reached =
       c.front_in_reach.ensures
       ∙ ap (front_in_reach c.args.rename.now) c.dotted_source.ensures
-      ∙ package_in_reach c.args.rename.now c.args.other.now.source (and_parts _ _ c.is_formed.ensures.formed).0;
+      ∙ package_in_reach c.args.rename.now c.args.other.now.source (and_parts _ _ c.recall_form.ensures.formed).0;
 }

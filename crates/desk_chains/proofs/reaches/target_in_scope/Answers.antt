@@ -8,4 +8,4 @@ pub returns : goal.returns
 returns c =
     c.front_in_scope.ensures
     ∙ ap (front_in_scope c.args.rename.now) c.dotted_target.ensures
-    ∙ package_in_scope c.args.rename.now c.args.other.now.target (and_parts _ _ c.is_formed.ensures.formed).1
+    ∙ package_in_scope c.args.rename.now c.args.other.now.target (and_parts _ _ c.recall_form.ensures.formed).1

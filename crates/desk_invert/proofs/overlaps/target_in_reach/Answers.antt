@@ -11,4 +11,4 @@ returns c =
     ∙ ap (λ (w : Text). goes_on c.is_below.result w c.dotted_target-2.result.now) c.dotted_target.ensures
     ∙ ap (λ (b : Bool). goes_on b (written 46 c.args.rename.now.target) c.dotted_target-2.result.now) c.is_below.ensures
     ∙ ap (goes_on c.args.rename.now.below (written 46 c.args.rename.now.target)) c.dotted_target-2.ensures
-    ∙ front_told c.args.rename.now c.is_formed.ensures.formed c.args.other.now.target (and_parts _ _ c.is_formed-2.ensures.formed).1
+    ∙ front_told c.args.rename.now c.recall_form.ensures.formed c.args.other.now.target (and_parts _ _ c.recall_form-2.ensures.formed).1

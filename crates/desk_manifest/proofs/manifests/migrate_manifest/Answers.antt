@@ -74,6 +74,6 @@ returns-clause-image c =
 
 pub returns-clause-again : goal.returns-clause-again
 returns-clause-again c =
-    manifest_stays c.args.rules.now c.is_settled.ensures.settled c.args.text.now _
+    manifest_stays c.args.rules.now c.recall_settled.ensures.settled c.args.text.now _
     (all_migrated c.args.rules.now c.args.text.now c.loop-line.rest.now c.loop-line.edits c.loop-line.changed c.loop-line.main c.loop-line.invariant (search rules)
     c.in_ok-bytes.bytes c.in_ok-bytes.ensures)

@@ -9,6 +9,6 @@ returns-then-not-changes c = unmoved c.args.rules.now c.args.self.now (sym c.cha
 
 pub returns-in-None-2 : goal.returns-in-None-2
 returns-in-None-2 c =
-    unmet c.args.rules.now c.args.self.now c.is_formed.ensures.formed
+    unmet c.args.rules.now c.args.self.now c.recall_form.ensures.formed
     (subst (λ (t : Text). NoneChanging c.args.rules.now (segments 46 t)) c.dotted_target.ensures c.in-None.ensures)
     (sym c.leads_below.ensures ∙ c.if-leads_below.false)

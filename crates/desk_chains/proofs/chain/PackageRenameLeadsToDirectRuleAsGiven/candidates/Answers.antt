@@ -10,4 +10,4 @@ pub returns : goal.returns
 returns c =
     ap (λ (es : List Exchange). find (rename_then_direct c.args.self.now) es) c.rules_under.ensures
     ∙ ap (λ (t : Text). find (rename_then_direct c.args.self.now) (filter (λ (e : Exchange). starts_with ◌==◌ e.0 t) c.args.rules.now)) c.target_start.ensures
-    ∙ find_filtered _ (rename_then_direct c.args.self.now) c.args.rules.now (λ e k. directs_under c.args.self.now c.is_formed.ensures.formed e k)
+    ∙ find_filtered _ (rename_then_direct c.args.self.now) c.args.rules.now (λ e k. directs_under c.args.self.now c.recall_form.ensures.formed e k)

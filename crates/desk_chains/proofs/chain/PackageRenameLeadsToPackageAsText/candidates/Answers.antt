@@ -7,4 +7,4 @@ returns-then-not-changes c = unmoved_package c.args.rules.now c.args.self.now (s
 
 pub returns-in-None : goal.returns-in-None
 returns-in-None c =
-    unfitted_package c.args.rules.now c.args.self.now c.is_formed.ensures.formed c.dotted_target-target.result.now c.front_end.result c.dotted_target-target.ensures c.front_end.ensures c.in-None.ensures
+    unfitted_package c.args.rules.now c.args.self.now c.recall_form.ensures.formed c.dotted_target-target.result.now c.front_end.result c.dotted_target-target.ensures c.front_end.ensures c.in-None.ensures

@@ -10,4 +10,4 @@ pub returns : goal.returns
 returns c =
     ap (λ (rs : List Renaming). find (name_then_package c.args.self.now) rs) c.rules_under.ensures
     ∙ ap (λ (t : Text). find (name_then_package c.args.self.now) (filter (λ (s : Renaming). starts_with ◌==◌ (key_of s) t) c.args.rules.now)) c.target_start.ensures
-    ∙ find_filtered _ (name_then_package c.args.self.now) c.args.rules.now (λ s k. sources_under c.args.self.now c.is_formed.ensures.formed s k)
+    ∙ find_filtered _ (name_then_package c.args.self.now) c.args.rules.now (λ s k. sources_under c.args.self.now c.recall_form.ensures.formed s k)
