@@ -8,6 +8,7 @@ use Rattle.desk_patterns.specs.TextRules.{TextRule}
 use Rattle.desk_paths.specs.declared.Kind.{Kind}
 use Rattle.desk_paths.specs.declared.Kind.TheVariants as kinds
 use Rattle.desk_paths.specs.Kinds.{kind_of}
+use Rattle.desk_paths.specs.Paths.{target as target_of}
 use Rattle.desk_rules.specs.Rules.{Rules}
 use Rattle.desk_file.specs.Routes.{IsRouteBy, image_along, route_of}
 use Rattle.desk_file.specs.declared.routes.Route.{Route}
@@ -16,6 +17,15 @@ use Rattle.desk_file.specs.declared.treatments.Treatment.TheVariants as treatmen
 use Rattle.desk_file.specs.Images.{target, texts_image, copied}
 use Rattle.desk_file.specs.Linked.{image_in, image_in_by}
 use Rattle.desk_file.specs.Treatments.{image_as, is_copy, is_whole, texts_treatment, treatment_by, treatment_of, whole_by}
+
+-- ---- routes
+
+-- a route that is found part by part
+pub routed : (rules : Rules) (path found : Text) (selected : Bool) (kind : Kind) (how : Treatment) → selected ≡ selects rules.selection path → kind ≡ kind_of path → found ≡ target_of rules path
+    → how ≡ treatment_by selected kind (texts_for rules.texts path found) → record { path = path; target = found; treatment = how } ≡ route_of rules path
+unfolding target
+routed rules path found selected kind how s k t h =
+    λ i. record { path = path; target = t i; treatment = (h ∙ (λ j. treatment_by (s j) (k j) (texts_for rules.texts path (t j)))) i }
 
 -- ---- whole files
 

@@ -13,7 +13,6 @@ use desk_class::ClassView;
 use desk_graph::ClassGraph;
 use desk_report::{Detail, Reason};
 use desk_rewrite::{RewriteFault, Rewritten, rewrite};
-use desk_rules::RuleSet;
 use std::alloc::Global;
 
 impl From<ReadFault> for FileFault {
@@ -58,24 +57,23 @@ fn count_links(alloc: Global, graph: &ClassGraph<'_>, view: &ClassView<'_>) -> R
     Ok(links.len() as u32)
 }
 
-/// The image of a class of at most 67,108,864 bytes: the new class, in which each use of a text has the image of the text,
-/// and all else stays. `Refused` comes exactly where there is none: `Malformed` with the first fault of bytes that are no
-/// well-formed class, else `Overlong`, `PoolFull` or `Twins`, in this order. The only other error is want of memory.
+/// The image of a class of at most 67,108,864 bytes in the application of a graph, under its rules: the new class, in which each
+/// use of a text has the image of the text, and all else stays. `Refused` comes exactly where there is none: `Malformed` with the
+/// first fault of bytes that are no well-formed class, else `Overlong`, `PoolFull` or `Twins`, in this order. The only other error
+/// is want of memory.
 #[tactic(auto, using(crate::proofs::ClassImages::malformed, crate::proofs::ClassImages::linked_fault))]
 pub(crate) fn class_image(
     alloc: Global,
-    rules: &RuleSet,
     graph: &ClassGraph<'_>,
     bytes: &[u8],
 ) -> Result<Image, FileFault>
-    requires size { length bytes.now ≤ file_size }
-    requires graph { graph.now.renames ≡ rules.now.renames }
-    ensures ok { IfOk result (λ found. linked_class rules.now graph.now.defined bytes.now ≡ Ok found) }
-    ensures class { IfOk result (λ found. IsNewClassOf rules.now bytes.now found.bytes) }
-    ensures err { IfErr result (IsFaultOf (linked_class rules.now graph.now.defined bytes.now)) }
+    requires { length bytes.now ≤ file_size }
+    ensures ok { IfOk result (λ found. linked_class graph.now.rules graph.now.defined bytes.now ≡ Ok found) }
+    ensures class { IfOk result (λ found. IsNewClassOf graph.now.rules bytes.now found.bytes) }
+    ensures err { IfErr result (IsFaultOf (linked_class graph.now.rules graph.now.defined bytes.now)) }
 {
     let view = ClassView::read(alloc, bytes)?;
-    let new = rewrite(alloc, rules, graph, &view)?;
+    let new = rewrite(alloc, graph.rules(), graph, &view)?;
     let links = count_links(alloc, graph, &view)?;
     let Rewritten {
         bytes,

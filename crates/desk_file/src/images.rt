@@ -172,22 +172,20 @@ pub fn outgrows(rules: &RuleSet, route: &Route, bytes: &[u8], most: usize) -> bo
 /// The image of a file along its route, and none where it is copied.
 fn image_along(
     alloc: Global,
-    rules: &RuleSet,
     graph: &ClassGraph<'_>,
     route: &Route,
     bytes: &[u8],
 ) -> Result<Option<Image>, FileFault>
-    requires size { length bytes.now ≤ file_size }
-    requires graph { graph.now.renames ≡ rules.now.renames }
-    ensures ok { IfOk result (λ found. image_along rules.now graph.now.defined route.now bytes.now ≡ Ok (unwrap_or found (copied bytes.now))) }
-    ensures class { IfOk result (λ found. route.now.treatment ≡ Treatment.Class → IsSomeAnd found (λ image. IsNewClassOf rules.now bytes.now image.bytes)) }
-    ensures err { IfErr result (IsFaultOf (image_along rules.now graph.now.defined route.now bytes.now)) }
+    requires { length bytes.now ≤ file_size }
+    ensures ok { IfOk result (λ found. image_along graph.now.rules graph.now.defined route.now bytes.now ≡ Ok (unwrap_or found (copied bytes.now))) }
+    ensures class { IfOk result (λ found. route.now.treatment ≡ Treatment.Class → IsSomeAnd found (λ image. IsNewClassOf graph.now.rules bytes.now image.bytes)) }
+    ensures err { IfErr result (IsFaultOf (image_along graph.now.rules graph.now.defined route.now bytes.now)) }
 {
     match route.treatment {
-        Treatment::Service => Ok(Some(service_image(alloc, rules, bytes)?)),
-        Treatment::Manifest => Ok(Some(manifest_image(alloc, rules, bytes)?)),
-        Treatment::Class => Ok(Some(class_image(alloc, rules, graph, bytes)?)),
-        Treatment::Texts => texts_image(alloc, rules, route, bytes),
+        Treatment::Service => Ok(Some(service_image(alloc, graph.rules(), bytes)?)),
+        Treatment::Manifest => Ok(Some(manifest_image(alloc, graph.rules(), bytes)?)),
+        Treatment::Class => Ok(Some(class_image(alloc, graph, bytes)?)),
+        Treatment::Texts => texts_image(alloc, graph.rules(), route, bytes),
         Treatment::UnselectedClass | Treatment::Copy => Ok(None),
     }
 }
@@ -195,18 +193,16 @@ fn image_along(
 /// The image of a file along its route.
 fn made_along(
     alloc: Global,
-    rules: &RuleSet,
     graph: &ClassGraph<'_>,
     route: &Route,
     bytes: &[u8],
 ) -> Result<Image, FileFault>
-    requires size { length bytes.now ≤ file_size }
-    requires graph { graph.now.renames ≡ rules.now.renames }
-    ensures ok { IfOk result (λ found. image_along rules.now graph.now.defined route.now bytes.now ≡ Ok found) }
-    ensures class { IfOk result (λ found. route.now.treatment ≡ Treatment.Class → IsNewClassOf rules.now bytes.now found.bytes) }
-    ensures err { IfErr result (IsFaultOf (image_along rules.now graph.now.defined route.now bytes.now)) }
+    requires { length bytes.now ≤ file_size }
+    ensures ok { IfOk result (λ found. image_along graph.now.rules graph.now.defined route.now bytes.now ≡ Ok found) }
+    ensures class { IfOk result (λ found. route.now.treatment ≡ Treatment.Class → IsNewClassOf graph.now.rules bytes.now found.bytes) }
+    ensures err { IfErr result (IsFaultOf (image_along graph.now.rules graph.now.defined route.now bytes.now)) }
 {
-    match image_along(alloc, rules, graph, route, bytes)? {
+    match image_along(alloc, graph, route, bytes)? {
         Some(image) => Ok(image),
         None => Ok(Image {
             bytes: Text::from_bytes(alloc, bytes)?,
@@ -215,8 +211,8 @@ fn made_along(
     }
 }
 
-/// The image of a file of at most 67,108,864 bytes along its route, in the application of a graph that was built under the same
-/// rules. Along the route that these rules give its path, this is the image of the file. A file that is copied keeps its bytes.
+/// The image of a file of at most 67,108,864 bytes along its route, in the application of a graph, under its rules. Along the
+/// route that these rules give its path, this is the image of the file. A file that is copied keeps its bytes.
 /// A selected class has its new class for its image, which is well-formed and has the renamed tree: it holds the images of the class
 /// names that the class holds, and renaming it again changes nothing.
 /// `Refused` comes exactly where the file has no image: `Malformed`, `Overlong`, `PoolFull` or `Twins` for a selected class;
@@ -227,18 +223,16 @@ fn made_along(
 #[tactic(auto, using(crate::proofs::Treating::image_routed))]
 pub fn migrate_file(
     alloc: Global,
-    rules: &RuleSet,
     graph: &ClassGraph<'_>,
     route: &Route,
     bytes: &[u8],
 ) -> Result<Image, FileFault>
-    requires size { length bytes.now ≤ file_size }
-    requires graph { graph.now.renames ≡ rules.now.renames }
-    ensures ok { IfOk result (λ found. image_along rules.now graph.now.defined route.now bytes.now ≡ Ok found) }
-    ensures class { IfOk result (λ found. route.now.treatment ≡ Treatment.Class → IsNewClassOf rules.now bytes.now found.bytes) }
-    ensures err { IfErr result (IsFaultOf (image_along rules.now graph.now.defined route.now bytes.now)) }
-    ensures image { IfOk result (λ found. IsRouteBy rules.now route.now → image_in rules.now graph.now.defined route.now.path bytes.now ≡ Ok found) }
-    ensures refused { IfErr result (λ fault. IsRouteBy rules.now route.now → IsFileFault rules.now graph.now.defined route.now.path bytes.now fault) }
+    requires { length bytes.now ≤ file_size }
+    ensures ok { IfOk result (λ found. image_along graph.now.rules graph.now.defined route.now bytes.now ≡ Ok found) }
+    ensures class { IfOk result (λ found. route.now.treatment ≡ Treatment.Class → IsNewClassOf graph.now.rules bytes.now found.bytes) }
+    ensures err { IfErr result (IsFaultOf (image_along graph.now.rules graph.now.defined route.now bytes.now)) }
+    ensures image { IfOk result (λ found. IsRouteBy graph.now.rules route.now → image_in graph.now.rules graph.now.defined route.now.path bytes.now ≡ Ok found) }
+    ensures refused { IfErr result (λ fault. IsRouteBy graph.now.rules route.now → IsFileFault graph.now.rules graph.now.defined route.now.path bytes.now fault) }
 {
-    made_along(alloc, rules, graph, route, bytes)
+    made_along(alloc, graph, route, bytes)
 }

@@ -3,7 +3,7 @@
 //! ```text
 //! let path = Text::from_bytes(alloc, b"META-INF/services/javax.servlet.F")?;
 //! let route = route_of(alloc, &rules, path)?; // to META-INF/services/jakarta.servlet.F, as a service file
-//! match migrate_file(alloc, &rules, &graph, &route, bytes) {
+//! match migrate_file(alloc, &graph, &route, bytes) {
 //!     Ok(Image { bytes, detail }) => write(&route.target, &bytes, detail),
 //!     Err(FileFault::Refused(reason)) => tell(&route.path, reason),
 //!     Err(FileFault::Memory) => return Err(Memory),

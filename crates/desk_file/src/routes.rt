@@ -4,9 +4,9 @@ ghost use Rattle.std.specs.Prelude.{◌≡◌, true, IfOk, IsTrue};
 ghost use Rattle.desk_base.specs.Paths.{is_relative_path};
 ghost use Rattle.desk_file.specs.Routes.{route_of};
 
-use crate::targets::target_of;
-use crate::treatments::{Treatment, treatment_of};
+use crate::treatments::{Treatment, treatment_by};
 use desk_base::{Memory, Text};
+use desk_paths::CutPath;
 use desk_rules::RuleSet;
 use std::alloc::Global;
 
@@ -21,15 +21,17 @@ pub struct Route {
     pub treatment: Treatment,
 }
 
-/// The route of a file, by its path and the rules. The target of a relative path is a relative path. The only error is want of
-/// memory.
+/// The route of a file, by its path and the rules: its path is cut once, and they are asked once whether they select it. The
+/// target of a relative path is a relative path. The only error is want of memory.
 pub fn route_of(alloc: Global, rules: &RuleSet, path: Text) -> Result<Route, Memory>
     requires { IsTrue (is_relative_path path) }
     ensures route { IfOk result (λ route. route ≡ route_of rules.now path) }
     ensures relative { IfOk result (λ route. is_relative_path route.target ≡ true) }
 {
-    let target = target_of(alloc, rules, &path)?;
-    let treatment = treatment_of(rules, &path, &target);
+    let selected = rules.selected(path.as_bytes());
+    let cut = CutPath::of(path.as_bytes());
+    let target = cut.target(alloc, rules, selected)?;
+    let treatment = treatment_by(rules, selected, cut.kind(), &path, &target);
     Ok(Route {
         path,
         target,

@@ -3,8 +3,7 @@
 ghost use Rattle.std.specs.Prelude.{◌≡◌};
 ghost use Rattle.desk_file.specs.Images.{target as target_of};
 ghost use Rattle.desk_patterns.specs.PatternTexts.{texts_for};
-ghost use Rattle.desk_paths.specs.Kinds.{kind_of};
-ghost use Rattle.desk_file.specs.Treatments.{is_whole, selected_treatment, texts_treatment, treatment_of, unselected_treatment};
+ghost use Rattle.desk_file.specs.Treatments.{is_whole, selected_treatment, texts_treatment, treatment_by, treatment_of, unselected_treatment};
 
 use desk_base::Text;
 use desk_paths::{Kind, place};
@@ -63,11 +62,11 @@ fn texts_treatment(rules: &RuleSet, path: &Text, target: &Text) -> Treatment
     }
 }
 
-/// How a selected file is treated.
-fn selected_treatment(rules: &RuleSet, path: &Text, target: &Text) -> Treatment
-    ensures { result ≡ selected_treatment (kind_of path.now) (texts_for rules.now.texts path.now target.now) }
+/// How a selected file of a kind is treated.
+fn selected_treatment(rules: &RuleSet, kind: Kind, path: &Text, target: &Text) -> Treatment
+    ensures { result ≡ selected_treatment kind (texts_for rules.now.texts path.now target.now) }
 {
-    match place(path.as_bytes()).kind {
+    match kind {
         Kind::Class => Treatment::Class,
         Kind::Service => Treatment::Service,
         Kind::Manifest => Treatment::Manifest,
@@ -75,13 +74,30 @@ fn selected_treatment(rules: &RuleSet, path: &Text, target: &Text) -> Treatment
     }
 }
 
-/// How a file is treated that isn't selected.
-fn unselected_treatment(path: &Text) -> Treatment
-    ensures { result ≡ unselected_treatment (kind_of path.now) }
+/// How a file of a kind is treated that isn't selected.
+fn unselected_treatment(kind: Kind) -> Treatment
+    ensures { result ≡ unselected_treatment kind }
 {
-    match place(path.as_bytes()).kind {
+    match kind {
         Kind::Class => Treatment::UnselectedClass,
         Kind::Service | Kind::Manifest | Kind::Other => Treatment::Copy,
+    }
+}
+
+/// How a file of a kind is treated, which is selected or not. It takes no memory.
+pub(crate) fn treatment_by(
+    rules: &RuleSet,
+    selected: bool,
+    kind: Kind,
+    path: &Text,
+    target: &Text,
+) -> Treatment
+    ensures { result ≡ treatment_by selected kind (texts_for rules.now.texts path.now target.now) }
+{
+    if selected {
+        selected_treatment(rules, kind, path, target)
+    } else {
+        unselected_treatment(kind)
     }
 }
 
@@ -91,11 +107,14 @@ pub fn treatment_of(rules: &RuleSet, path: &Text, target: &Text) -> Treatment
     requires { target.now ≡ target_of rules.now path.now }
     ensures { result ≡ treatment_of rules.now path.now }
 {
-    if rules.selected(path.as_bytes()) {
-        selected_treatment(rules, path, target)
-    } else {
-        unselected_treatment(path)
-    }
+    let bytes = path.as_bytes();
+    treatment_by(
+        rules,
+        rules.selected(bytes),
+        place(bytes).kind,
+        path,
+        target,
+    )
 }
 
 /// Whether a file is read whole: its kind is Class, or it is selected and its kind is Service or Manifest, or it is selected

@@ -13,6 +13,7 @@ use Rattle.std.specs.BTreeSet.{BTreeSet, insert_key}
 use Rattle.desk_base.specs.Names.{Text}
 use Rattle.desk_packages.specs.Keys.{RiseBy}
 use Rattle.desk_packages.specs.Renames.{Renaming}
+use Rattle.desk_rules.specs.Rules.{Rules}
 use Rattle.desk_rename.specs.Images.{cls}
 use Rattle.desk_packages.proofs.Picks.{In}
 use Rattle.desk_class.specs.Held.{put_all, ascending}
@@ -177,11 +178,11 @@ counts_are ss classes set counts alike defined is =
     ∙ sym (held_counts (is_defined classes) ss)
     ∙ ap (λ (ds : List Text). map (link_count (ascending ds)) ss) alike.defined
 
-pub graph_is : (renames : List Renaming) (ss : List Scanned) (known : List Pair) (nodes : List (Option ℕ)) (counts : List ℕ) → IsBuilt (cls renames) ss known nodes → counts ≡ link_counts ss
-    → record { renames = renames; defined = defined_of (firsts known) nodes; names = firsts known; link_counts = counts } ≡ graph_of renames ss
-graph_is renames ss known nodes counts b c =
-    ap₂ (λ (ds ns : List Text). record { renames = renames; defined = ds; names = ns; link_counts = counts }) b.defined b.names
-    ∙ ap (λ (cs : List ℕ). record { renames = renames; defined = ascending (defined_names ss); names = ascending (names ss); link_counts = cs }) c
+pub graph_is : (rules : Rules) (ss : List Scanned) (known : List Pair) (nodes : List (Option ℕ)) (counts : List ℕ) → IsBuilt (cls rules.renames) ss known nodes → counts ≡ link_counts ss
+    → record { rules = rules; defined = defined_of (firsts known) nodes; names = firsts known; link_counts = counts } ≡ graph_of rules ss
+graph_is rules ss known nodes counts b c =
+    ap₂ (λ (ds ns : List Text). record { rules = rules; defined = ds; names = ns; link_counts = counts }) b.defined b.names
+    ∙ ap (λ (cs : List ℕ). record { rules = rules; defined = ascending (defined_names ss); names = ascending (names ss); link_counts = cs }) c
 
 -- ---- what was found
 

@@ -4,8 +4,8 @@ use Rattle.std.specs.List.{list_any}
 use Rattle.std.specs.Str.{bytes_eq}
 use Rattle.std.specs.Coded.{Coded, code_by, coded×, coded_list, coded_ℕ}
 use Rattle.desk_base.specs.Names.{Text}
-use Rattle.desk_packages.specs.Renames.{Renaming, renaming_code}
-use Rattle.desk_rules.specs.Rules.{text_code}
+use Rattle.desk_packages.specs.Renames.{Renaming}
+use Rattle.desk_rules.specs.Rules.{Rules, rules_code, text_code}
 use Rattle.desk_class.specs.Held.{ascending, held_in}
 use Rattle.desk_rename.specs.Images.{cls}
 use Rattle.desk_graph.specs.Application.{Pair, defined_names, names, link_counts}
@@ -14,22 +14,22 @@ use Rattle.desk_graph.specs.Tables.{IsKnownBy, as_is}
 use Rattle.desk_graph.specs.Nodes.{defined_of, firsts, IsTable}
 use Rattle.desk_graph.specs.declared.scanned.Scanned.{Scanned}
 
--- The renames, the defined names and all names of an application, both in byte order, each once; and of each class, in their
+-- The rules; the defined names and all names of an application, both in byte order, each once; and of each class, in their
 -- order, how many defined names it holds.
 pub record Graph : Type 0 where
-  pub renames : List Renaming
+  pub rules : Rules
   pub defined : List Text
   pub names : List Text
   pub link_counts : List ℕ
 
 abbrev pub graph_code : Coded Graph
 graph_code =
-    code_by (List Renaming × (List Text × (List Text × List ℕ))) (coded× (coded_list renaming_code) (coded× (coded_list text_code) (coded× (coded_list text_code) (coded_list coded_ℕ))))
-    (λ g. (g.renames, (g.defined, (g.names, g.link_counts)))) (λ p. record { renames = p.0; defined = p.1.0; names = p.1.1.0; link_counts = p.1.1.1 }) (λ _. refl)
+    code_by (Rules × (List Text × (List Text × List ℕ))) (coded× rules_code (coded× (coded_list text_code) (coded× (coded_list text_code) (coded_list coded_ℕ))))
+    (λ g. (g.rules, (g.defined, (g.names, g.link_counts)))) (λ p. record { rules = p.0; defined = p.1.0; names = p.1.1.0; link_counts = p.1.1.1 }) (λ _. refl)
 
--- the graph of these classes
-abbrev pub graph_of : List Renaming → List Scanned → Graph
-graph_of renames ss = record { renames = renames; defined = ascending (defined_names ss); names = ascending (names ss); link_counts = link_counts ss }
+-- the graph of these classes under rules
+abbrev pub graph_of : Rules → List Scanned → Graph
+graph_of rules ss = record { rules = rules; defined = ascending (defined_names ss); names = ascending (names ss); link_counts = link_counts ss }
 
 -- what a graph keeps: the names in byte order, each with its image, and the numbers of those that are defined
 pub record IsGraph (renames : List Renaming) (known : List Pair) (nodes : List (Option ℕ)) : Type 0 where

@@ -51,7 +51,7 @@ impl From<Memory> for GraphFault {
 }
 
 /// The names of an application under a rule set: those that its classes define, and all names with their images. Contracts
-/// see the renames, both lists of names, and how many defined names each class holds. No call but `build` and `links` takes
+/// see the rules, both lists of names, and how many defined names each class holds. No call but `build` and `links` takes
 /// memory.
 #[derive(Drop)]
 pub struct ClassGraph<'r> {
@@ -69,7 +69,7 @@ impl<'r> Model for ClassGraph<'r> {
 
     ghost coded = { graph_code };
 
-    ghost view = { λ g. record { renames = g.rules.now.renames; defined = defined_of (firsts g.known.items) g.nodes.items; names = firsts g.known.items; link_counts = g.counts.items } };
+    ghost view = { λ g. record { rules = g.rules.now; defined = defined_of (firsts g.known.items) g.nodes.items; names = firsts g.known.items; link_counts = g.counts.items } };
 
     ghost invariant = { λ g. IsGraph g.rules.now.renames g.known.items g.nodes.items };
 }
@@ -84,7 +84,7 @@ impl<'r> ClassGraph<'r> {
         rules: &'r RuleSet,
     ) -> Result<ClassGraph<'r>, GraphFault>
         requires { length scanned.items < 2 ^ 32 }
-        ensures graph { IfOk result (λ graph. graph ≡ graph_of rules.entry.now.renames scanned.items) }
+        ensures graph { IfOk result (λ graph. graph ≡ graph_of rules.entry.now scanned.items) }
         ensures no_clash { OnOk result (name_clash (cls rules.entry.now.renames) scanned.items ≡ None) }
         ensures none_stranded { OnOk result (stranded (cls rules.entry.now.renames) scanned.items ≡ None) }
         ensures fault { IfErr result (Refuses (cls rules.entry.now.renames) scanned.items) }
@@ -117,6 +117,13 @@ impl<'r> ClassGraph<'r> {
             nodes,
             counts,
         })
+    }
+
+    /// The rules under which the names have their images.
+    pub fn rules(&self) -> &'r RuleSet
+        ensures { result.now ≡ self.now.rules }
+    {
+        self.rules
     }
 
     /// Of each class of the application, in the order in which they were given, how many defined names it holds, its own
@@ -156,11 +163,11 @@ impl<'r> ClassGraph<'r> {
 }
 
 impl Images for ClassGraph<'_> {
-    ghost renames = { λ g. g.renames };
+    ghost renames = { λ g. g.rules.renames };
 
     /// The image of a name of the application; none exactly where the name is none of it.
     fn image_of(&self, name: &[u8]) -> Option<&[u8]>
-        ensures image { IfSome result (λ image. image.now ≡ cls self.now.renames name.now) }
+        ensures image { IfSome result (λ image. image.now ≡ cls self.now.rules.renames name.now) }
         ensures known { MatchOption result (IsNowhere as_is self.now.names name.now) (λ _. Contains self.now.names name.now) }
     {
         match place_of(self.known.as_slice(), name) {

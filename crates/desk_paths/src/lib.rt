@@ -11,7 +11,7 @@
 mod places;
 mod targets;
 
-pub use places::{Placed, place};
+pub use places::{CutPath, Placed, place};
 pub use targets::{renamed_path, target};
 
 /// A kind of file, by its path.

@@ -8,6 +8,7 @@ ghost use Rattle.desk_paths.specs.Kinds.{kind_of};
 ghost use Rattle.desk_paths.specs.Walks.{IsStep, IsCutAt, is_service_file, kind_by_texts};
 
 use crate::Kind;
+use std::marker::Model;
 
 /// The folder of service files, with the `/` behind it.
 const SERVICES: &[u8] = b"META-INF/services/";
@@ -42,15 +43,36 @@ pub struct Placed<'a> {
 
 /// How far a path was walked.
 #[derive(Clone, Copy)]
-pub(crate) struct Walk<'a> {
+struct Walk<'a> {
     /// The last folder but one.
     earlier: &'a [u8],
     /// The last folder.
     before: &'a [u8],
     /// Where the rest begins, if no class root ends behind.
-    pub(crate) rest_at: usize,
+    rest_at: usize,
     /// Where the segment behind the last folder begins.
+    file_at: usize,
+}
+
+/// A path that was cut by one pass over its bytes: behind its class root, and before its file name. Contracts see the path.
+#[derive(Debug, Drop)]
+pub struct CutPath<'a> {
+    pub(crate) path: &'a [u8],
+    /// Where the rest begins, behind the `/` of the class root.
+    pub(crate) rest_at: usize,
+    /// Where the file name begins.
     pub(crate) file_at: usize,
+}
+
+impl<'a> Model for CutPath<'a> {
+    ghost use Rattle.desk_base.specs.Names.{Text};
+    ghost use Rattle.desk_paths.specs.Walks.{IsCutAt};
+
+    ghost Value = { Text };
+
+    ghost view = { λ c. c.path.now };
+
+    ghost invariant = { λ c. IsCutAt c.path.now c.rest_at c.file_at };
 }
 
 /// Whether a folder's name is that of an archive.
@@ -109,7 +131,7 @@ impl<'a> Walk<'a> {
 }
 
 /// Where the rest and the file name of a path begin: one pass over its bytes.
-pub(crate) fn walk_over(path: &[u8]) -> Walk<'_>
+fn walk_over(path: &[u8]) -> Walk<'_>
     ensures { IsCutAt path.now result.rest_at result.file_at }
 {
     let mut walk = Walk {
@@ -149,6 +171,42 @@ fn kind_in(folder: &[u8], file: &[u8]) -> Kind
     }
 }
 
+impl<'a> CutPath<'a> {
+    /// A path, cut. It takes no memory.
+    pub fn of(path: &'a [u8]) -> CutPath<'a>
+        ensures { result ≡ path.now }
+    {
+        let walk = walk_over(path);
+        CutPath {
+            path,
+            rest_at: walk.rest_at,
+            file_at: walk.file_at,
+        }
+    }
+
+    /// The class root, without a `/` at its end.
+    fn root(&self) -> &'a [u8]
+        ensures { result.now ≡ root_of self.now }
+    {
+        &self.path[..self.rest_at.saturating_sub(1)]
+    }
+
+    /// What follows the class root, without a `/` at its start.
+    fn rest(&self) -> &'a [u8]
+        ensures { result.now ≡ rest_of self.now }
+    {
+        &self.path[self.rest_at..]
+    }
+
+    /// What the file is, by the rest of its path. It takes no memory.
+    pub fn kind(&self) -> Kind
+        ensures { result ≡ kind_of self.now }
+    {
+        let path = self.path;
+        kind_in(&path[self.rest_at..self.file_at], &path[self.file_at..])
+    }
+}
+
 /// A path, cut at its class root, with the file's kind. The class root ends at the last folder that
 /// ends in `.jar`, `.war`, `.ear` or `.rar`, or is `classes` directly behind `WEB-INF`, `BOOT-INF` or
 /// `APP-INF`, or consists of digits directly behind `META-INF/versions`. The file name is never part
@@ -159,10 +217,10 @@ pub fn place(path: &[u8]) -> Placed<'_>
     ensures kind { result.kind ≡ kind_of path.now }
     ensures joined { path.now ≡ below result.root.now result.rest.now }
 {
-    let walk = walk_over(path);
+    let cut = CutPath::of(path);
     Placed {
-        root: &path[..walk.rest_at.saturating_sub(1)],
-        rest: &path[walk.rest_at..],
-        kind: kind_in(&path[walk.rest_at..walk.file_at], &path[walk.file_at..]),
+        root: cut.root(),
+        rest: cut.rest(),
+        kind: cut.kind(),
     }
 }

@@ -2,13 +2,14 @@
 
 ghost use Rattle.std.specs.Prelude.{◌≡◌, ◌++◌, IfOk, OnOk, IsTrue};
 ghost use Rattle.desk_base.specs.Paths.{is_relative_path};
+ghost use Rattle.desk_patterns.specs.Selections.{selects};
 ghost use Rattle.desk_rules.specs.Images.{dotted};
 ghost use Rattle.desk_rename.specs.Images.{package_image};
 ghost use Rattle.desk_paths.specs.Paths.{renamed_path, target};
 ghost use Rattle.desk_paths.specs.Kinds.{RenamedStays, TargetStays};
 ghost use Rattle.desk_paths.specs.Walks.{IsCutAt, IsPackageEnd, Stay};
 
-use crate::places::{is_service_file, walk_over};
+use crate::places::{CutPath, is_service_file};
 use desk_base::{Memory, Text};
 use desk_rename::{append_dotted, append_package};
 use desk_rules::RuleSet;
@@ -54,6 +55,49 @@ fn package_end(path: &[u8], rest_at: usize, file_at: usize) -> usize
     }
 }
 
+impl CutPath<'_> {
+    /// Where the file goes where it is selected, as `renamed_path` says. The only error is want of memory.
+    fn renamed(&self, alloc: Global, rules: &RuleSet) -> Result<Text, Memory>
+        ensures target { IfOk result (λ found. found ≡ renamed_path rules.now.renames self.now) }
+        ensures stays { IfOk result (λ _. RenamedStays rules.now.renames self.now) }
+        ensures relative { IfOk result (λ found.
+            IsTrue (is_relative_path self.now) → IsTrue (is_relative_path found)) }
+    {
+        let CutPath {
+            path,
+            rest_at,
+            file_at,
+        } = *self;
+        if is_service_file(&path[rest_at..file_at], &path[file_at..]) {
+            with_name(alloc, rules, &path[..file_at], &path[file_at..])
+        } else {
+            let end = package_end(path, rest_at, file_at);
+            with_package(
+                alloc,
+                rules,
+                &path[..rest_at],
+                &path[rest_at..end],
+                &path[end..],
+            )
+        }
+    }
+
+    /// Where the file goes, which is selected by the rules or not: as `target` says. The only error is want of memory.
+    pub fn target(&self, alloc: Global, rules: &RuleSet, selected: bool) -> Result<Text, Memory>
+        requires { selected ≡ selects rules.now.selection self.now }
+        ensures target { IfOk result (λ found. found ≡ target rules.now self.now) }
+        ensures stays { IfOk result (λ _. TargetStays rules.now self.now) }
+        ensures relative { IfOk result (λ found.
+            IsTrue (is_relative_path self.now) → IsTrue (is_relative_path found)) }
+    {
+        if selected {
+            self.renamed(alloc, rules)
+        } else {
+            Text::from_bytes(alloc, self.path)
+        }
+    }
+}
+
 /// Where a selected file goes: a service file's path with its file name exchanged as a dotted name,
 /// and any other path with the folder behind its class root exchanged as a package. The target of a
 /// target is itself, with its path's class root and kind; and the target of a relative path is a
@@ -64,19 +108,7 @@ pub fn renamed_path(alloc: Global, rules: &RuleSet, path: &[u8]) -> Result<Text,
     ensures relative { IfOk result (λ found.
         IsTrue (is_relative_path path.now) → IsTrue (is_relative_path found)) }
 {
-    let walk = walk_over(path);
-    if is_service_file(&path[walk.rest_at..walk.file_at], &path[walk.file_at..]) {
-        with_name(alloc, rules, &path[..walk.file_at], &path[walk.file_at..])
-    } else {
-        let end = package_end(path, walk.rest_at, walk.file_at);
-        with_package(
-            alloc,
-            rules,
-            &path[..walk.rest_at],
-            &path[walk.rest_at..end],
-            &path[end..],
-        )
-    }
+    CutPath::of(path).renamed(alloc, rules)
 }
 
 /// Where a file goes: a selected file as `renamed_path` says, and an unselected one keeps its path. The
@@ -88,9 +120,5 @@ pub fn target(alloc: Global, rules: &RuleSet, path: &[u8]) -> Result<Text, Memor
     ensures relative { IfOk result (λ found.
         IsTrue (is_relative_path path.now) → IsTrue (is_relative_path found)) }
 {
-    if rules.selected(path) {
-        renamed_path(alloc, rules, path)
-    } else {
-        Text::from_bytes(alloc, path)
-    }
+    CutPath::of(path).target(alloc, rules, rules.selected(path))
 }

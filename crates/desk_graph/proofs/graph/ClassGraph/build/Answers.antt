@@ -55,7 +55,7 @@ pub returns-clause-graph : goal.returns-clause-graph
 returns-clause-graph c =
     let b = built (cls c.args.rules.now.renames) c.args.scanned.items c.as_slice-classes.result.now c.in_ok-defined.defined c.in_ok-names.names.items c.as_slice.result.now c.in_ok-known.known.items c.in_ok-nodes.nodes.items (rw c.as_slice-classes.ensures.value c.without_paths-kept.ensures)
     c.in_ok-defined.ensures c.in_ok-names.ensures c.in_ok-known.ensures c.as_slice.ensures.value c.in_ok-nodes.ensures in
-    graph_is c.args.rules.now.renames c.args.scanned.items c.in_ok-known.known.items c.in_ok-nodes.nodes.items c.in_ok-counts.counts.items b
+    graph_is c.args.rules.now c.args.scanned.items c.in_ok-known.known.items c.in_ok-nodes.nodes.items c.in_ok-counts.counts.items b
     (counts_are c.args.scanned.items c.as_slice-classes.result.now c.in_ok-defined.defined c.in_ok-counts.counts.items (rw c.as_slice-classes.ensures.value c.without_paths-kept.ensures) c.in_ok-defined.ensures c.in_ok-counts.ensures)
 
 no_clash_found : (c : goal.After-drop-kept-2) → name_clash (cls c.args.rules.now.renames) c.args.scanned.items ≡ None

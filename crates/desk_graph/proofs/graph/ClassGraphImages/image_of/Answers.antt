@@ -12,7 +12,7 @@ returns-in-Some-clause-image c =
     c.image.ensures
     ∙ image_at (cls c.self.inside.rules.now.renames) c.self.inside.known.items c.in-Some.place c.index.result.now c.args.name.now c.self.invariant.images (rw (← c.as_slice.ensures.value) place.0) c.index.ensures
     (ap (λ (p : Pair). p.0) c.index.ensures ∙ ap (λ (xs : List Pair). (slice_index_or xs c.in-Some.place c.index.result.now).0) (sym c.as_slice.ensures.value) ∙ place.1 c.index.result.now)
-    ∙ ap (λ (g : Graph). cls g.renames c.args.name.now) c.self.view_is
+    ∙ ap (λ (g : Graph). cls g.rules.renames c.args.name.now) c.self.view_is
 
 pub returns-in-None-clause-known : goal.returns-in-None-clause-known
 returns-in-None-clause-known c =
