@@ -1,9 +1,9 @@
 -- The classes of an application, path by path.
 use Rattle.std.proofs.Common.{◌≡◌, ◌≤◌, ◌<◌, ℕ, suc, ◌+◌, Bool, true, false, List, [], ◌∷◌, ◌++◌, length, map, map-id, take, drop, get_or, Option, Some, None, refl, sym, ap, ◌∙◌, subst, arith, length-append}
-use Rattle.std.specs.Prelude.{IfSome, IfOk, ◌&&◌, filter, nat_lt, if◌then◌else◌, Result, Ok, Err}
+use Rattle.std.specs.Prelude.{IfSome, ◌&&◌, filter, nat_lt, if◌then◌else◌, Ok, Err}
 use Rattle.std.proofs.lemmas.List.{map-append, length-map}
 use Rattle.std.proofs.lemmas.List.Elements.{filter-append}
-use Rattle.desk_base.specs.Counts.{Rose, Rose-earlier}
+use Rattle.desk_base.specs.Counts.{Rose-earlier}
 use Rattle.desk_base.specs.Limits.{file_size}
 use Rattle.desk_base.specs.Names.{Text, Package}
 use Rattle.desk_base.proofs.Results.{at_some}
@@ -18,7 +18,7 @@ use Rattle.desk_report.specs.declared.status.LimitKind.TheVariants.{FileSize}
 use Rattle.desk_report.specs.declared.status.Status.{Status}
 use Rattle.desk_report.specs.declared.status.Status.TheVariants.{Limit}
 use Rattle.desk_sites.specs.declared.class.ClassSites.{ClassSites}
-use Rattle.desk_calls.specs.Answers.{calls_answer, found_among, found_in, limit_answer, unless_limit}
+use Rattle.desk_calls.specs.Answers.{calls_answer, found_among, found_in, unless_limit}
 use Rattle.desk_calls.specs.Files.{classes_of, sites_in}
 use Rattle.desk_calls.specs.Listings.{class_size_answer, is_class_file}
 use Rattle.desk_calls.specs.Reading.{HaltsAnswering, ReadsOne}

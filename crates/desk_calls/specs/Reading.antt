@@ -1,15 +1,14 @@
 -- How the reading of an application's classes goes, and where it halts.
-use Rattle.std.specs.Prelude.{◌≡◌, ℕ, List, [], ◌∷◌, Option, Some, None, Result, Err, Bool, true, false, IfSome, map}
+use Rattle.std.specs.Prelude.{◌≡◌, ℕ, List, [], ◌∷◌, Option, None, Result, Err, true, IfSome, map}
 use Rattle.desk_base.specs.Counts.{Rose}
 use Rattle.desk_base.specs.Names.{Text, Package}
 use Rattle.desk_folders.specs.Contents.{Contents, file_at}
 use Rattle.desk_report.specs.declared.status.Status.{Status}
-use Rattle.desk_report.specs.declared.status.Status.TheVariants.{Limit}
 use Rattle.desk_intake.specs.Halts.{is_limit}
 use Rattle.desk_intake.specs.declared.halts.Halt.{Halt}
 use Rattle.desk_intake.specs.declared.halts.Halt.TheVariants.{Memory, Folders, Answer}
 use Rattle.desk_sites.specs.declared.class.ClassSites.{ClassSites}
-use Rattle.desk_calls.specs.Answers.{calls_answer, found_among}
+use Rattle.desk_calls.specs.Answers.{found_among}
 use Rattle.desk_calls.specs.Files.{classes_of, sites_in}
 use Rattle.desk_calls.specs.Listings.{class_size_answer}
 use Rattle.desk_calls.specs.declared.batches.ClassFile.{ClassFile}

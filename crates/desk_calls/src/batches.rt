@@ -5,11 +5,10 @@ ghost use Rattle.std.specs.List.{sum_by};
 ghost use Rattle.desk_base.specs.Limits.{file_size};
 ghost use Rattle.desk_calls.specs.Files.{size_of, sites_in};
 
-use crate::WORKERS;
 use desk_base::{MAX_FILE_SIZE, Memory, Text, TextList};
 use desk_readings::Content;
 use desk_sites::{ClassSites, class_sites};
-use desk_workers::{Gate, Job, map_batch};
+use desk_workers::{Gate, Job, Workers, map_batch};
 use std::alloc::Global;
 use std::mem;
 use std::thread::Threads;
@@ -100,9 +99,8 @@ impl Finding {
     /// Has the workers look at the batch, whatever room it has.
     fn close_batch<R: Threads + Sync, G: Gate + Sync>(
         &mut self,
-        rt: &R,
+        workers: &Workers<'_, R, G>,
         alloc: Global,
-        gate: &G,
         package: &TextList,
     ) -> Result<(), Memory>
         requires { length self.old.batch.items < 2 ^ 32 }
@@ -113,7 +111,7 @@ impl Finding {
         let batch = mem::replace(&mut self.batch, Vec::new(alloc));
         self.room = BATCH;
         let job = FindingSites { alloc, package };
-        let mut sites = map_batch(rt, alloc, &batch, &job, gate, WORKERS)?;
+        let mut sites = map_batch(workers, alloc, &batch, &job)?;
         self.found.append(&mut sites)?;
         Ok(())
     }
@@ -122,9 +120,8 @@ impl Finding {
     /// first.
     pub(crate) fn add<R: Threads + Sync, G: Gate + Sync>(
         &mut self,
-        rt: &R,
+        workers: &Workers<'_, R, G>,
         alloc: Global,
-        gate: &G,
         package: &TextList,
         read: Option<ClassFile>,
     ) -> Result<(), Memory>
@@ -137,7 +134,7 @@ impl Finding {
         };
         let size = size_of(&file);
         if self.room < size {
-            self.close_batch(rt, alloc, gate, package)?;
+            self.close_batch(workers, alloc, package)?;
         }
         self.batch.push(file)?;
         self.room -= size;
@@ -147,16 +144,15 @@ impl Finding {
     /// What was found of all of them: the workers look at the last batch.
     pub(crate) fn finish<R: Threads + Sync, G: Gate + Sync>(
         self,
-        rt: &R,
+        workers: &Workers<'_, R, G>,
         alloc: Global,
-        gate: &G,
         package: &TextList,
     ) -> Result<Vec<ClassSites>, Memory>
         requires { length self.batch.items < 2 ^ 32 }
         ensures { IfOk result (λ found. found.items ≡ all_found «package».now self) }
     {
         let mut last = self;
-        last.close_batch(rt, alloc, gate, package)?;
+        last.close_batch(workers, alloc, package)?;
         let Finding { found, .. } = last;
         Ok(found)
     }

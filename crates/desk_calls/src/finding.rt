@@ -12,6 +12,7 @@ ghost use Rattle.desk_calls.specs.Listings.{class_size_answer, is_class};
 ghost use Rattle.desk_calls.specs.Reading.{HaltsAnswering, ReadsOne};
 ghost use Rattle.desk_intake.specs.Halts.{HaltsAt};
 
+use crate::WORKERS;
 use crate::batches::{ClassFile, Finding};
 use crate::telling::{Calls, calls_of};
 use desk_base::{MAX_FILE_SIZE, Text, TextList};
@@ -20,7 +21,7 @@ use desk_intake::{Halt, limit, list_paths};
 use desk_paths::{Kind, place};
 use desk_readings::{Content, full_path, read_whole};
 use desk_report::LimitKind;
-use desk_workers::Gate;
+use desk_workers::{Gate, Workers};
 use std::alloc::Global;
 use std::thread::Threads;
 
@@ -95,12 +96,17 @@ pub fn find_calls<R: Threads + Sync, F: Folders, G: Gate + Sync>(
     ensures err { IfErr result (HaltsAnswering (calls_answer «package».now from.now) (F.told folders.old) (F.faults folders.old) (F.faults folders.new)) }
     ensures counts { F.faults folders.old ≤ F.faults folders.new }
 {
+    let workers = Workers {
+        rt,
+        gate,
+        count: WORKERS,
+    };
     let paths = list_paths(folders, from)?;
     let mut finding = Finding::new(alloc);
     for path in paths.into_vec() {
         let read = read_file(alloc, folders, from, path)?;
-        finding.add(rt, alloc, gate, package, read)?;
+        finding.add(&workers, alloc, package, read)?;
     }
-    let found = finding.finish(rt, alloc, gate, package)?;
+    let found = finding.finish(&workers, alloc, package)?;
     Ok(calls_of(alloc, found.as_slice())?)
 }

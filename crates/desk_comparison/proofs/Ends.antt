@@ -2,7 +2,6 @@
 use Rattle.std.proofs.Common.{All, ◌≡◌, ◌≤◌, ℕ, Bool, true, List, [], ◌∷◌, length, map, Option, Some, None, Ok, Err, refl, sym, ap, ap₂, ◌∙◌, subst, IfSome}
 use Rattle.std.specs.Prelude.{if◌then◌else◌}
 use Rattle.std.proofs.lemmas.List.{length-map}
-use Rattle.desk_base.specs.Counts.{Rose-earlier}
 use Rattle.desk_base.specs.Names.{Text}
 use Rattle.desk_base.proofs.Results.{at_some}
 use Rattle.desk_class.specs.Held.{ascending}
@@ -19,14 +18,13 @@ use Rattle.desk_intake.specs.Rulings.{ruled}
 use Rattle.desk_intake.specs.Standing.{names_answer}
 use Rattle.desk_intake.specs.declared.halts.Halt.{Halt}
 use Rattle.desk_intake.specs.declared.halts.Halt.TheVariants as halt
-use Rattle.desk_intake.specs.declared.rules.Ruled.{Ruled}
 use Rattle.desk_readings.proofs.Fronts.{if_some}
 use Rattle.desk_rename.specs.Images.{cls}
 use Rattle.desk_report.specs.declared.status.Status.{Status}
 use Rattle.desk_report.specs.declared.status.Status.TheVariants.{Done, Refusals, Memory, FolderFault, LedgerFault, OutputFault, Usage, NestedRoots, BadRules, Limit, PathClash, NameClash, Stranded, OtherRun, Moved, NotInvertible, Differs}
 use Rattle.desk_rules.specs.Rules.{Rules}
 use Rattle.desk_second.specs.Applications.{classes_of}
-use Rattle.desk_comparison.specs.Answers.{both_answer, classes_answer, compared, comparison, comparison_by, comparison_under, image_among, other_answer, source_answer, told_verdict, unless_answer}
+use Rattle.desk_comparison.specs.Answers.{both_answer, classes_answer, compared, comparison_by, comparison_under, image_among, other_answer, source_answer, told_verdict, unless_answer}
 use Rattle.desk_comparison.specs.Files.{HasRead, IsRouted, as_compared, file_in, files_of, scans_of}
 use Rattle.desk_comparison.specs.Halts.{HaltsComparing, HaltsMaking, HaltsStanding, HaltsTelling, is_comparison_status}
 use Rattle.desk_comparison.specs.Images.{Imaging, as_file, image_answer, images_of, refusals, some_refused}
@@ -66,8 +64,8 @@ rules_halt rules from other told f f' (halt.Answer status) g =
 
 -- what stands against the classes of files that were read, and their graph
 module _ (rules : Rules) (files : List SourceFile) (classes : List Scanned) (are : classes ≡ scans_of files) where
-  pub graph_built : (graph : Graph) → graph ≡ graph_of rules.renames classes → graph ≡ graph_of rules.renames (scans_of files)
-  graph_built graph e = e ∙ ap (graph_of rules.renames) are
+  pub graph_built : (graph : Graph) → graph ≡ graph_of rules classes → graph ≡ graph_of rules (scans_of files)
+  graph_built graph e = e ∙ ap (graph_of rules) are
 
   module _ (routed : All (IsRouted rules) files) where
     named_same : names_answer (cls rules.renames) classes ≡ classes_answer rules (files_of files)
@@ -83,21 +81,6 @@ module _ (rules : Rules) (files : List SourceFile) (classes : List Scanned) (are
 others_same : (others : List GenFile) → map as_compared (map file_in others) ≡ others
 others_same [] = refl
 others_same (other ∷ others) = ap (λ (fs : List GenFile). other ∷ fs) (others_same others)
-
--- the answer by rules that were read
-module _ (rules from other : Text) (r : Ruled) (told now : Option Contents) (same : now ≡ told) (have : IfSome told (λ m. ruled rules (files_below rules m) ≡ Ok r)) where
-  rules_at : (m : Contents) → told ≡ Some m → ruled rules (files_below rules m) ≡ Ok r
-  rules_at m t = at_some (λ m. ruled rules (files_below rules m) ≡ Ok r) told m t have
-
-  pub ruled_ok : (told_is : Text × Status) → IfSome now (λ m. comparison_under r.rules from other m ≡ Ok told_is) → IfSome told (λ m. comparison rules from other m ≡ Ok told_is)
-  ruled_ok told_is h = if_some _ told (λ m t. ap (comparison_by from other m) (rules_at m t) ∙ at_some (λ m. comparison_under r.rules from other m ≡ Ok told_is) now m (same ∙ t) h)
-
-  pub ruled_halt : (f f1 f' : ℕ) (h : Halt) → f ≤ f1 → HaltsTelling (comparison_under r.rules from other) now f1 f' h → HaltsComparing rules from other told f f' h
-  ruled_halt f f1 f' halt.Memory le g = tt
-  ruled_halt f f1 f' halt.Folders le g = Rose-earlier f f1 f' le g
-  ruled_halt f f1 f' halt.Ledger le g = absurd g
-  ruled_halt f f1 f' (halt.Answer status) le g =
-      (g.0, if_some _ told (λ m t. ap (comparison_by from other m) (rules_at m t) ∙ at_some (λ m. comparison_under r.rules from other m ≡ Err status) now m (same ∙ t) g.1))
 
 module _ (rules : Rules) (from other : Text) (told : Option Contents) where
   -- something stands against both applications
@@ -144,7 +127,7 @@ module _ (rules : Rules) (from other : Text) (told : Option Contents) where
           (λ m status t e.
           first_none _ _ (source_at m t) ∙ first_none _ _ (classes_at m t) ∙ first_some _ _ status (ap (λ (n : ℕ). other_answer n other m) (sym (room_at m t)) ∙ e)) g)
 
-      module _ (routed : All (IsRouted rules) source) (graph : Graph) (built : graph ≡ graph_of rules.renames (scans_of source)) (sound : IfSome told (λ m. other_answer room other m ≡ None)) where
+      module _ (routed : All (IsRouted rules) source) (graph : Graph) (built : graph ≡ graph_of rules (scans_of source)) (sound : IfSome told (λ m. other_answer room other m ≡ None)) where
         imaging : (m : Contents) → told ≡ Some m → image_in rules graph.defined ≡ image_among rules (files_below from m)
         imaging m t =
             ap (image_in rules) (ap (λ (g : Graph). g.defined) built ∙ ap (λ (ss : List Scanned). ascending (defined_names ss)) (scans_same rules source routed ∙ ap (classes_of rules) (files_at m t)))

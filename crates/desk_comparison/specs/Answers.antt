@@ -11,7 +11,7 @@ use Rattle.desk_graph.specs.Application.{defined_names}
 use Rattle.desk_intake.specs.Limits.{itself, paths_answer}
 use Rattle.desk_intake.specs.Rulings.{ruled}
 use Rattle.desk_intake.specs.Standing.{clash_answer, first_of, names_answer}
-use Rattle.desk_intake.specs.declared.rules.Ruled.{Ruled}
+use Rattle.desk_intake.specs.declared.rules.DigestedRules.{DigestedRules}
 use Rattle.desk_rename.specs.Images.{cls}
 use Rattle.desk_report.specs.declared.status.Status.{Status}
 use Rattle.desk_report.specs.declared.status.Status.TheVariants.{Refusals}
@@ -65,7 +65,7 @@ abbrev pub comparison_under : Rules → Text → Text → Contents → Result (T
 comparison_under rules from other m =
     unless_answer (both_answer rules from other m) (compared (target rules) (image_among rules (files_below from m)) (files_below from m) (files_below other m))
 
-abbrev pub comparison_by : Text → Text → Contents → Result Ruled Status → Result (Text × Status) Status
+abbrev pub comparison_by : Text → Text → Contents → Result DigestedRules Status → Result (Text × Status) Status
 comparison_by from other m (Ok r) = comparison_under r.rules from other m
 comparison_by from other m (Err status) = Err status
 

@@ -19,7 +19,7 @@ use crate::telling::{verdict_status, verdict_text};
 use desk_base::{Memory, Text};
 use desk_compare::compare;
 use desk_folders::{Folders, GenFile};
-use desk_intake::{Halt, build_graph, read_rules};
+use desk_intake::{Halt, build_graph, read_rule_set};
 use desk_report::Status;
 use desk_rules::RuleSet;
 use std::alloc::Global;
@@ -76,7 +76,7 @@ fn compare_under<F: Folders>(
     let noted = note_files(alloc, rules, source)?;
     let graph = build_graph(alloc, rules, noted.classes)?;
     let others = read_other(alloc, folders, other, &mut room)?;
-    let made = make_images(alloc, rules, &graph, noted.files)?;
+    let made = make_images(alloc, &graph, noted.files)?;
     Ok(comparison_of(alloc, made, &others)?)
 }
 
@@ -105,6 +105,6 @@ pub fn compare_applications<F: Folders>(
     ensures err { IfErr result (HaltsComparing rules.now from.now other.now (F.told folders.old) (F.faults folders.old) (F.faults folders.new)) }
     ensures counts { F.faults folders.old ≤ F.faults folders.new }
 {
-    let ruled = read_rules(alloc, folders, rules)?;
-    compare_under(alloc, folders, &ruled.rules, from, other)
+    let rules = read_rule_set(alloc, folders, rules)?;
+    compare_under(alloc, folders, &rules, from, other)
 }

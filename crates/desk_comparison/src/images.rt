@@ -22,7 +22,6 @@ use desk_folders::GenFile;
 use desk_graph::ClassGraph;
 use desk_intake::{Halt, limit};
 use desk_report::LimitKind;
-use desk_rules::RuleSet;
 use std::alloc::Global;
 use std::collections::BTreeMap;
 
@@ -31,26 +30,24 @@ use std::collections::BTreeMap;
 /// image, and isn't read again.
 fn make_one(
     alloc: Global,
-    rules: &RuleSet,
     graph: &ClassGraph<'_>,
     noted: NotedFile,
     made: &mut Made,
 ) -> Result<(), Halt>
-    requires graph { graph.now.renames ≡ rules.now.renames }
-    requires routed { IsRouted rules.now noted.file }
-    requires noted { IsNoted rules.now noted }
-    ensures ok { OnOk result (MakesOne rules.now graph.now.defined (file_of noted.file) made.old made.new) }
-    ensures err { IfErr result (HaltsMaking (image_answer (image_in rules.now graph.now.defined) (file_of noted.file ∷ []))) }
+    requires routed { IsRouted graph.now.rules noted.file }
+    requires noted { IsNoted graph.now.rules noted }
+    ensures ok { OnOk result (MakesOne graph.now.rules graph.now.defined (file_of noted.file) made.old made.new) }
+    ensures err { IfErr result (HaltsMaking (image_answer (image_in graph.now.rules graph.now.defined) (file_of noted.file ∷ []))) }
 {
     let NotedFile { file, unchanged } = noted;
     let SourceFile { route, content } = file;
     if unchanged {
         return Ok(made.accept(route.target, content.into_text())?);
     }
-    if outgrows(rules, &route, content.as_bytes(), MAX_BOTH as usize) {
+    if outgrows(graph.rules(), &route, content.as_bytes(), MAX_BOTH as usize) {
         return Err(Halt::Memory);
     }
-    match migrate_file(alloc, rules, graph, &route, content.as_bytes()) {
+    match migrate_file(alloc, graph, &route, content.as_bytes()) {
         Ok(Image { bytes, .. }) => {
             if bytes.as_bytes().len() > MAX_FILE_SIZE {
                 return Err(limit(LimitKind::FileSize, route.path));
@@ -67,19 +64,17 @@ fn make_one(
 /// image is made.
 pub(crate) fn make_images(
     alloc: Global,
-    rules: &RuleSet,
     graph: &ClassGraph<'_>,
     files: Vec<NotedFile>,
 ) -> Result<Made, Halt>
-    requires graph { graph.now.renames ≡ rules.now.renames }
-    requires routed { All (IsRouted rules.now) (map source_of files.items) }
-    requires noted { All (IsNoted rules.now) files.items }
-    ensures ok { IfOk result (MadeBy rules.now graph.now.defined (files_of (map source_of files.items))) }
-    ensures err { IfErr result (HaltsMaking (image_answer (image_in rules.now graph.now.defined) (files_of (map source_of files.items)))) }
+    requires routed { All (IsRouted graph.now.rules) (map source_of files.items) }
+    requires noted { All (IsNoted graph.now.rules) files.items }
+    ensures ok { IfOk result (MadeBy graph.now.rules graph.now.defined (files_of (map source_of files.items))) }
+    ensures err { IfErr result (HaltsMaking (image_answer (image_in graph.now.rules graph.now.defined) (files_of (map source_of files.items)))) }
 {
     let mut made = Made::new(alloc);
     for file in files {
-        make_one(alloc, rules, graph, file, &mut made)?;
+        make_one(alloc, graph, file, &mut made)?;
     }
     Ok(made)
 }

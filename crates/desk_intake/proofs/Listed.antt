@@ -1,5 +1,5 @@
 -- What is known of the files of routes that were listed: what is kept of their classes, and that they are there.
-use Rattle.std.proofs.Common.{All, ◌≡◌, Bool, true, false, List, [], ◌∷◌, map, refl, sym, ◌∙◌, subst, Option, Some, None, Result, Ok, Err, IfSome, IsSome}
+use Rattle.std.proofs.Common.{All, ◌≡◌, Bool, true, false, List, [], ◌∷◌, map, refl, sym, ◌∙◌, subst, Option, Some, None, Result, IfSome, IsSome}
 use Rattle.std.specs.Prelude.{if◌then◌else◌}
 use Rattle.std.specs.FinMap as fin
 use Rattle.std.proofs.lemmas.List.Elements.{All-cons, All-nil}

@@ -1,38 +1,33 @@
 -- Rule files that are taken in, one after another.
-use Rattle.std.proofs.Common.{◌≡◌, ◌≢◌, inl, inr, ℕ, zero, suc, ◌+◌, ◌<◌, ◌≤◌, true, false, List, [], ◌∷◌, ◌++◌, length, Option, Some, None, refl, sym, ap, ◌∙◌, subst, take, drop, get_or, map, arith, IfSome, IfErr, IfOk, Result, Ok, Err, append-nil, drop-cons, Box, Global, take_all}
+use Rattle.std.proofs.Common.{◌≡◌, ◌≢◌, inl, inr, ℕ, zero, suc, ◌+◌, ◌<◌, ◌≤◌, true, false, List, [], ◌∷◌, length, Option, Some, None, refl, sym, ap, ◌∙◌, subst, drop, get_or, map, arith, IfSome, drop-cons}
 use Rattle.std.specs.Prelude.{if◌then◌else◌, nat_lt}
 use Rattle.std.specs.Cmp.Lexicographic.{slice_cmp}
 use Rattle.std.specs.FinMap as fin
 use Rattle.std.specs.FinMap.{get-empty}
-use Rattle.std.specs.List.{AllByRecursion, flat_map}
+use Rattle.std.specs.List.{AllByRecursion}
 use Rattle.std.specs.List.Sorted.{IsStrictlySortedBy}
 use Rattle.std.specs.Ordering.{nat_cmp, is_eq}
 use Rattle.std.specs.declared.cmp.Ordering.TheVariants.{Less}
-use Rattle.std.proofs.lemmas.Grind.{flat_map-append}
-use Rattle.std.proofs.lemmas.List.{length-map, map-append, take_more, drop_all}
+use Rattle.std.proofs.lemmas.List.{length-map, drop_all}
 use Rattle.std.proofs.lemmas.Map.Text.{is_eq-slice_cmp}
 use Rattle.std.proofs.lemmas.Slice.Eq.{bytes_eq-Decides}
 use Rattle.std.proofs.lemmas.Bool.{le-ltb}
 use Rattle.desk_base.specs.Names.{Text}
+use Rattle.desk_base.specs.TextMaps.{get-insert-other, get-insert-same}
 use Rattle.desk_folders.specs.Contents.{Contents, File, IsListing, file_at, files_below, paths_below}
 use Rattle.desk_base.specs.Counts.{Rose-earlier}
 use Rattle.desk_base.proofs.Results.{at_some}
-use Rattle.desk_ledger.specs.Digests.{HasTaken}
 use Rattle.desk_report.specs.declared.status.Status.{Status}
 use Rattle.desk_report.specs.declared.status.LimitKind.TheVariants.{RuleFiles}
-use Rattle.desk_report.specs.declared.status.Status.TheVariants.{Done, Refusals, Memory, FolderFault, LedgerFault, OutputFault, Usage, NestedRoots, BadRules, Limit, PathClash, NameClash, Stranded, OtherRun, Moved, NotInvertible, Differs}
+use Rattle.desk_report.specs.declared.status.Status.TheVariants.{Limit}
 use Rattle.desk_rules.specs.Files.{Files}
-use Rattle.desk_rules.specs.RuleFiles.{rules_of_files}
-use Rattle.desk_rules.specs.declared.RuleFault.{RuleFault}
-use Rattle.desk_intake.specs.declared.rules.Ruled.{Ruled}
-use Rattle.desk_intake.specs.declared.rules.Taken.{Taken}
 use Rattle.desk_intake.specs.declared.halts.Halt.{Halt}
 use Rattle.desk_intake.specs.declared.halts.Halt.TheVariants as halt
 use Rattle.desk_intake.specs.Limits.{most_rule_files, rule_size_answer}
-use Rattle.desk_intake.specs.Rulings.{adding_files, named_files, digest_entry, with_digest, ruled, ruled_by}
-use Rattle.desk_intake.specs.RuleFolders.{Takes, HasTakenAll, Free}
+use Rattle.desk_intake.specs.Rulings.{adding_files, named_files}
+use Rattle.desk_intake.specs.RuleFolders.{Takes, HasReadRules, HasTakenAll, Free, bytes_or_none, file_named}
 use Rattle.desk_intake.specs.Apart.{AllApart, Misses}
-use Rattle.desk_intake.specs.Halts.{HaltsTakingOne, HaltsTaking, HaltsAtRules, HaltsBuilding}
+use Rattle.desk_intake.specs.Halts.{HaltsTakingOne, HaltsTaking}
 use Rattle.desk_readings.proofs.Fronts.{if_some}
 use Rattle.desk_intake.proofs.Sizes.{rule_fits}
 
@@ -81,27 +76,17 @@ free_more old new names i name lt is apart others f =
     still_free old new name (drop (i + 1) names) others (subst AllApart split (apart_from names i apart)).0 (subst (Free old) split f).1
 
 -- one more file is taken in
-pub files_more : (root : Text) (m : Contents) (names : List Text) (i : ℕ) (name : Text) (old new : Taken) (all : Files) → i < length names → name ≡ get_or names i name → Takes (file_at root m name) old new
-    → adding_files old.files (map (file_at root m) (drop i names)) ≡ all → adding_files new.files (map (file_at root m) (drop (i + 1) names)) ≡ all
+pub files_more : (root : Text) (m : Contents) (names : List Text) (i : ℕ) (name : Text) (old new : Files) (all : Files) → i < length names → name ≡ get_or names i name → Takes (file_at root m name) old new
+    → adding_files old (map (file_at root m) (drop i names)) ≡ all → adding_files new (map (file_at root m) (drop (i + 1) names)) ≡ all
 files_more root m names i name old new all lt is t e =
     ap (λ f. adding_files f (map (file_at root m) (drop (i + 1) names))) t.files
-    ∙ sym (ap (λ ns. adding_files old.files (map (file_at root m) ns)) (left_at names i name lt is)) ∙ e
+    ∙ sym (ap (λ ns. adding_files old (map (file_at root m) ns)) (left_at names i name lt is)) ∙ e
 
-pub small_more : (root : Text) (m : Contents) (names : List Text) (i : ℕ) (name : Text) (old new : Taken) (all : Option Status) → i < length names → name ≡ get_or names i name → Takes (file_at root m name) old new
+pub small_more : (root : Text) (m : Contents) (names : List Text) (i : ℕ) (name : Text) (old new : Files) (all : Option Status) → i < length names → name ≡ get_or names i name → Takes (file_at root m name) old new
     → rule_size_answer (map (file_at root m) (drop i names)) ≡ all → rule_size_answer (map (file_at root m) (drop (i + 1) names)) ≡ all
 small_more root m names i name old new all lt is t e =
     sym (rule_fits (file_at root m name) (map (file_at root m) (drop (i + 1) names)) t.small)
     ∙ sym (ap (λ ns. rule_size_answer (map (file_at root m) ns)) (left_at names i name lt is)) ∙ e
-
-pub digest_more : (root : Text) (m : Contents) (names : List Text) (i : ℕ) (name : Text) (old new : Taken) → i < length names → name ≡ get_or names i name → Takes (file_at root m name) old new
-    → HasTaken old.digester (flat_map digest_entry (map (file_at root m) (take i names))) → HasTaken new.digester (flat_map digest_entry (map (file_at root m) (take (i + 1) names)))
-digest_more root m names i name old new lt is t h =
-    subst (HasTaken new.digester)
-    (sym (ap (λ ns. flat_map digest_entry (map (file_at root m) ns)) (take_more names i name lt ∙ ap (λ p. take i names ++ p ∷ []) (sym is))
-    ∙ ap (flat_map digest_entry) (map-append (file_at root m) (take i names) (name ∷ []))
-    ∙ flat_map-append digest_entry (map (file_at root m) (take i names)) (file_at root m name ∷ [])
-    ∙ ap (λ e. flat_map digest_entry (map (file_at root m) (take i names)) ++ e) (append-nil (digest_entry (file_at root m name)))))
-    (t.digest _ h)
 
 -- where one of them halts
 pub halts_taking : (root : Text) (names : List Text) (i : ℕ) (name : Text) (told now : Option Contents) (f f1 f' : ℕ) (h : Halt) → f ≤ f1 → now ≡ told → i < length names → name ≡ get_or names i name
@@ -116,62 +101,46 @@ halts_taking root names i name told now f f1 f' (halt.Answer status) le same lt 
       ∙ at_some (λ m. (more : List File) → rule_size_answer (file_at root m name ∷ more) ≡ Some status) now m (same ∙ t) g.1 (map (file_at root m) (drop (i + 1) names))),
 )
 
--- the rules of all
-ruled_taken : (root : Text) (m : Contents) (taken : Taken) → HasTakenAll root m taken → length (paths_below root m) ≤ most_rule_files
-    → ruled root (files_below root m) ≡ with_digest (flat_map digest_entry (files_below root m)) (rules_of_files taken.files)
-ruled_taken root m taken t few =
-    let count : nat_lt most_rule_files (length (files_below root m)) ≡ false = le-ltb most_rule_files _ (subst (λ n. n ≤ most_rule_files) (sym (length-map (paths_below root m) (file_at root m))) few) in
-    ap (λ o. ruled_by o (files_below root m)) (ap (λ b. if b then Some (Limit RuleFiles root) else rule_size_answer (files_below root m)) count ∙ t.small)
-    ∙ ap (λ f. with_digest (flat_map digest_entry (files_below root m)) (rules_of_files f)) (sym t.files)
+-- a file that others are added to keeps its bytes, where none of them has its name
+kept_adding : (files : Files) (name : Text) (more : List File) → Misses name (map (λ (f : File). f.path) more) → fin.get (adding_files files more) name ≡ fin.get files name
+kept_adding files name [] m = refl
+kept_adding files name (file ∷ more) m = kept_adding (fin.insert files file.path file.bytes) name more m.1 ∙ get-insert-other files file.path file.bytes name m.0
+
+-- files that were added by their names are found by them
+found_by : (files : Files) (more : List File) → AllApart (map (λ (f : File). f.path) more) → map (file_named (adding_files files more)) (map (λ (f : File). f.path) more) ≡ more
+found_by files [] apart = refl
+found_by files (file ∷ more) apart =
+    ap (λ (o : Option Text). record { path = file.path; bytes = bytes_or_none o } ∷ map (file_named (adding_files (fin.insert files file.path file.bytes) more)) (map (λ (f : File). f.path) more))
+    (kept_adding (fin.insert files file.path file.bytes) file.path more apart.0 ∙ get-insert-same files file.path file.bytes)
+    ∙ ap (λ (fs : List File). file ∷ fs) (found_by (fin.insert files file.path file.bytes) more apart.1)
+
+paths_of : (root : Text) (m : Contents) (names : List Text) → map (λ (f : File). f.path) (map (file_at root m) names) ≡ names
+paths_of root m [] = refl
+paths_of root m (name ∷ names) = ap (λ (ns : List Text). name ∷ ns) (paths_of root m names)
+
+each_found : (root : Text) (m : Contents) (names : List Text) (files : Files) → IsStrictlySortedBy (slice_cmp nat_cmp) names → names ≡ paths_below root m → files ≡ named_files (files_below root m)
+    → map (file_named files) names ≡ files_below root m
+each_found root m names files rising are named =
+    let paths = paths_of root m (paths_below root m) ∙ sym are in
+    ap (λ (fs : Files). map (file_named fs) names) named ∙ ap (map (file_named (named_files (files_below root m)))) (sym paths)
+    ∙ found_by fin.empty (files_below root m) (subst AllApart (sym paths) (sorted_apart names rising))
 
 listed_few : (root : Text) (m : Contents) (paths : List Text) → IsListing most_rule_files (paths_below root m) paths → length paths ≤ most_rule_files → (paths ≡ paths_below root m) × (length (paths_below root m) ≤ most_rule_files)
 listed_few root m paths (inl all) few = (all.1, all.0)
 listed_few root m paths (inr many) few = absurd (let k = many.1 in omega arith)
 
--- the rules that are built of what was taken in
-pub built_ok : (root : Text) (told now : Option Contents) (paths : List Text) (taken : Taken) (r : Result (Box Ruled Global) Halt) → now ≡ told → IfSome told (λ m. IsListing most_rule_files (paths_below root m) paths) → length paths ≤ most_rule_files
-    → IfSome now (λ m. HasTakenAll root m taken) → IfOk r (λ read. (text : Text) → HasTaken taken.digester text → with_digest text (rules_of_files taken.files) ≡ Ok read.value)
-    → IfOk r (λ read. IfSome told (λ m. ruled root (files_below root m) ≡ Ok read.value))
-built_ok root told now paths taken (Err h) same listed few all g = tt
-built_ok root told now paths taken (Ok read) same listed few all g = if_some _ told (λ m t.
-    let have = at_some (λ m. HasTakenAll root m taken) now m (same ∙ t) all in
-    ruled_taken root m taken have (listed_few root m paths (at_some (λ m. IsListing most_rule_files (paths_below root m) paths) told m t listed) few).1
-    ∙ g (flat_map digest_entry (files_below root m)) have.digest)
-
-pub built_err : (root : Text) (told now : Option Contents) (paths : List Text) (taken : Taken) (f f' : ℕ) (r : Result (Box Ruled Global) Halt) → now ≡ told → IfSome told (λ m. IsListing most_rule_files (paths_below root m) paths) → length paths ≤ most_rule_files
-    → IfSome now (λ m. HasTakenAll root m taken) → IfErr r (HaltsBuilding (rules_of_files taken.files)) → IfErr r (HaltsAtRules root told f f')
-built_err root told now paths taken f f' (Ok read) same listed few all g = tt
-built_err root told now paths taken f f' (Err h) same listed few all g = by h g where
-  bad : (fault : RuleFault) → rules_of_files taken.files ≡ Err fault → HaltsAtRules root told f f' (halt.Answer (BadRules fault))
-  bad fault e = (
-    refl,
-    if_some _ told (λ m t.
-        let have = at_some (λ m. HasTakenAll root m taken) now m (same ∙ t) all in
-        ruled_taken root m taken have (listed_few root m paths (at_some (λ m. IsListing most_rule_files (paths_below root m) paths) told m t listed) few).1
-        ∙ ap (with_digest (flat_map digest_entry (files_below root m))) e),
-  )
-
-  by : (h : Halt) → HaltsBuilding (rules_of_files taken.files) h → HaltsAtRules root told f f' h
-  by halt.Memory g = tt
-  by halt.Folders g = absurd g
-  by halt.Ledger g = absurd g
-  by (halt.Answer (BadRules fault)) g = bad fault g
-  by (halt.Answer Done) g = absurd g
-  by (halt.Answer Refusals) g = absurd g
-  by (halt.Answer Memory) g = absurd g
-  by (halt.Answer (FolderFault done)) g = absurd g
-  by (halt.Answer (LedgerFault done)) g = absurd g
-  by (halt.Answer OutputFault) g = absurd g
-  by (halt.Answer Usage) g = absurd g
-  by (halt.Answer (NestedRoots first second)) g = absurd g
-  by (halt.Answer (Limit kind path)) g = absurd g
-  by (halt.Answer (PathClash first second)) g = absurd g
-  by (halt.Answer (NameClash defined other image)) g = absurd g
-  by (halt.Answer (Stranded path held)) g = absurd g
-  by (halt.Answer (Moved path one other)) g = absurd g
-  by (halt.Answer (NotInvertible fault)) g = absurd g
-  by (halt.Answer (Differs path)) g = absurd g
-  by (halt.Answer (OtherRun kept wanted)) g = absurd g
+-- once all of a folder are read
+pub all_read : (root : Text) (told : Option Contents) (names : List Text) (files : Files) → IfSome told (λ m. IsListing most_rule_files (paths_below root m) names) → length names ≤ most_rule_files
+    → IsStrictlySortedBy (slice_cmp nat_cmp) names → IfSome told (λ m. HasTakenAll root m files) → IfSome told (λ m. HasReadRules root m (record { names = names; files = files }))
+all_read root told names files listed few rising all = if_some _ told (λ m t.
+    let have = at_some (λ m. HasTakenAll root m files) told m t all in
+    let list = listed_few root m names (at_some (λ m. IsListing most_rule_files (paths_below root m) names) told m t listed) few in
+    let count : nat_lt most_rule_files (length (files_below root m)) ≡ false = le-ltb most_rule_files _ (subst (λ n. n ≤ most_rule_files) (sym (length-map (paths_below root m) (file_at root m))) list.1) in
+    record {
+      clear = ap (λ b. if b then Some (Limit RuleFiles root) else rule_size_answer (files_below root m)) count ∙ have.small;
+      named = have.named;
+      each = each_found root m names files rising list.0 have.named;
+    })
 
 -- before the first is taken in
 pub files_first : (root : Text) (told : Option Contents) (names : List Text) (files : Files) → files ≡ fin.empty → IfSome told (λ m. names ≡ paths_below root m)
@@ -184,16 +153,13 @@ pub small_first : (root : Text) (told : Option Contents) (names : List Text) →
 small_first root told names listed m t = ap (λ ns. rule_size_answer (map (file_at root m) ns)) (at_some (λ m. names ≡ paths_below root m) told m t listed)
 
 -- once all are taken in
-pub all_taken : (root : Text) (told : Option Contents) (names : List Text) (i : ℕ) (taken : Taken) → length names ≤ i → IfSome told (λ m. names ≡ paths_below root m)
-    → ((m : Contents) → told ≡ Some m → adding_files taken.files (map (file_at root m) (drop i names)) ≡ named_files (files_below root m))
-    → ((m : Contents) → told ≡ Some m → HasTaken taken.digester (flat_map digest_entry (map (file_at root m) (take i names))))
+pub all_taken : (root : Text) (told : Option Contents) (names : List Text) (i : ℕ) (files : Files) → length names ≤ i
+    → ((m : Contents) → told ≡ Some m → adding_files files (map (file_at root m) (drop i names)) ≡ named_files (files_below root m))
     → ((m : Contents) → told ≡ Some m → rule_size_answer (map (file_at root m) (drop i names)) ≡ rule_size_answer (files_below root m))
-    → IfSome told (λ m. HasTakenAll root m taken)
-all_taken root told names i taken end listed files digest small = if_some _ told (λ m t.
+    → IfSome told (λ m. HasTakenAll root m files)
+all_taken root told names i files end named small = if_some _ told (λ m t.
     let none = drop_all i names end in
     record {
       small = sym (small m t) ∙ ap (λ ns. rule_size_answer (map (file_at root m) ns)) none;
-      files = sym (ap (λ ns. adding_files taken.files (map (file_at root m) ns)) none) ∙ files m t;
-      digest = subst (λ ns. HasTaken taken.digester (flat_map digest_entry (map (file_at root m) ns)))
-          (take_all i names end ∙ at_some (λ m. names ≡ paths_below root m) told m t listed) (digest m t);
+      named = sym (ap (λ ns. adding_files files (map (file_at root m) ns)) none) ∙ named m t;
     })

@@ -13,7 +13,7 @@ use Rattle.desk_rules.specs.RuleFiles.{rules_of_files}
 use Rattle.desk_rules.specs.Rules.{Rules}
 use Rattle.desk_rules.specs.declared.RuleFault.{RuleFault}
 use Rattle.desk_intake.specs.Limits.{rule_files_answer}
-use Rattle.desk_intake.specs.declared.rules.Ruled.{Ruled}
+use Rattle.desk_intake.specs.declared.rules.DigestedRules.{DigestedRules}
 
 -- files with these added in their order, each under its name
 abbrev pub adding_files : Files → List File → Files
@@ -29,15 +29,18 @@ named_files = adding_files fin.empty
 abbrev pub digest_entry : File → Text
 digest_entry file = to_be_bytes w64 (length file.path) ++ (file.path ++ (to_be_bytes w32 (length file.bytes) ++ file.bytes))
 
--- rules with the digest of this text
-abbrev pub with_digest : Text → Result Rules RuleFault → Result Ruled Status
-with_digest taken (Ok rules) = Ok (record { rules = rules; digest = digest taken })
-with_digest taken (Err fault) = Err (BadRules fault)
+-- rules with the digest of the files that they are the rules of
+abbrev pub ruled_with : Rules → List File → DigestedRules
+ruled_with rules files = record { rules = rules; digest = digest (flat_map digest_entry files) }
 
-abbrev pub ruled_by : Option Status → List File → Result Ruled Status
+abbrev pub with_digest : List File → Result Rules RuleFault → Result DigestedRules Status
+with_digest files (Ok rules) = Ok (ruled_with rules files)
+with_digest files (Err fault) = Err (BadRules fault)
+
+abbrev pub ruled_by : Option Status → List File → Result DigestedRules Status
 ruled_by (Some status) files = Err status
-ruled_by None files = with_digest (flat_map digest_entry files) (rules_of_files (named_files files))
+ruled_by None files = with_digest files (rules_of_files (named_files files))
 
 -- the rules of the files of a rule folder, in byte order of their names
-abbrev pub ruled : Text → List File → Result Ruled Status
+abbrev pub ruled : Text → List File → Result DigestedRules Status
 ruled root files = ruled_by (rule_files_answer root files) files

@@ -9,7 +9,7 @@ use crate::halts::Halt;
 use desk_base::{Memory, Text};
 use desk_clashes::{Clash, Targets};
 use desk_file::Route;
-use desk_readings::Measured;
+use desk_readings::MeasuredFile;
 use desk_report::Status;
 use std::alloc::Global;
 
@@ -25,7 +25,7 @@ pub trait HasRoute {
         ensures { result.now ≡ along self.now };
 }
 
-impl HasRoute for Measured {
+impl HasRoute for MeasuredFile {
     ghost along = { λ file. file.route };
 
     fn route(&self) -> &Route {

@@ -19,7 +19,7 @@ pub fn build_graph<'r>(
     classes: Vec<Scanned>,
 ) -> Result<ClassGraph<'r>, Halt>
     requires { length classes.items < 2 ^ 32 }
-    ensures graph { IfOk result (λ graph. graph ≡ graph_of rules.entry.now.renames classes.items) }
+    ensures graph { IfOk result (λ graph. graph ≡ graph_of rules.entry.now classes.items) }
     ensures clear { OnOk result (names_answer (cls rules.entry.now.renames) classes.items ≡ None) }
     ensures err { IfErr result (HaltsAtNames (names_answer (cls rules.entry.now.renames) classes.items)) }
 {

@@ -6,6 +6,7 @@
 //! ruled.rules      // the rule set
 //! ruled.digest     // the digest of the rule files that it was built from
 //! let routes = list_routes(alloc, &mut folders, &ruled.rules, &from)?;
+//! let rules = read_rule_set(alloc, &mut folders, &rules_root)?; // where no digest is needed
 //! ```
 #![tactic(auto)]
 
@@ -20,7 +21,7 @@ pub use clash::{HasRoute, refuse_clash};
 pub use classes::build_graph;
 pub use halts::{Halt, limit};
 pub use listing::{list_paths, list_routes};
-pub use rules::{Ruled, read_rules};
+pub use rules::{DigestedRules, read_rule_set, read_rules};
 pub use sources::read_below;
 
 /// How many files of the source a run takes at most.

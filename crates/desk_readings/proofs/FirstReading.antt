@@ -18,14 +18,13 @@ use Rattle.desk_base.proofs.Results.{at_some}
 use Rattle.desk_readings.proofs.Fronts.{all_pushed, if_some}
 use Rattle.desk_readings.proofs.Scans.{scans_more}
 use Rattle.desk_rules.specs.Rules.{Rules}
-use Rattle.desk_readings.specs.Slices.{IsRead, NotesHere, routes_in}
+use Rattle.desk_readings.specs.Slices.{IsRead, routes_in}
 use Rattle.desk_readings.specs.Noting.{IsWithin, NoteFails, NotedTo, NotesOne}
-use Rattle.desk_readings.specs.Readings.{bytes_here, first_large, is_large, kept_in, class_note, measured_at, measured_by, note_at, note_by, scanned_route, scans_at, scans_of, weight_in}
-use Rattle.desk_readings.specs.declared.measured.ClassNote.{ClassNote}
-use Rattle.desk_readings.specs.declared.measured.Measured.{Measured}
+use Rattle.desk_readings.specs.Readings.{bytes_here, first_large, is_large, kept_in, measured_at, measured_by, scanned_route, scans_at, scans_of, weight_in}
+use Rattle.desk_readings.specs.declared.measured.MeasuredFile.{MeasuredFile}
 use Rattle.desk_readings.specs.declared.faults.NoteFault.{NoteFault}
 use Rattle.desk_readings.specs.declared.faults.NoteFault.TheVariants.{Memory, Folders, TooLarge}
-use Rattle.desk_readings.specs.declared.waiting.WaitingFile.{WaitingFile}
+use Rattle.desk_readings.specs.declared.pending.PendingFile.{PendingFile}
 
 -- ---- all files
 
@@ -46,11 +45,11 @@ large_behind from m (first ∷ routes) more e =
     large_step (is_large from m first) first.path (first_large from m routes) (first_large from m (routes ++ more)) (first_large from m more) (large_behind from m routes more) e
 
 -- one file more
-pub noted_more : (from : Text) (m : Contents) (routes : List Route) (route : Route) (files new : List Measured) (classes now : List Scanned) (waiting : WaitingFile) → NotedTo from m routes files classes → NotesOne from m route waiting
-    → new ≡ files ++ measured_by waiting ∷ [] → now ≡ classes ++ kept_in waiting.route waiting.read → NotedTo from m (routes ++ route ∷ []) new now
-noted_more from m routes route files new classes now waiting h one grown kept = record {
-  files = grown ∙ ap (λ (fs : List Measured). fs ++ measured_by waiting ∷ []) h.files ∙ ap (λ (f : Measured). map (measured_at from m) routes ++ f ∷ []) one.file ∙ sym (map-append (measured_at from m) routes (route ∷ []));
-  scanned = kept ∙ ap (λ (ss : List Scanned). ss ++ kept_in waiting.route waiting.read) h.scanned ∙ ap (λ (ss : List Scanned). scans_at from m routes ++ ss) one.class ∙ sym (scans_behind from m routes route);
+pub noted_more : (rules : Rules) (from : Text) (m : Contents) (routes : List Route) (route : Route) (files new : List MeasuredFile) (classes now : List Scanned) (pending : PendingFile) → NotedTo rules from m routes files classes → NotesOne rules from m route pending
+    → new ≡ files ++ measured_by rules pending ∷ [] → now ≡ classes ++ kept_in pending.route pending.read → NotedTo rules from m (routes ++ route ∷ []) new now
+noted_more rules from m routes route files new classes now pending h one grown kept = record {
+  files = grown ∙ ap (λ (fs : List MeasuredFile). fs ++ measured_by rules pending ∷ []) h.files ∙ ap (λ (f : MeasuredFile). map (measured_at rules from m) routes ++ f ∷ []) one.file ∙ sym (map-append (measured_at rules from m) routes (route ∷ []));
+  scanned = kept ∙ ap (λ (ss : List Scanned). ss ++ kept_in pending.route pending.read) h.scanned ∙ ap (λ (ss : List Scanned). scans_at from m routes ++ ss) one.class ∙ sym (scans_behind from m routes route);
   bytes = All-push (λ (r : Route). IsBytes (bytes_here from m r)) routes route h.bytes one.bytes;
   fit = large_behind from m routes (route ∷ []) h.fit ∙ ap (λ (b : Bool). if b then Some route.path else None) one.fits;
 }
@@ -64,20 +63,20 @@ scans_after from m (first ∷ routes) more =
     ∙ sym (append_assoc (scanned_route first (bytes_here from m first)) (scans_at from m routes) (scans_at from m more))
 
 -- one file more in a batch
-pub batch_more : (from : Text) (m : Contents) (batch new : List WaitingFile) (route : Route) (waiting : WaitingFile) → NotedTo from m (routes_in batch) (map measured_by batch) (scans_of batch) → NotesOne from m route waiting
-    → waiting.route ≡ route → new ≡ batch ++ waiting ∷ [] → NotedTo from m (routes_in new) (map measured_by new) (scans_of new)
-batch_more from m batch new route waiting h one is grown =
-    let more = noted_more from m (routes_in batch) route (map measured_by batch) (map measured_by new) (scans_of batch) (scans_of new) waiting h one
-    (ap (map measured_by) grown ∙ map-append measured_by batch (waiting ∷ []))
-    (scans_more [] batch new waiting grown) in
-    subst (λ (rs : List Route). NotedTo from m rs (map measured_by new) (scans_of new))
-    (ap (λ (r : Route). routes_in batch ++ r ∷ []) (sym is) ∙ sym (map-append (λ (w : WaitingFile). w.route) batch (waiting ∷ [])) ∙ ap routes_in (sym grown)) more
+pub batch_more : (rules : Rules) (from : Text) (m : Contents) (batch new : List PendingFile) (route : Route) (pending : PendingFile) → NotedTo rules from m (routes_in batch) (map (measured_by rules) batch) (scans_of batch) → NotesOne rules from m route pending
+    → pending.route ≡ route → new ≡ batch ++ pending ∷ [] → NotedTo rules from m (routes_in new) (map (measured_by rules) new) (scans_of new)
+batch_more rules from m batch new route pending h one is grown =
+    let more = noted_more rules from m (routes_in batch) route (map (measured_by rules) batch) (map (measured_by rules) new) (scans_of batch) (scans_of new) pending h one
+    (ap (map (measured_by rules)) grown ∙ map-append (measured_by rules) batch (pending ∷ []))
+    (scans_more [] batch new pending grown) in
+    subst (λ (rs : List Route). NotedTo rules from m rs (map (measured_by rules) new) (scans_of new))
+    (ap (λ (r : Route). routes_in batch ++ r ∷ []) (sym is) ∙ sym (map-append (λ (w : PendingFile). w.route) batch (pending ∷ [])) ∙ ap routes_in (sym grown)) more
 
 -- one batch more
-pub noted_join : (from : Text) (m : Contents) (routes more : List Route) (files later : List Measured) (classes kept : List Scanned) → NotedTo from m routes files classes → NotedTo from m more later kept
-    → NotedTo from m (routes ++ more) (files ++ later) (classes ++ kept)
-noted_join from m routes more files later classes kept h k = record {
-  files = ap (λ (fs : List Measured). fs ++ later) h.files ∙ ap (λ (fs : List Measured). map (measured_at from m) routes ++ fs) k.files ∙ sym (map-append (measured_at from m) routes more);
+pub noted_join : (rules : Rules) (from : Text) (m : Contents) (routes more : List Route) (files later : List MeasuredFile) (classes kept : List Scanned) → NotedTo rules from m routes files classes → NotedTo rules from m more later kept
+    → NotedTo rules from m (routes ++ more) (files ++ later) (classes ++ kept)
+noted_join rules from m routes more files later classes kept h k = record {
+  files = ap (λ (fs : List MeasuredFile). fs ++ later) h.files ∙ ap (λ (fs : List MeasuredFile). map (measured_at rules from m) routes ++ fs) k.files ∙ sym (map-append (measured_at rules from m) routes more);
   scanned = ap (λ (ss : List Scanned). ss ++ kept) h.scanned ∙ ap (λ (ss : List Scanned). scans_at from m routes ++ ss) k.scanned ∙ sym (scans_after from m routes more);
   bytes = All-append (λ (route : Route). IsBytes (bytes_here from m route)) routes more h.bytes k.bytes;
   fit = large_behind from m routes more h.fit ∙ k.fit;
@@ -112,119 +111,85 @@ pub tail_there : (from : Text) (told : Option Contents) (all rest : List Route) 
     → IfSome told (λ m. All (λ (r : Route). IsSome (fin.get m (full from r.path))) rest)
 tail_there from told all rest route first h = there_behind from told told (route ∷ []) all rest refl first h
 
-pub noted_next : (from : Text) (told : Option Contents) (m : Contents) (slice new : List WaitingFile) (waiting : WaitingFile) → told ≡ Some m → NotedTo from m (routes_in slice) (map measured_by slice) (scans_of slice)
-    → IsRead from told waiting → new ≡ slice ++ waiting ∷ [] → NotedTo from m (routes_in new) (map measured_by new) (scans_of new)
-noted_next from told m slice new waiting e h read grown = batch_more from m slice new waiting.route waiting h (at_some (λ m. NotesOne from m waiting.route waiting) told m e read.one) refl grown
+pub noted_next : (rules : Rules) (from : Text) (told : Option Contents) (m : Contents) (slice new : List PendingFile) (pending : PendingFile) → told ≡ Some m → NotedTo rules from m (routes_in slice) (map (measured_by rules) slice) (scans_of slice)
+    → IsRead rules from told pending → new ≡ slice ++ pending ∷ [] → NotedTo rules from m (routes_in new) (map (measured_by rules) new) (scans_of new)
+noted_next rules from told m slice new pending e h read grown = batch_more rules from m slice new pending.route pending h (at_some (λ m. NotesOne rules from m pending.route pending) told m e read.one) refl grown
 
-pub light_more : (slice new : List WaitingFile) (waiting : WaitingFile) (room size left : ℕ) → new ≡ slice ++ waiting ∷ [] → size ≡ weight_in waiting.read → size ≤ room → left ≡ room - size
-    → room + sum_by (λ (w : WaitingFile). weight_in w.read) slice ≡ file_size → left + sum_by (λ (w : WaitingFile). weight_in w.read) new ≡ file_size
-light_more slice new waiting room size left grown is fits n e =
-    let weigh : WaitingFile → ℕ = λ w. weight_in w.read in
-    let more = ap (sum_by weigh) grown ∙ sum_by_push weigh slice waiting in
+pub light_more : (slice new : List PendingFile) (pending : PendingFile) (room size left : ℕ) → new ≡ slice ++ pending ∷ [] → size ≡ weight_in pending.read → size ≤ room → left ≡ room - size
+    → room + sum_by (λ (w : PendingFile). weight_in w.read) slice ≡ file_size → left + sum_by (λ (w : PendingFile). weight_in w.read) new ≡ file_size
+light_more slice new pending room size left grown is fits n e =
+    let weigh : PendingFile → ℕ = λ w. weight_in w.read in
+    let more = ap (sum_by weigh) grown ∙ sum_by_push weigh slice pending in
     omega (arith, more, is, fits, n, e)
 
-pub split_more : (batch new : List WaitingFile) (waiting : WaitingFile) (all rest more : List Route) (route : Route) → all ≡ routes_in batch ++ rest → rest ≡ route ∷ more → waiting.route ≡ route → new ≡ batch ++ waiting ∷ []
+pub split_more : (batch new : List PendingFile) (pending : PendingFile) (all rest more : List Route) (route : Route) → all ≡ routes_in batch ++ rest → rest ≡ route ∷ more → pending.route ≡ route → new ≡ batch ++ pending ∷ []
     → all ≡ routes_in new ++ more
-split_more batch new waiting all rest more route split first is grown =
-    split ∙ ap (λ (rs : List Route). routes_in batch ++ rs) first ∙ ap (λ (r : Route). routes_in batch ++ r ∷ more) (sym is) ∙ sym (append_assoc (routes_in batch) (waiting.route ∷ []) more)
-    ∙ ap (λ (rs : List Route). rs ++ more) (sym (map-append (λ (w : WaitingFile). w.route) batch (waiting ∷ []))) ∙ ap (λ (ws : List WaitingFile). routes_in ws ++ more) (sym grown)
+split_more batch new pending all rest more route split first is grown =
+    split ∙ ap (λ (rs : List Route). routes_in batch ++ rs) first ∙ ap (λ (r : Route). routes_in batch ++ r ∷ more) (sym is) ∙ sym (append_assoc (routes_in batch) (pending.route ∷ []) more)
+    ∙ ap (λ (rs : List Route). rs ++ more) (sym (map-append (λ (w : PendingFile). w.route) batch (pending ∷ []))) ∙ ap (λ (ws : List PendingFile). routes_in ws ++ more) (sym grown)
 
 pub pushed_some : {X : Type 0} (xs new : List X) (x : X) → new ≡ xs ++ x ∷ [] → new ≡ [] → ⊥
 pushed_some [] new x grown e = cc
 pushed_some (y ∷ xs) new x grown e = cc
 
-pub within_more : (files new : List Measured) (waiting : WaitingFile) → All IsWithin files → IsWithin (measured_by waiting) → new ≡ files ++ measured_by waiting ∷ [] → All IsWithin new
-within_more files new waiting all one grown = all_pushed IsWithin files new (measured_by waiting) all one grown
+pub within_more : (rules : Rules) (files new : List MeasuredFile) (pending : PendingFile) → All IsWithin files → IsWithin (measured_by rules pending) → new ≡ files ++ measured_by rules pending ∷ [] → All IsWithin new
+within_more rules files new pending all one grown = all_pushed IsWithin files new (measured_by rules pending) all one grown
 
-pub batch_within : (batch new : List WaitingFile) (waiting : WaitingFile) → All IsWithin (map measured_by batch) → IsWithin (measured_by waiting) → new ≡ batch ++ waiting ∷ [] → All IsWithin (map measured_by new)
-batch_within batch new waiting all one grown = within_more (map measured_by batch) (map measured_by new) waiting all one (ap (map measured_by) grown ∙ map-append measured_by batch (waiting ∷ []))
+pub batch_within : (rules : Rules) (batch new : List PendingFile) (pending : PendingFile) → All IsWithin (map (measured_by rules) batch) → IsWithin (measured_by rules pending) → new ≡ batch ++ pending ∷ [] → All IsWithin (map (measured_by rules) new)
+batch_within rules batch new pending all one grown = within_more rules (map (measured_by rules) batch) (map (measured_by rules) new) pending all one (ap (map (measured_by rules)) grown ∙ map-append (measured_by rules) batch (pending ∷ []))
 
-pub within_next : (told : Option Contents) (from : Text) (slice new : List WaitingFile) (waiting : WaitingFile) → All IsWithin (map measured_by slice) → IsRead from told waiting → new ≡ slice ++ waiting ∷ []
-    → All IsWithin (map measured_by new)
-within_next told from slice new waiting all read grown = batch_within slice new waiting all read.within grown
-
--- what is noted of the classes among them
-pub notes_next : (from : Text) (told : Option Contents) (m : Contents) (slice new : List WaitingFile) (waiting : WaitingFile) → told ≡ Some m → NotesHere from m slice → IsRead from told waiting → new ≡ slice ++ waiting ∷ []
-    → NotesHere from m new
-notes_next from told m slice new waiting e h read grown = λ rules.
-    let one = at_some (λ m. NotesOne from m waiting.route waiting) told m e read.one in
-    ap (map (note_by rules)) grown ∙ map-append (note_by rules) slice (waiting ∷ []) ∙ ap (λ (ns : List ClassNote). ns ++ note_by rules waiting ∷ []) (h rules)
-    ∙ ap (λ (n : ClassNote). map (note_at rules from m) (routes_in slice) ++ n ∷ []) (ap class_note (one.noted rules))
-    ∙ sym (map-append (note_at rules from m) (routes_in slice) (waiting.route ∷ []))
-    ∙ ap (map (note_at rules from m)) (sym (ap routes_in grown ∙ map-append (λ (w : WaitingFile). w.route) slice (waiting ∷ [])))
+pub within_next : (rules : Rules) (told : Option Contents) (from : Text) (slice new : List PendingFile) (pending : PendingFile) → All IsWithin (map (measured_by rules) slice) → IsRead rules from told pending → new ≡ slice ++ pending ∷ []
+    → All IsWithin (map (measured_by rules) new)
+within_next rules told from slice new pending all read grown = batch_within rules slice new pending all read.within grown
 
 -- ---- in a loop over batches
 
-routes_measured : (batch : List WaitingFile) → map (λ (f : Measured). f.route) (map measured_by batch) ≡ routes_in batch
-routes_measured [] = refl
-routes_measured (waiting ∷ batch) = ap (λ (rs : List Route). waiting.route ∷ rs) (routes_measured batch)
+routes_measured : (rules : Rules) (batch : List PendingFile) → map (λ (f : MeasuredFile). f.route) (map (measured_by rules) batch) ≡ routes_in batch
+routes_measured rules [] = refl
+routes_measured rules (pending ∷ batch) = ap (λ (rs : List Route). pending.route ∷ rs) (routes_measured rules batch)
 
-files_routes : (files new : List Measured) (batch : List WaitingFile) → new ≡ files ++ map measured_by batch → map (λ (f : Measured). f.route) new ≡ map (λ (f : Measured). f.route) files ++ routes_in batch
-files_routes files new batch grown =
-    ap (map (λ (f : Measured). f.route)) grown ∙ map-append (λ (f : Measured). f.route) files (map measured_by batch)
-    ∙ ap (λ (rs : List Route). map (λ (f : Measured). f.route) files ++ rs) (routes_measured batch)
+files_routes : (rules : Rules) (files new : List MeasuredFile) (batch : List PendingFile) → new ≡ files ++ map (measured_by rules) batch → map (λ (f : MeasuredFile). f.route) new ≡ map (λ (f : MeasuredFile). f.route) files ++ routes_in batch
+files_routes rules files new batch grown =
+    ap (map (λ (f : MeasuredFile). f.route)) grown ∙ map-append (λ (f : MeasuredFile). f.route) files (map (measured_by rules) batch)
+    ∙ ap (λ (rs : List Route). map (λ (f : MeasuredFile). f.route) files ++ rs) (routes_measured rules batch)
 
-pub split_turned : (all left rest : List Route) (files new : List Measured) (batch next : List WaitingFile) → all ≡ (map (λ (f : Measured). f.route) files ++ routes_in batch) ++ left → new ≡ files ++ map measured_by batch
-    → left ≡ routes_in next ++ rest → all ≡ (map (λ (f : Measured). f.route) new ++ routes_in next) ++ rest
-split_turned all left rest files new batch next split grown first =
-    split ∙ ap (λ (rs : List Route). rs ++ left) (sym (files_routes files new batch grown)) ∙ ap (λ (rs : List Route). map (λ (f : Measured). f.route) new ++ rs) first
-    ∙ sym (append_assoc (map (λ (f : Measured). f.route) new) (routes_in next) rest)
+pub split_turned : (rules : Rules) (all left rest : List Route) (files new : List MeasuredFile) (batch next : List PendingFile) → all ≡ (map (λ (f : MeasuredFile). f.route) files ++ routes_in batch) ++ left → new ≡ files ++ map (measured_by rules) batch
+    → left ≡ routes_in next ++ rest → all ≡ (map (λ (f : MeasuredFile). f.route) new ++ routes_in next) ++ rest
+split_turned rules all left rest files new batch next split grown first =
+    split ∙ ap (λ (rs : List Route). rs ++ left) (sym (files_routes rules files new batch grown)) ∙ ap (λ (rs : List Route). map (λ (f : MeasuredFile). f.route) new ++ rs) first
+    ∙ sym (append_assoc (map (λ (f : MeasuredFile). f.route) new) (routes_in next) rest)
 
-pub noted_turned : (from : Text) (m : Contents) (files new : List Measured) (classes now : List Scanned) (batch next : List WaitingFile)
-    → NotedTo from m (map (λ (f : Measured). f.route) files ++ routes_in batch) (files ++ map measured_by batch) (classes ++ scans_of batch) → NotedTo from m (routes_in next) (map measured_by next) (scans_of next)
-    → new ≡ files ++ map measured_by batch → now ≡ classes ++ scans_of batch → NotedTo from m (map (λ (f : Measured). f.route) new ++ routes_in next) (new ++ map measured_by next) (now ++ scans_of next)
-noted_turned from m files new classes now batch next h k grown kept =
-    noted_join from m (map (λ (f : Measured). f.route) new) (routes_in next) new (map measured_by next) now (scans_of next)
-    (subst (λ (rs : List Route). NotedTo from m rs new now) (sym (files_routes files new batch grown))
-    (subst (λ (fs : List Measured). NotedTo from m (map (λ (f : Measured). f.route) files ++ routes_in batch) fs now) (sym grown)
-    (subst (λ (ss : List Scanned). NotedTo from m (map (λ (f : Measured). f.route) files ++ routes_in batch) (files ++ map measured_by batch) ss) (sym kept) h))) k
+pub noted_turned : (rules : Rules) (from : Text) (m : Contents) (files new : List MeasuredFile) (classes now : List Scanned) (batch next : List PendingFile)
+    → NotedTo rules from m (map (λ (f : MeasuredFile). f.route) files ++ routes_in batch) (files ++ map (measured_by rules) batch) (classes ++ scans_of batch) → NotedTo rules from m (routes_in next) (map (measured_by rules) next) (scans_of next)
+    → new ≡ files ++ map (measured_by rules) batch → now ≡ classes ++ scans_of batch → NotedTo rules from m (map (λ (f : MeasuredFile). f.route) new ++ routes_in next) (new ++ map (measured_by rules) next) (now ++ scans_of next)
+noted_turned rules from m files new classes now batch next h k grown kept =
+    noted_join rules from m (map (λ (f : MeasuredFile). f.route) new) (routes_in next) new (map (measured_by rules) next) now (scans_of next)
+    (subst (λ (rs : List Route). NotedTo rules from m rs new now) (sym (files_routes rules files new batch grown))
+    (subst (λ (fs : List MeasuredFile). NotedTo rules from m (map (λ (f : MeasuredFile). f.route) files ++ routes_in batch) fs now) (sym grown)
+    (subst (λ (ss : List Scanned). NotedTo rules from m (map (λ (f : MeasuredFile). f.route) files ++ routes_in batch) (files ++ map (measured_by rules) batch) ss) (sym kept) h))) k
 
-pub notes_turned : (rules : Rules) (from : Text) (m : Contents) (files new : List Measured) (notes now : List ClassNote) (batch : List WaitingFile) → notes ≡ map (note_at rules from m) (map (λ (f : Measured). f.route) files)
-    → NotesHere from m batch → new ≡ files ++ map measured_by batch → now ≡ notes ++ map (note_by rules) batch → now ≡ map (note_at rules from m) (map (λ (f : Measured). f.route) new)
-notes_turned rules from m files new notes now batch e h grown noted =
-    let note = note_at rules from m in
-    let before = map (λ (f : Measured). f.route) files in
-    noted ∙ ap (λ (ns : List ClassNote). ns ++ map (note_by rules) batch) e ∙ ap (λ (ns : List ClassNote). map note before ++ ns) (h rules)
-    ∙ sym (map-append note before (routes_in batch)) ∙ ap (map note) (sym (files_routes files new batch grown))
+pub within_turned : (rules : Rules) (files new : List MeasuredFile) (batch next : List PendingFile) → All IsWithin (files ++ map (measured_by rules) batch) → All IsWithin (map (measured_by rules) next) → new ≡ files ++ map (measured_by rules) batch
+    → All IsWithin (new ++ map (measured_by rules) next)
+within_turned rules files new batch next h k grown = All-append IsWithin new (map (measured_by rules) next) (All-same IsWithin new (files ++ map (measured_by rules) batch) grown h) k
 
-pub within_turned : (files new : List Measured) (batch next : List WaitingFile) → All IsWithin (files ++ map measured_by batch) → All IsWithin (map measured_by next) → new ≡ files ++ map measured_by batch
-    → All IsWithin (new ++ map measured_by next)
-within_turned files new batch next h k grown = All-append IsWithin new (map measured_by next) (All-same IsWithin new (files ++ map measured_by batch) grown h) k
-
-pub few_turned : (files new : List Measured) (classes now : List Scanned) (batch : List WaitingFile) → length classes ≤ length files → length now ≤ length classes + length batch → new ≡ files ++ map measured_by batch → length now ≤ length new
-few_turned files new classes now batch h k grown =
-    let longer = ap length grown ∙ length-append files (map measured_by batch) in
-    let same = length-map batch measured_by in
+pub few_turned : (rules : Rules) (files new : List MeasuredFile) (classes now : List Scanned) (batch : List PendingFile) → length classes ≤ length files → length now ≤ length classes + length batch → new ≡ files ++ map (measured_by rules) batch → length now ≤ length new
+few_turned rules files new classes now batch h k grown =
+    let longer = ap length grown ∙ length-append files (map (measured_by rules) batch) in
+    let same = length-map batch (measured_by rules) in
     omega arith
 
-files_end : (files : List Measured) (batch : List WaitingFile) → batch ≡ [] → files ++ map measured_by batch ≡ files
-files_end files batch none = ap (λ (ws : List WaitingFile). files ++ map measured_by ws) none ∙ append-nil files
+files_end : (rules : Rules) (files : List MeasuredFile) (batch : List PendingFile) → batch ≡ [] → files ++ map (measured_by rules) batch ≡ files
+files_end rules files batch none = ap (λ (ws : List PendingFile). files ++ map (measured_by rules) ws) none ∙ append-nil files
 
-pub noted_end : (from : Text) (m : Contents) (all left : List Route) (files : List Measured) (classes : List Scanned) (batch : List WaitingFile)
-    → NotedTo from m (map (λ (f : Measured). f.route) files ++ routes_in batch) (files ++ map measured_by batch) (classes ++ scans_of batch) → all ≡ (map (λ (f : Measured). f.route) files ++ routes_in batch) ++ left
-    → batch ≡ [] → left ≡ [] → NotedTo from m all files classes
-noted_end from m all left files classes batch h split none over =
-    subst (λ (rs : List Route). NotedTo from m rs files classes)
-    (sym (split ∙ ap (λ (rs : List Route). (map (λ (f : Measured). f.route) files ++ routes_in batch) ++ rs) over ∙ append-nil (map (λ (f : Measured). f.route) files ++ routes_in batch)))
-    (subst (λ (fs : List Measured). NotedTo from m (map (λ (f : Measured). f.route) files ++ routes_in batch) fs classes) (files_end files batch none)
-    (subst (λ (ss : List Scanned). NotedTo from m (map (λ (f : Measured). f.route) files ++ routes_in batch) (files ++ map measured_by batch) ss)
-    (ap (λ (ws : List WaitingFile). classes ++ scans_of ws) none ∙ append-nil classes) h))
+pub noted_end : (rules : Rules) (from : Text) (m : Contents) (all left : List Route) (files : List MeasuredFile) (classes : List Scanned) (batch : List PendingFile)
+    → NotedTo rules from m (map (λ (f : MeasuredFile). f.route) files ++ routes_in batch) (files ++ map (measured_by rules) batch) (classes ++ scans_of batch) → all ≡ (map (λ (f : MeasuredFile). f.route) files ++ routes_in batch) ++ left
+    → batch ≡ [] → left ≡ [] → NotedTo rules from m all files classes
+noted_end rules from m all left files classes batch h split none over =
+    subst (λ (rs : List Route). NotedTo rules from m rs files classes)
+    (sym (split ∙ ap (λ (rs : List Route). (map (λ (f : MeasuredFile). f.route) files ++ routes_in batch) ++ rs) over ∙ append-nil (map (λ (f : MeasuredFile). f.route) files ++ routes_in batch)))
+    (subst (λ (fs : List MeasuredFile). NotedTo rules from m (map (λ (f : MeasuredFile). f.route) files ++ routes_in batch) fs classes) (files_end rules files batch none)
+    (subst (λ (ss : List Scanned). NotedTo rules from m (map (λ (f : MeasuredFile). f.route) files ++ routes_in batch) (files ++ map (measured_by rules) batch) ss)
+    (ap (λ (ws : List PendingFile). classes ++ scans_of ws) none ∙ append-nil classes) h))
 
-pub notes_counted : (rules : Rules) (files new : List Measured) (notes now : List ClassNote) (batch : List WaitingFile) → length notes ≡ length files → new ≡ files ++ map measured_by batch → now ≡ notes ++ map (note_by rules) batch
-    → length now ≡ length new
-notes_counted rules files new notes now batch e grown noted =
-    let more = ap length grown ∙ length-append files (map measured_by batch) in
-    let longer = ap length noted ∙ length-append notes (map (note_by rules) batch) in
-    let some = length-map batch measured_by in
-    let same = length-map batch (note_by rules) in
-    omega (arith, e, more, longer, some, same)
-
-pub notes_end : (rules : Rules) (from : Text) (m : Contents) (all left : List Route) (files : List Measured) (notes : List ClassNote) (batch : List WaitingFile) → notes ≡ map (note_at rules from m) (map (λ (f : Measured). f.route) files)
-    → all ≡ (map (λ (f : Measured). f.route) files ++ routes_in batch) ++ left → batch ≡ [] → left ≡ [] → notes ≡ map (note_at rules from m) all
-notes_end rules from m all left files notes batch e split none over =
-    let routes = map (λ (f : Measured). f.route) files in
-    e ∙ ap (map (note_at rules from m))
-    (sym (split ∙ ap (λ (rs : List Route). (routes ++ routes_in batch) ++ rs) over ∙ append-nil (routes ++ routes_in batch) ∙ ap (λ (ws : List WaitingFile). routes ++ routes_in ws) none ∙ append-nil routes))
-
-pub within_end : (files : List Measured) (batch : List WaitingFile) → All IsWithin (files ++ map measured_by batch) → batch ≡ [] → All IsWithin files
-within_end files batch h none = All-same IsWithin files (files ++ map measured_by batch) (sym (files_end files batch none)) h
+pub within_end : (rules : Rules) (files : List MeasuredFile) (batch : List PendingFile) → All IsWithin (files ++ map (measured_by rules) batch) → batch ≡ [] → All IsWithin files
+within_end rules files batch h none = All-same IsWithin files (files ++ map (measured_by rules) batch) (sym (files_end rules files batch none)) h

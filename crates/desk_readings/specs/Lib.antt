@@ -1,4 +1,5 @@
 pub mod Sizes
+pub mod Parts
 pub mod Readings
 pub mod Slices
 pub mod Faults

@@ -3,9 +3,9 @@
 //!
 //! ```text
 //! let notes = note_all(&workers, alloc, &mut folders, &rules, &from, routes)?;
-//! notes.files          // of each file, in their order, its route, how many bytes it has, and their digest
-//! notes.class_notes    // of each file whether it is a class in which nothing changes
-//! notes.scanned        // what is kept of the classes among them
+//! notes.files      // of each file, in their order, its route, how many bytes it has, their digest, and whether it is a class in which
+//!                  // nothing changes
+//! notes.scanned    // what is kept of the classes among them
 //! ```
 #![tactic(auto)]
 
@@ -16,17 +16,19 @@ mod measured;
 mod measuring;
 mod noting;
 mod paths;
+mod pending;
+mod reader;
 mod reading;
 mod unread;
-mod waiting;
 
 pub use contents::Content;
 use desk_base::MAX_FILE_SIZE;
 pub use faults::NoteFault;
 pub use gathering::MeasuredFiles;
-pub use measured::{ClassNote, Measured};
+pub use measured::{ClassNote, MeasuredFile};
 pub use noting::note_all;
 pub use paths::full_path;
+pub use reader::PartReader;
 pub use reading::{digest_of_front, joined, read_whole};
 
 /// How many bytes one call on folders asks for or carries.

@@ -2,14 +2,15 @@
 
 ghost use Rattle.std.specs.Prelude.{◌≡◌, ◌≤◌, ◌<◌, ◌+◌, ◌++◌, ◌^◌, IfOk, OnOk, length, map};
 ghost use Rattle.desk_readings.specs.Sizes.{found_of};
-ghost use Rattle.desk_readings.specs.Readings.{all_scanned, found_in, founds_in, measured_by, measured_with, measures_of, noted_in, notes_in};
-ghost use Rattle.desk_readings.specs.declared.waiting.FirstRead.TheVariants.{Class};
+ghost use Rattle.desk_readings.specs.Readings.{all_scanned, measured_by, measured_with, measures_of, noted_in};
+ghost use Rattle.desk_rules.specs.Rules.{Rules};
+ghost use Rattle.desk_readings.specs.declared.pending.PendingContent.TheVariants.{Class};
 
 use crate::contents::Content;
-use crate::measured::{ClassNote, Measured};
+use crate::measured::{ClassNote, MeasuredFile};
+use crate::pending::{PendingContent, PendingFile};
 use crate::reading::SizeAndDigest;
-use crate::waiting::{FirstRead, WaitingFile};
-use desk_base::Memory;
+use desk_base::{Memory, Text};
 use desk_file::{NotedClass, Route, note_class};
 use desk_graph::Scanned;
 use desk_ledger::digest_of;
@@ -19,7 +20,7 @@ use std::alloc::Global;
 
 /// What a worker finds of a file: how many bytes it has and their digest, and what is kept of a class.
 #[derive(Debug, Drop)]
-pub struct Measures {
+pub struct Measurement {
     /// Its size and its digest.
     pub found: SizeAndDigest,
     /// What is noted of a well-formed class; none of any other file.
@@ -50,90 +51,84 @@ fn found_of(bytes: &Content) -> SizeAndDigest
 }
 
 /// What a worker finds of a file.
-fn measure(alloc: Global, rules: &RuleSet, waiting: &WaitingFile) -> Result<Measures, Memory>
-    ensures { IfOk result (λ measures. measures ≡ measures_of rules.now waiting.now) }
+fn measure(alloc: Global, rules: &RuleSet, pending: &PendingFile) -> Result<Measurement, Memory>
+    ensures { IfOk result (λ measures. measures ≡ measures_of rules.now pending.now) }
 {
-    match &waiting.read {
-        FirstRead::Class(bytes) => {
-            let class = note_read(alloc, rules, &waiting.route, bytes)?;
-            Ok(Measures {
+    match &pending.read {
+        PendingContent::Class(bytes) => {
+            let class = note_read(alloc, rules, &pending.route, bytes)?;
+            Ok(Measurement {
                 found: found_of(bytes),
                 class,
             })
         }
-        FirstRead::Parts(found) => Ok(Measures {
+        PendingContent::Parts(found) => Ok(Measurement {
             found: *found,
             class: None,
         }),
     }
 }
 
-/// Takes digests, and notes of classes what is kept of them, under these rules.
+/// What the first reading of all files goes by. As a job, it measures a file that was read.
 #[derive(Drop)]
-pub(crate) struct Measuring<'r> {
+pub(crate) struct FirstReading<'r> {
     pub(crate) alloc: Global,
+    /// The rules by which classes are noted.
     pub(crate) rules: &'r RuleSet,
+    /// The root below which the files stand.
+    pub(crate) from: &'r Text,
 }
 
-impl Job for Measuring<'_> {
+impl Job for FirstReading<'_> {
     ghost use Rattle.desk_readings.specs.Readings.{measures_of, weight_in};
 
-    type Item = WaitingFile;
+    type Item = PendingFile;
 
-    type Out = Measures;
+    type Out = Measurement;
 
-    ghost value = { λ job waiting. measures_of job.rules.now waiting };
+    ghost value = { λ job pending. measures_of job.rules.now pending };
 
-    ghost weighs = { λ _ waiting. weight_in waiting.read };
+    ghost weighs = { λ _ pending. weight_in pending.read };
 
-    fn weight(&self, waiting: &WaitingFile) -> u64 {
-        waiting.read.weight()
+    fn weight(&self, pending: &PendingFile) -> u64 {
+        pending.read.weight()
     }
 
-    fn run(&self, waiting: &WaitingFile) -> Result<Measures, Memory> {
-        measure(self.alloc, self.rules, waiting)
+    fn run(&self, pending: &PendingFile) -> Result<Measurement, Memory> {
+        measure(self.alloc, self.rules, pending)
     }
 }
 
 /// A file with what was found of it.
-fn measured_with(waiting: WaitingFile, found: SizeAndDigest) -> Measured
-    ensures { result ≡ measured_with waiting.route found }
+fn measured_with(pending: PendingFile, measures: &Measurement) -> MeasuredFile
+    ensures { result ≡ measured_with pending.route measures.now }
 {
-    Measured {
-        route: waiting.route,
-        size: found.size,
-        digest: found.digest,
+    MeasuredFile {
+        route: pending.route,
+        size: measures.found.size,
+        digest: measures.found.digest,
+        class: ClassNote::of(&measures.class),
     }
 }
 
 /// Adds the files of a slice, as its workers measured them.
 pub(crate) fn add_files(
-    files: &mut Vec<Measured>,
-    batch: Vec<WaitingFile>,
-    found: &[Measures],
+    files: &mut Vec<MeasuredFile>,
+    slice: Vec<PendingFile>,
+    found: &[Measurement],
 ) -> Result<(), Memory>
-    requires { founds_in found.now ≡ map (λ waiting. found_in waiting.read) batch.items }
-    ensures files { OnOk result (files.new.items ≡ files.old.items ++ map measured_by batch.items) }
+    requires { length found.now ≡ length slice.items }
+    ensures files { (rules : Rules) → found.now ≡ map (measures_of rules) slice.items → OnOk result (files.new.items ≡ files.old.items ++ map (measured_by rules) slice.items) }
 {
-    for (i, waiting) in batch.into_iter().enumerate() {
-        files.push(measured_with(waiting, found[i].found))?;
-    }
-    Ok(())
-}
-
-/// Adds what was noted of files as classes.
-pub(crate) fn add_notes(notes: &mut Vec<ClassNote>, found: &[Measures]) -> Result<(), Memory>
-    ensures { OnOk result (notes.new.items ≡ notes.old.items ++ notes_in found.now) }
-{
-    for one in found {
-        notes.push(ClassNote::of(&one.class))?;
+    for (i, pending) in slice.into_iter().enumerate() {
+        files.push(measured_with(pending, &found[i]))?;
     }
     Ok(())
 }
 
 /// Adds what is kept of classes.
 #[tactic(auto, using(crate::proofs::Scans::added_none))]
-pub(crate) fn add_scanned(scanned: &mut Vec<Scanned>, found: Vec<Measures>) -> Result<(), Memory>
+pub(crate) fn add_scanned(scanned: &mut Vec<Scanned>, found: Vec<Measurement>) -> Result<(), Memory>
     ensures classes { OnOk result (scanned.new.items ≡ scanned.old.items ++ all_scanned found.items) }
     ensures few { OnOk result (length scanned.new.items ≤ length scanned.old.items + length found.items) }
 {

@@ -9,18 +9,18 @@ ghost use Rattle.desk_folders.specs.Contents.{bytes_at};
 ghost use Rattle.desk_format.specs.Laws.{IsBytes};
 ghost use Rattle.desk_base.specs.Limits.{file_size};
 ghost use Rattle.desk_readings.specs.Sizes.{found_within, large_size, within};
-ghost use Rattle.desk_readings.specs.declared.waiting.FirstRead.TheVariants.{Class, Parts};
+ghost use Rattle.desk_readings.specs.declared.pending.PendingContent.TheVariants.{Class, Parts};
 ghost use Rattle.desk_readings.specs.Noting.{IsWithin, NoteFails, NotedTo, NotesOne, first_read};
-ghost use Rattle.desk_readings.specs.Readings.{first_large, found_in, measured_by, most_by, note_at};
+ghost use Rattle.desk_readings.specs.Readings.{first_large, found_in, measured_by, most_by};
 
 use crate::contents::Content;
 use crate::faults::NoteFault;
 use crate::gathering::MeasuredFiles;
-use crate::measuring::Measuring;
+use crate::measuring::FirstReading;
 use crate::paths::full_path;
+use crate::pending::{PendingContent, PendingFile};
 use crate::reading::{read_first, read_whole};
 use crate::unread::{Unread, read_slice};
-use crate::waiting::{FirstRead, WaitingFile};
 use crate::{LARGE, WHOLE};
 use desk_base::{MAX_FILE_SIZE, Text};
 use desk_file::{Route, Treatment};
@@ -40,7 +40,7 @@ fn most_of(treatment: Treatment) -> u64
 }
 
 /// A class that was read whole.
-fn class_of(text: Text) -> FirstRead
+fn class_of(text: Text) -> PendingContent
     requires { length text ≤ file_size }
     ensures class { result ≡ Class text }
     ensures each { IsBytes text }
@@ -48,7 +48,7 @@ fn class_of(text: Text) -> FirstRead
     let bytes = Content::new(text);
     // `as_bytes` says that they are bytes.
     let _all = bytes.as_bytes();
-    FirstRead::Class(bytes)
+    PendingContent::Class(bytes)
 }
 
 /// Reads a class whole; none where it has too many bytes.
@@ -56,7 +56,7 @@ fn read_class<F: Folders>(
     alloc: Global,
     folders: &mut F,
     source: &Text,
-) -> Result<Option<FirstRead>, FolderFault>
+) -> Result<Option<PendingContent>, FolderFault>
     requires there { IfSome (F.told folders.old) (λ m. IsSome (fin.get m source.now)) }
     ensures told { F.told folders.new ≡ F.told folders.old }
     ensures read { IfOk result (λ read. IfSome (F.told folders.old) (λ m. read ≡ option_map Class (within file_size (bytes_at m source.now)))) }
@@ -76,7 +76,7 @@ fn read_parts<F: Folders>(
     folders: &mut F,
     source: &Text,
     most: u64,
-) -> Result<Option<FirstRead>, FolderFault>
+) -> Result<Option<PendingContent>, FolderFault>
     requires most { most ≤ large_size }
     requires there { IfSome (F.told folders.old) (λ m. IsSome (fin.get m source.now)) }
     ensures told { F.told folders.new ≡ F.told folders.old }
@@ -87,7 +87,7 @@ fn read_parts<F: Folders>(
     ensures failed { result ≡ Err FolderFault.Failed → Rose (F.faults folders.old) (F.faults folders.new) }
 {
     match read_first(folders, source, most)? {
-        Some(found) => Ok(Some(FirstRead::Parts(found))),
+        Some(found) => Ok(Some(PendingContent::Parts(found))),
         None => Ok(None),
     }
 }
@@ -98,7 +98,7 @@ fn read_route<F: Folders>(
     folders: &mut F,
     from: &Text,
     route: &Route,
-) -> Result<Option<FirstRead>, NoteFault>
+) -> Result<Option<PendingContent>, NoteFault>
     requires there { IfSome (F.told folders.old) (λ m. IsSome (fin.get m (full from.now route.now.path))) }
     ensures told { F.told folders.new ≡ F.told folders.old }
     ensures read { IfOk result (λ read. IfSome (F.told folders.old) (λ m. read ≡ first_read route.now (bytes_at m (full from.now route.now.path)))) }
@@ -118,21 +118,20 @@ fn read_route<F: Folders>(
 
 /// Reads one file for the first time.
 pub(crate) fn note_one<F: Folders>(
-    alloc: Global,
+    reading: &FirstReading<'_>,
     folders: &mut F,
-    from: &Text,
     route: Route,
-) -> Result<WaitingFile, NoteFault>
-    requires there { IfSome (F.told folders.old) (λ m. IsSome (fin.get m (full from.now route.path))) }
+) -> Result<PendingFile, NoteFault>
+    requires there { IfSome (F.told folders.old) (λ m. IsSome (fin.get m (full reading.now.from.now route.path))) }
     ensures told { F.told folders.new ≡ F.told folders.old }
-    ensures one { IfOk result (λ waiting. IfSome (F.told folders.old) (λ m. NotesOne from.now m route waiting)) }
-    ensures route { IfOk result (λ waiting. waiting.route ≡ route) }
-    ensures within { IfOk result (λ waiting. IsWithin (measured_by waiting)) }
+    ensures one { IfOk result (λ pending. IfSome (F.told folders.old) (λ m. NotesOne reading.now.rules.now reading.now.from.now m route pending)) }
+    ensures route { IfOk result (λ pending. pending.route ≡ route) }
+    ensures within { IfOk result (λ pending. IsWithin (measured_by reading.now.rules.now pending)) }
     ensures counts { F.faults folders.old ≤ F.faults folders.new }
-    ensures err { IfErr result (NoteFails (λ m. first_large from.now m (route ∷ [])) (F.told folders.old) (F.faults folders.old) (F.faults folders.new)) }
+    ensures err { IfErr result (NoteFails (λ m. first_large reading.now.from.now m (route ∷ [])) (F.told folders.old) (F.faults folders.old) (F.faults folders.new)) }
 {
-    match read_route(alloc, folders, from, &route)? {
-        Some(read) => Ok(WaitingFile { route, read }),
+    match read_route(reading.alloc, folders, reading.from, &route)? {
+        Some(read) => Ok(PendingFile { route, read }),
         None => Err(NoteFault::TooLarge { path: route.path }),
     }
 }
@@ -154,10 +153,8 @@ pub fn note_all<R: Threads + Sync, F: Folders, G: Gate + Sync>(
     requires few { length routes.items < 2 ^ 32 }
     requires there { IfSome (F.told folders.old) (λ m. All (λ route. IsSome (fin.get m (full from.now route.path))) routes.items) }
     ensures told { F.told folders.new ≡ F.told folders.old }
-    ensures noted { IfOk result (λ notes. IfSome (F.told folders.old) (λ m. NotedTo from.now m routes.items notes.files.items notes.scanned.items)) }
-    ensures class_notes { IfOk result (λ notes. IfSome (F.told folders.old) (λ m. notes.class_notes.items ≡ map (note_at rules.now from.now m) routes.items)) }
+    ensures noted { IfOk result (λ notes. IfSome (F.told folders.old) (λ m. NotedTo rules.now from.now m routes.items notes.files.items notes.scanned.items)) }
     ensures routes { IfOk result (λ notes. map (λ file. file.route) notes.files.items ≡ routes.items) }
-    ensures count { IfOk result (λ notes. length notes.class_notes.items ≡ length notes.files.items) }
     ensures within { IfOk result (λ notes. All IsWithin notes.files.items) }
     ensures few { IfOk result (λ notes. length notes.scanned.items ≤ length routes.items) }
     ensures counts { F.faults folders.old ≤ F.faults folders.new }
@@ -167,11 +164,11 @@ pub fn note_all<R: Threads + Sync, F: Folders, G: Gate + Sync>(
         ahead: None,
         routes: VecDeque::from_vec(routes),
     };
-    let job = Measuring { alloc, rules };
+    let reading = FirstReading { alloc, rules, from };
     let mut notes = MeasuredFiles::new(alloc);
-    let mut slice = read_slice(alloc, folders, from, &mut unread)?;
+    let mut slice = read_slice(&reading, folders, &mut unread)?;
     while !slice.is_empty() {
-        slice = notes.add_and_read(workers, &job, folders, from, &mut unread, slice)?;
+        slice = notes.add_and_read(workers, &reading, folders, &mut unread, slice)?;
     }
     Ok(notes)
 }

@@ -21,7 +21,7 @@ loop-path-init g c = record {
 
 pub read_file-requires : goal.read_file-requires
 read_file-requires g c =
-    let road = YieldsList-from_vec {s = c.into_iter-path-iterator.result} c.into_vec-path-items.result.items (cc) (cc) in
+    let road = YieldsList-from_vec {s = c.into_iter-path-iterator.result} c.into_vec-path-items.result.items c.into_iter-path-iterator.ensures.into_iter_gives.0 (c.into_iter-path-iterator.ensures.into_iter_gives.1 ∙ c.into_vec-path-items.result.ok.0) in
     let turn = YieldsList-turn road c.loop-path.yielded c.loop-path.path-iterator c.loop-path.yielded_by c.next.result c.next.new.self c.in-Some.path c.in-Some.is c.next.ensures.steps in
     there_listed c.args.from.now (g.F.Folders.told c.args.folders.now) (g.F.Folders.told c.loop-path.folders) c.into_vec-path-items.result.items (length c.loop-path.yielded) c.in-Some.path
     c.loop-path.invariant.told (listed_items (g.F.Folders.told c.args.folders.now) c.args.from.now c.in_ok-paths.paths c.into_vec-path-items.result.items (search rules) c.in_ok-paths.ensures.paths) turn.0 turn.1
@@ -31,7 +31,7 @@ returns-in_err-read-clause-told g c = c.in_err-read.ensures.told ∙ c.loop-path
 
 pub returns-in_err-read-clause-err : goal.returns-in_err-read-clause-err
 returns-in_err-read-clause-err g c =
-    let road = YieldsList-from_vec {s = c.into_iter-path-iterator.result} c.into_vec-path-items.result.items (cc) (cc) in
+    let road = YieldsList-from_vec {s = c.into_iter-path-iterator.result} c.into_vec-path-items.result.items c.into_iter-path-iterator.ensures.into_iter_gives.0 (c.into_iter-path-iterator.ensures.into_iter_gives.1 ∙ c.into_vec-path-items.result.ok.0) in
     let turn = YieldsList-turn road c.loop-path.yielded c.loop-path.path-iterator c.loop-path.yielded_by c.next.result c.next.new.self c.in-Some.path c.in-Some.is c.next.ensures.steps in
     let so_far = YieldsList-so_far road c.loop-path.yielded c.loop-path.path-iterator c.loop-path.yielded_by in
     let p = err_from_is_err_and c.from_residual-in_err-read.result c.from_residual-in_err-read.ensures.1 in
@@ -49,7 +49,7 @@ add-requires-after_bounds g c κs within = omega (arith, c.loop-path.invariant.b
 
 pub loop-path-preserved : goal.loop-path-preserved
 loop-path-preserved g c =
-    let road = YieldsList-from_vec {s = c.into_iter-path-iterator.result} c.into_vec-path-items.result.items (cc) (cc) in
+    let road = YieldsList-from_vec {s = c.into_iter-path-iterator.result} c.into_vec-path-items.result.items c.into_iter-path-iterator.ensures.into_iter_gives.0 (c.into_iter-path-iterator.ensures.into_iter_gives.1 ∙ c.into_vec-path-items.result.ok.0) in
     let turn = YieldsList-turn road c.loop-path.yielded c.loop-path.path-iterator c.loop-path.yielded_by c.next.result c.next.new.self c.in-Some.path c.in-Some.is c.next.ensures.steps in
     let behind = length-append c.loop-path.yielded (c.in-Some.path ∷ []) in
     let items = ap length (c.into_vec-path-items.ensures) in
@@ -98,7 +98,7 @@ returns-clause-told g c = c.loop-path.invariant.told
 
 pub returns-clause-ok : goal.returns-clause-ok
 returns-clause-ok g c =
-    let road = YieldsList-from_vec {s = c.into_iter-path-iterator.result} c.into_vec-path-items.result.items (cc) (cc) in
+    let road = YieldsList-from_vec {s = c.into_iter-path-iterator.result} c.into_vec-path-items.result.items c.into_iter-path-iterator.ensures.into_iter_gives.0 (c.into_iter-path-iterator.ensures.into_iter_gives.1 ∙ c.into_vec-path-items.result.ok.0) in
     let end = YieldsList-end road c.loop-path.yielded c.loop-path.path-iterator c.loop-path.yielded_by c.next.result c.next.new.self c.in-None.is c.next.ensures.steps in
     all_answered c.args.package.now c.args.from.now (g.F.Folders.told c.args.folders.now) c.into_vec-path-items.result.items c.loop-path.yielded (all_found c.args.package.now c.loop-path.finding) c.in_ok-calls_of.field-0
     (listed_items (g.F.Folders.told c.args.folders.now) c.args.from.now c.in_ok-paths.paths c.into_vec-path-items.result.items (search rules) c.in_ok-paths.ensures.paths) c.in_ok-paths.ensures.clear end.0 c.loop-path.invariant.found

@@ -7,6 +7,6 @@ use Rattle.desk_comparison.proofs.images.make_one.Goals as goal
 
 pub returns-then-unchanged-clause-ok : goal.returns-then-unchanged-clause-ok
 returns-then-unchanged-clause-ok c =
-    makes_kept c.args.rules.now c.args.graph.now.defined c.args.noted.file c.args.made.now c.accept.new.self c.requires.routed (c.requires.noted c.if-unchanged.true) (search rules)
+    makes_kept c.args.graph.now.rules c.args.graph.now.defined c.args.noted.file c.args.made.now c.accept.new.self c.requires.routed (c.requires.noted c.if-unchanged.true) (search rules)
     (c.in_ok-accept.ensures.images ∙ ap (insert_entry (slice_cmp nat_cmp) c.args.made.now.images.entries c.args.noted.file.route.target) c.into_text.ensures.text)
     c.in_ok-accept.ensures.lines c.in_ok-accept.ensures.refused

@@ -7,4 +7,4 @@ use Rattle.desk_intake.proofs.rules.take_file.Goals as goal
 pub returns-clause-others : goal.returns-clause-others
 returns-clause-others g c =
     let same : c.in_ok-name.name ≡ c.args.path.now = c.in_ok-name.ensures ∙ c.as_bytes.ensures in
-    λ name apart. ap (λ (m : Files). fin.get m name) c.in_ok-add.ensures.ok ∙ get-insert-other c.args.taken.now.files c.in_ok-name.name c.in-Some.content name (λ e. apart (e ∙ same))
+    λ name apart. ap (λ (m : Files). fin.get m name) c.in_ok-add.ensures.ok ∙ get-insert-other c.args.files.now c.in_ok-name.name c.in-Some.content name (λ e. apart (e ∙ same))
