@@ -1,21 +1,32 @@
 -- Files get the details of what they are known to become, one after another.
-use Rattle.std.proofs.Common.{◌≡◌, ◌<◌, ℕ, zero, suc, ◌+◌, List, [], ◌∷◌, ◌++◌, length, map, take, drop, set, get_or, sym, ap, ◌∙◌, arith, Option}
+use Rattle.std.proofs.Common.{◌≡◌, ◌<◌, ℕ, zero, suc, ◌+◌, List, [], ◌∷◌, ◌++◌, length, map, take, drop, set, get_or, refl, sym, ap, ◌∙◌, arith, Option}
+use Rattle.std.proofs.Math.ListN.{get_or-map}
 use Rattle.std.proofs.lemmas.List.{append_assoc, drop_more, map-append, take_more_set}
 use Rattle.desk_readings.specs.declared.measured.ClassNote.{ClassNote}
 use Rattle.desk_report.specs.declared.lines.Detail.{Detail}
 use Rattle.desk_batches.specs.Details.{bare, counts_behind, detail_with, details_of, stays_in}
-use Rattle.desk_batches.specs.declared.noted.Noted.{Noted}
+use Rattle.desk_batches.specs.declared.planned.PlannedFile.{PlannedFile}
 
-bare_set : (xs : List Noted) (i : ℕ) (x one : Noted) → i < length xs → one ≡ get_or xs i one → bare x ≡ bare one → map bare (set xs i x) ≡ map bare xs
+bare_set : (xs : List PlannedFile) (i : ℕ) (x one : PlannedFile) → i < length xs → one ≡ get_or xs i one → bare x ≡ bare one → map bare (set xs i x) ≡ map bare xs
 bare_set [] i x one lt is same = absurd (omega arith)
-bare_set (y ∷ xs) zero x one lt is same = ap (λ (z : Noted). z ∷ map bare xs) (same ∙ ap bare is)
-bare_set (y ∷ xs) (suc i) x one lt is same = ap (λ (zs : List Noted). bare y ∷ zs) (bare_set xs i x one (omega arith) is same)
+bare_set (y ∷ xs) zero x one lt is same = ap (λ (z : PlannedFile). z ∷ map bare xs) (same ∙ ap bare is)
+bare_set (y ∷ xs) (suc i) x one lt is same = ap (λ (zs : List PlannedFile). bare y ∷ zs) (bare_set xs i x one (omega arith) is same)
 
 -- one file more has what it becomes
-pub bare_more : (xs first : List Noted) (i : ℕ) (x one : Noted) → i < length xs → one ≡ get_or xs i one → bare x ≡ bare one → map bare xs ≡ map bare first → map bare (set xs i x) ≡ map bare first
+pub bare_more : (xs first : List PlannedFile) (i : ℕ) (x one : PlannedFile) → i < length xs → one ≡ get_or xs i one → bare x ≡ bare one → map bare xs ≡ map bare first → map bare (set xs i x) ≡ map bare first
 bare_more xs first i x one lt is same before = bare_set xs i x one lt is same ∙ before
 
-pub details_more : (all : List (Option Detail)) (xs : List Noted) (notes : List ClassNote) (i : ℕ) (x : Noted) (note : ClassNote) (left behind : List ℕ) → i < length xs → i < length notes → note ≡ get_or notes i note
+classes_bare : (xs : List PlannedFile) → map (λ (file : PlannedFile). file.class) (map bare xs) ≡ map (λ (file : PlannedFile). file.class) xs
+classes_bare [] = refl
+classes_bare (x ∷ xs) = ap (λ (ns : List ClassNote). x.class ∷ ns) (classes_bare xs)
+
+-- what was noted of a file as a class stays
+pub class_at : (xs first : List PlannedFile) (i : ℕ) (x : PlannedFile) → x ≡ get_or xs i x → map bare xs ≡ map bare first → x.class ≡ get_or (map (λ (file : PlannedFile). file.class) first) i x.class
+class_at xs first i x is same =
+    let class : PlannedFile → ClassNote = λ file. file.class in
+    ap class is ∙ sym (get_or-map class xs i x) ∙ ap (λ (ns : List ClassNote). get_or ns i x.class) (sym (classes_bare xs) ∙ ap (map class) same ∙ classes_bare first)
+
+pub details_more : (all : List (Option Detail)) (xs : List PlannedFile) (notes : List ClassNote) (i : ℕ) (x : PlannedFile) (note : ClassNote) (left behind : List ℕ) → i < length xs → i < length notes → note ≡ get_or notes i note
     → all ≡ stays_in (take i xs) ++ details_of (drop i notes) left → x.stays ≡ detail_with note left → behind ≡ counts_behind note left
     → all ≡ stays_in (take (i + 1) (set xs i x)) ++ details_of (drop (i + 1) notes) behind
 details_more all xs notes i x note left behind lt there is before one rest =
@@ -25,4 +36,4 @@ details_more all xs notes i x note left behind lt there is before one rest =
     ∙ ap (λ (cs : List ℕ). stays_in (take i xs) ++ x.stays ∷ details_of (drop (i + 1) notes) cs) (sym rest)
     ∙ sym (append_assoc (stays_in (take i xs)) (x.stays ∷ []) (details_of (drop (i + 1) notes) behind))
     ∙ ap (λ (ds : List (Option Detail)). ds ++ details_of (drop (i + 1) notes) behind)
-    (sym (ap stays_in (take_more_set xs i x lt) ∙ map-append (λ (noted : Noted). noted.stays) (take i xs) (x ∷ [])))
+    (sym (ap stays_in (take_more_set xs i x lt) ∙ map-append (λ (file : PlannedFile). file.stays) (take i xs) (x ∷ [])))

@@ -1,6 +1,6 @@
 -- The files of a batch, those of them that are read whole, and their images.
 use Rattle.std.proofs.Common.{◌≡◌, ℕ, zero, ◌+◌, ◌≤◌, ◌<◌, List, [], ◌∷◌, ◌++◌, Option, Some, None, Bool, refl, sym, ap, ◌∙◌, subst, take, drop, length, true, false, suc, get_or, length-append, append_assoc, arith, ◌-◌, ◌≢◌, inl}
-use Rattle.std.specs.Prelude.{IfSome, map, cond, Result, Ok, unwrap_or, All, option_map, IsSome}
+use Rattle.std.specs.Prelude.{IfSome, map, cond, Result, Ok, Err, unwrap_or, All, option_map}
 use Rattle.std.proofs.Math.Seq.{get_or-append_seam, take-add}
 use Rattle.std.proofs.lemmas.List.{map-append, length-map, take_more, get_or-drop, take-append-drop, drop_more}
 use Rattle.std.proofs.Math.ListN.{get_or-map}
@@ -9,7 +9,7 @@ use Rattle.desk_batches.specs.Stops.{Broken, StoppedAt}
 use Rattle.desk_batches.specs.Works.{files_after, ledger_after, logged, logged_plan, wrote, wrote_plan, Work}
 use Rattle.desk_base.specs.Names.{Text}
 use Rattle.desk_batches.specs.Notes.{IsNoteOf, IsSound, StaysAsNoted}
-use Rattle.desk_batches.specs.declared.noted.Outcome.{Outcome}
+use Rattle.desk_batches.specs.declared.planned.Outcome.{Outcome}
 use Rattle.desk_base.specs.Paths.{full, is_relative_path}
 use Rattle.desk_file.proofs.Treating.{image_routed}
 use Rattle.desk_file.specs.Linked.{image_in}
@@ -19,57 +19,54 @@ use Rattle.desk_rules.specs.Rules.{Rules}
 use Rattle.desk_folders.specs.Contents.{Contents}
 use Rattle.desk_report.specs.declared.lines.Detail.{Detail}
 use Rattle.desk_report.specs.declared.lines.Reason.{Reason}
+use Rattle.desk_report.specs.declared.lines.Reason.TheVariants.{BadLine}
 use Rattle.desk_readings.proofs.Fronts.{split_at}
 use Rattle.desk_batches.proofs.Staying.{OfSource}
 use Rattle.desk_batches.proofs.Steps.{files_after-join, ledger_after-join, one_file_more, one_row_more, stopped_here}
 use Rattle.std.proofs.lemmas.Grind.{common_steps}
 use Rattle.std.proofs.lemmas.List.Sums.{sum_by_push}
 use Rattle.std.specs.List.{sum_by, slice_range}
-use Rattle.desk_batches.specs.Turns.{fitting, weight_of, DidWork, HasItsDigest, SourceStays, bytes_of, image_here, image_noted, image_of_input, input_in, is_migrated, migrated, outcome_of, plan_by, work_by, work_in, work_with, works_in}
+use Rattle.desk_batches.specs.Turns.{fitting, weight_of, DidWork, HasItsDigest, SourceStays, bytes_of, fate_of, image_here, image_noted, image_of_input, input_in, is_migrated, migrated, outcome_of, plan_by, work_by, work_in, work_with, works_in}
 use Rattle.std.proofs.lemmas.List.Elements.{All-cons, All-drop, All-map, All-nil, All-tail, All-take, All-head}
 use Rattle.std.specs.FinMap as fin
 use Rattle.std.proofs.lemmas.Bool.{le-leb}
 use Rattle.desk_base.proofs.Results.{at_some}
-use Rattle.desk_ledger.specs.Digests.{digest}
-use Rattle.desk_batches.specs.declared.inputs.Input.{Input}
-use Rattle.desk_batches.specs.declared.noted.Noted.{Noted}
-use Rattle.desk_batches.specs.declared.noted.Way.{Way}
-use Rattle.desk_batches.specs.declared.noted.Way.TheVariants.{Keep, Migrate, Copy}
+use Rattle.desk_batches.specs.Inputs.{WholeFile}
+use Rattle.desk_batches.specs.declared.planned.PlannedFile.{PlannedFile}
+use Rattle.desk_batches.specs.declared.planned.Action.{Action}
+use Rattle.desk_batches.specs.declared.planned.Action.TheVariants.{Keep, Migrate, Copy}
 
-pub migrated_append : (xs ys : List Noted) → migrated (xs ++ ys) ≡ migrated xs ++ migrated ys
+pub migrated_append : (xs ys : List PlannedFile) → migrated (xs ++ ys) ≡ migrated xs ++ migrated ys
 migrated_append [] ys = refl
-migrated_append (x ∷ xs) ys = ap (λ zs. cond (is_migrated x.way) (x ∷ zs) zs) (migrated_append xs ys) ∙ joined (is_migrated x.way) x (migrated xs) (migrated ys) where
-  joined : (b : Bool) (x : Noted) (front back : List Noted) → cond b (x ∷ (front ++ back)) (front ++ back) ≡ cond b (x ∷ front) front ++ back
+migrated_append (x ∷ xs) ys = ap (λ zs. cond (is_migrated x.action) (x ∷ zs) zs) (migrated_append xs ys) ∙ joined (is_migrated x.action) x (migrated xs) (migrated ys) where
+  joined : (b : Bool) (x : PlannedFile) (front back : List PlannedFile) → cond b (x ∷ (front ++ back)) (front ++ back) ≡ cond b (x ∷ front) front ++ back
   joined true x front back = refl
   joined false x front back = refl
 
-pub migrated_more : (xs : List Noted) (i : ℕ) (x : Noted) → i < length xs → x ≡ get_or xs i x → migrated (take (i + 1) xs) ≡ migrated (take i xs) ++ migrated (x ∷ [])
+pub migrated_more : (xs : List PlannedFile) (i : ℕ) (x : PlannedFile) → i < length xs → x ≡ get_or xs i x → migrated (take (i + 1) xs) ≡ migrated (take i xs) ++ migrated (x ∷ [])
 migrated_more xs i x lt is = ap migrated (take_more xs i x lt ∙ ap (λ z. take i xs ++ z ∷ []) (sym is)) ∙ migrated_append (take i xs) (x ∷ [])
 
 -- one file more was read where it is read whole
-pub inputs_more : (from : List ℕ) (m : Contents) (xs : List Noted) (i : ℕ) (x : Noted) (old new : List Input) → i < length xs → x ≡ get_or xs i x → old ≡ map (input_in from m) (migrated (take i xs))
+pub inputs_more : (from : List ℕ) (m : Contents) (xs : List PlannedFile) (i : ℕ) (x : PlannedFile) (old new : List WholeFile) → i < length xs → x ≡ get_or xs i x → old ≡ map (input_in from m) (migrated (take i xs))
     → new ≡ old ++ map (input_in from m) (migrated (x ∷ [])) → new ≡ map (input_in from m) (migrated (take (i + 1) xs))
 inputs_more from m xs i x old new lt is e f =
     f ∙ ap (λ ys. ys ++ map (input_in from m) (migrated (x ∷ []))) e ∙ sym (map-append (input_in from m) (migrated (take i xs)) (migrated (x ∷ [])))
     ∙ ap (map (input_in from m)) (sym (migrated_more xs i x lt is))
 
-pub routes_more : (xs : List Noted) (i : ℕ) (x : Noted) (old new : List Input) → i < length xs → x ≡ get_or xs i x → map (λ (input : Input). input.route) old ≡ map (λ (x : Noted). x.route) (migrated (take i xs))
-    → map (λ (input : Input). input.route) new ≡ map (λ (input : Input). input.route) old ++ map (λ (x : Noted). x.route) (migrated (x ∷ []))
-    → map (λ (input : Input). input.route) new ≡ map (λ (x : Noted). x.route) (migrated (take (i + 1) xs))
-routes_more xs i x old new lt is e f =
-    f ∙ ap (λ ys. ys ++ map (λ (x : Noted). x.route) (migrated (x ∷ []))) e ∙ sym (map-append (λ (x : Noted). x.route) (migrated (take i xs)) (migrated (x ∷ [])))
-    ∙ ap (map (λ (x : Noted). x.route)) (sym (migrated_more xs i x lt is))
+pub files_more : (xs : List PlannedFile) (i : ℕ) (x : PlannedFile) (old new : List WholeFile) → i < length xs → x ≡ get_or xs i x → map (λ (input : WholeFile). input.file) old ≡ migrated (take i xs)
+    → map (λ (input : WholeFile). input.file) new ≡ map (λ (input : WholeFile). input.file) old ++ migrated (x ∷ []) → map (λ (input : WholeFile). input.file) new ≡ migrated (take (i + 1) xs)
+files_more xs i x old new lt is e f = f ∙ ap (λ ys. ys ++ migrated (x ∷ [])) e ∙ sym (migrated_more xs i x lt is)
 
-pub count_more : (xs : List Noted) (i : ℕ) (x : Noted) (old new : ℕ) → i < length xs → x ≡ get_or xs i x → old ≡ length (migrated (take i xs)) → new ≡ old + length (migrated (x ∷ []))
+pub count_more : (xs : List PlannedFile) (i : ℕ) (x : PlannedFile) (old new : ℕ) → i < length xs → x ≡ get_or xs i x → old ≡ length (migrated (take i xs)) → new ≡ old + length (migrated (x ∷ []))
     → new ≡ length (migrated (take (i + 1) xs))
 count_more xs i x old new lt is e f =
     f ∙ ap (λ n. n + length (migrated (x ∷ []))) e ∙ sym (length-append (migrated (take i xs)) (migrated (x ∷ []))) ∙ ap length (sym (migrated_more xs i x lt is))
 
 -- what holds of files holds of those that are read whole
-pub all_migrated : (P : Noted → Type 0) (xs : List Noted) → All P xs → All P (migrated xs)
+pub all_migrated : (P : PlannedFile → Type 0) (xs : List PlannedFile) → All P xs → All P (migrated xs)
 all_migrated P [] h = All-nil P
-all_migrated P (x ∷ xs) h = one P (is_migrated x.way) x (migrated xs) (All-head P x xs h) (all_migrated P xs (All-tail P x xs h)) where
-  one : (P : Noted → Type 0) (b : Bool) (x : Noted) (ys : List Noted) → P x → All P ys → All P (cond b (x ∷ ys) ys)
+all_migrated P (x ∷ xs) h = one P (is_migrated x.action) x (migrated xs) (All-head P x xs h) (all_migrated P xs (All-tail P x xs h)) where
+  one : (P : PlannedFile → Type 0) (b : Bool) (x : PlannedFile) (ys : List PlannedFile) → P x → All P ys → All P (cond b (x ∷ ys) ys)
   one P true x ys p h = All-cons P x ys p h
   one P false x ys p h = h
 
@@ -78,75 +75,80 @@ noted_same : (bytes : Text) (stays : Option Detail) (made here : Result Image Re
 noted_same bytes None made here e h = sym e
 noted_same bytes (Some detail) made here e h = sym h
 
-images_along : (rules : Rules) (defined : List Text) (from : List ℕ) (m : Contents) (xs : List Noted) → All (λ (x : Noted). IsRouteBy rules x.route) xs → All (StaysAsNoted (image_in rules defined) from m) xs
+images_along : (rules : Rules) (defined : List Text) (from : List ℕ) (m : Contents) (xs : List PlannedFile) → All (λ (x : PlannedFile). IsRouteBy rules x.route) xs → All (StaysAsNoted (image_in rules defined) from m) xs
     → map (image_of_input rules defined) (map (input_in from m) xs) ≡ map (image_here (image_in rules defined) from m) xs
 images_along rules defined from m [] h k = refl
 images_along rules defined from m (x ∷ xs) h k =
-    let along = image_routed rules defined x.route (bytes_of from m x) (All-head (λ (x : Noted). IsRouteBy rules x.route) x xs h) in
+    let along = image_routed rules defined x.route (bytes_of from m x) (All-head (λ (x : PlannedFile). IsRouteBy rules x.route) x xs h) in
     let here = noted_same (bytes_of from m x) x.stays (image_along rules defined x.route (bytes_of from m x)) (image_here (image_in rules defined) from m x) along (All-head (StaysAsNoted (image_in rules defined) from m) x xs k) in
     ap (λ y. y ∷ map (image_of_input rules defined) (map (input_in from m) xs)) here
     ∙ ap (λ ys. image_here (image_in rules defined) from m x ∷ ys)
-    (images_along rules defined from m xs (All-tail (λ (x : Noted). IsRouteBy rules x.route) x xs h) (All-tail (StaysAsNoted (image_in rules defined) from m) x xs k))
+    (images_along rules defined from m xs (All-tail (λ (x : PlannedFile). IsRouteBy rules x.route) x xs h) (All-tail (StaysAsNoted (image_in rules defined) from m) x xs k))
 
 -- the images of what was read
-pub images_read : (rules : Rules) (defined : List Text) (from : List ℕ) (m : Contents) (xs : List Noted) (inputs : List Input) (images : List (Result Image Reason)) → All (λ (x : Noted). IsRouteBy rules x.route) xs
+pub images_read : (rules : Rules) (defined : List Text) (from : List ℕ) (m : Contents) (xs : List PlannedFile) (inputs : List WholeFile) (images : List (Result Image Reason)) → All (λ (x : PlannedFile). IsRouteBy rules x.route) xs
     → All (StaysAsNoted (image_in rules defined) from m) xs → inputs ≡ map (input_in from m) (migrated xs) → images ≡ map (image_of_input rules defined) inputs → images ≡ map (image_here (image_in rules defined) from m) (migrated xs)
 images_read rules defined from m xs inputs images h k read made =
     made ∙ ap (map (image_of_input rules defined)) read
-    ∙ images_along rules defined from m (migrated xs) (all_migrated (λ (x : Noted). IsRouteBy rules x.route) xs h) (all_migrated (StaysAsNoted (image_in rules defined) from m) xs k)
+    ∙ images_along rules defined from m (migrated xs) (all_migrated (λ (x : PlannedFile). IsRouteBy rules x.route) xs h) (all_migrated (StaysAsNoted (image_in rules defined) from m) xs k)
 
 -- as many were read as are read whole
-pub inputs_counted : (inputs : List Input) (xs : List Noted) → map (λ (input : Input). input.route) inputs ≡ map (λ (x : Noted). x.route) xs → length inputs ≡ length xs
-inputs_counted inputs xs e = sym (length-map inputs (λ (input : Input). input.route)) ∙ ap length e ∙ length-map xs (λ (x : Noted). x.route)
+pub inputs_counted : (inputs : List WholeFile) (xs : List PlannedFile) → map (λ (input : WholeFile). input.file) inputs ≡ xs → length inputs ≡ length xs
+inputs_counted inputs xs e = sym (length-map inputs (λ (input : WholeFile). input.file)) ∙ ap length e
 
 -- what is read of files of which this was noted has the digest that was noted
-pub digests_read : (from : List ℕ) (m : Contents) (xs : List Noted) → All (IsNoteOf from m) xs → All HasItsDigest (map (input_in from m) (migrated xs))
+pub digests_read : (from : List ℕ) (m : Contents) (xs : List PlannedFile) → All (IsNoteOf from m) xs → All HasItsDigest (map (input_in from m) (migrated xs))
 digests_read from m xs h =
-    All-map HasItsDigest (input_in from m) (migrated xs) (all_migrated (λ (x : Noted). HasItsDigest (input_in from m x)) xs (λ k d lt. sym (h k d lt).digest))
+    All-map HasItsDigest (input_in from m) (migrated xs) (all_migrated (λ (x : PlannedFile). HasItsDigest (input_in from m x)) xs (λ k d lt. sym (h k d lt).digest))
 
 -- no more files are read whole than there are
-pub migrated_short : (xs : List Noted) → length (migrated xs) ≤ length xs
+pub migrated_short : (xs : List PlannedFile) → length (migrated xs) ≤ length xs
 migrated_short [] = omega arith
-migrated_short (x ∷ xs) = let h = migrated_short xs in short (is_migrated x.way) x (migrated xs) (length xs) h where
-  short : (b : Bool) (x : Noted) (ys : List Noted) (n : ℕ) → length ys ≤ n → length (cond b (x ∷ ys) ys) ≤ suc n
+migrated_short (x ∷ xs) = let h = migrated_short xs in short (is_migrated x.action) x (migrated xs) (length xs) h where
+  short : (b : Bool) (x : PlannedFile) (ys : List PlannedFile) (n : ℕ) → length ys ≤ n → length (cond b (x ∷ ys) ys) ≤ suc n
   short true x ys n h = omega arith
   short false x ys n h = omega arith
 
-migrated_head : (x : Noted) (xs : List Noted) → is_migrated x.way ≡ true → migrated (x ∷ xs) ≡ x ∷ migrated xs
+migrated_head : (x : PlannedFile) (xs : List PlannedFile) → is_migrated x.action ≡ true → migrated (x ∷ xs) ≡ x ∷ migrated xs
 migrated_head x xs h = ap (λ b. cond b (x ∷ migrated xs) (migrated xs)) h
 
-migrated_split : (xs : List Noted) (i : ℕ) (x : Noted) → i < length xs → x ≡ get_or xs i x → is_migrated x.way ≡ true → migrated xs ≡ migrated (take i xs) ++ x ∷ migrated (drop (suc i) xs)
+migrated_split : (xs : List PlannedFile) (i : ℕ) (x : PlannedFile) → i < length xs → x ≡ get_or xs i x → is_migrated x.action ≡ true → migrated xs ≡ migrated (take i xs) ++ x ∷ migrated (drop (suc i) xs)
 migrated_split xs i x lt is h =
     ap migrated (split_at xs i x lt is) ∙ migrated_append (take i xs) (x ∷ drop (suc i) xs) ∙ ap (λ ys. migrated (take i xs) ++ ys) (migrated_head x (drop (suc i) xs) h)
 
 -- a file that is read whole has its image at its place among these
-pub image_found : {Y : Type 0} (f : Noted → Y) (images : List Y) (xs : List Noted) (i next : ℕ) (x : Noted) (d : Y) → i < length xs → x ≡ get_or xs i x → next ≡ length (migrated (take i xs)) → images ≡ map f (migrated xs)
-    → is_migrated x.way ≡ true → get_or images next d ≡ f x
+pub image_found : {Y : Type 0} (f : PlannedFile → Y) (images : List Y) (xs : List PlannedFile) (i next : ℕ) (x : PlannedFile) (d : Y) → i < length xs → x ≡ get_or xs i x → next ≡ length (migrated (take i xs)) → images ≡ map f (migrated xs)
+    → is_migrated x.action ≡ true → get_or images next d ≡ f x
 image_found f images xs i next x d lt is at e h =
     ap (λ ys. get_or ys next d) (e ∙ ap (map f) (migrated_split xs i x lt is h) ∙ map-append f (migrated (take i xs)) (x ∷ migrated (drop (suc i) xs)))
     ∙ ap (λ n. get_or (map f (migrated (take i xs)) ++ f x ∷ map f (migrated (drop (suc i) xs))) n d) (at ∙ sym (length-map (migrated (take i xs)) f))
     ∙ get_or-append_seam (map f (migrated (take i xs))) (f x) (map f (migrated (drop (suc i) xs))) d
 
 -- and there is one
-pub image_there : (xs : List Noted) (i next count : ℕ) (x : Noted) → i < length xs → x ≡ get_or xs i x → next ≡ length (migrated (take i xs)) → count ≡ length (migrated xs) → is_migrated x.way ≡ true → next < count
+pub image_there : (xs : List PlannedFile) (i next count : ℕ) (x : PlannedFile) → i < length xs → x ≡ get_or xs i x → next ≡ length (migrated (take i xs)) → count ≡ length (migrated xs) → is_migrated x.action ≡ true → next < count
 image_there xs i next count x lt is at all h =
     let e = ap length (migrated_split xs i x lt is h) in
     let f = length-append (migrated (take i xs)) (x ∷ migrated (drop (suc i) xs)) in
     omega (arith, at, all, e, f)
 
-plan_same : (way : Way) (bytes : List ℕ) (a b : Result Image Reason) → (is_migrated way ≡ true → a ≡ b) → plan_by way bytes a ≡ plan_by way bytes b
+-- so that is what is found there
+pub fate_found : (f : PlannedFile → Result Image Reason) (images : List (Result Image Reason)) (xs : List PlannedFile) (i next : ℕ) (x : PlannedFile) (found : Option (Result Image Reason)) → i < length xs → x ≡ get_or xs i x
+    → next ≡ length (migrated (take i xs)) → images ≡ map f (migrated xs) → ((d : Result Image Reason) → unwrap_or found d ≡ get_or images next d) → is_migrated x.action ≡ true → fate_of found ≡ f x
+fate_found f images xs i next x found lt is at e got h = got (Err (BadLine 0)) ∙ image_found f images xs i next x (Err (BadLine 0)) lt is at e h
+
+plan_same : (action : Action) (bytes : List ℕ) (a b : Result Image Reason) → (is_migrated action ≡ true → a ≡ b) → plan_by action bytes a ≡ plan_by action bytes b
 plan_same Keep bytes a b h = refl
 plan_same (Migrate found) bytes a b h = ap (plan_by (Migrate found) bytes) (h refl)
 plan_same (Copy found) bytes a b h = refl
 
 -- what is said of a work by what stands there now is said of it by what stood there before
-pub work_here : (P : Work → Type 0) (image : Text → Text → Result Image Reason) (from : List ℕ) (f now : Option Contents) (m : Contents) (noted : Noted) (fate : Result Image Reason) → f ≡ Some m → SourceStays from f now
-    → is_relative_path noted.route.path ≡ true → (is_migrated noted.way ≡ true → fate ≡ image_here image from m noted) → IfSome now (λ n. P (work_by noted (bytes_of from n noted) fate)) → P (work_in image from m noted)
-work_here P image from f now m noted fate e s relative same h =
+pub work_here : (P : Work → Type 0) (image : Text → Text → Result Image Reason) (from : List ℕ) (f now : Option Contents) (m : Contents) (file : PlannedFile) (fate : Result Image Reason) → f ≡ Some m → SourceStays from f now
+    → is_relative_path file.route.path ≡ true → (is_migrated file.action ≡ true → fate ≡ image_here image from m file) → IfSome now (λ n. P (work_by file (bytes_of from n file) fate)) → P (work_in image from m file)
+work_here P image from f now m file fate e s relative same h =
     let later = s.told m e in
-    let bytes : bytes_of from later.m' noted ≡ bytes_of from m noted = ap (λ o. unwrap_or o []) (later.same noted.route.path relative) in
-    let there = at_some (λ n. P (work_by noted (bytes_of from n noted) fate)) now later.m' later.is h in
-    subst P (ap (λ b. work_by noted b fate) bytes ∙ ap (work_with noted) (plan_same noted.way (bytes_of from m noted) fate (image_here image from m noted) same)) there
+    let bytes : bytes_of from later.m' file ≡ bytes_of from m file = ap (λ o. unwrap_or o []) (later.same file.route.path relative) in
+    let there = at_some (λ n. P (work_by file (bytes_of from n file) fate)) now later.m' later.is h in
+    subst P (ap (λ b. work_by file b fate) bytes ∙ ap (work_with file) (plan_same file.action (bytes_of from m file) fate (image_here image from m file) same)) there
 
 at_place : {X Y : Type 0} (f : X → Y) (xs : List X) (i : ℕ) (x : X) → x ≡ get_or xs i x → f x ≡ get_or (map f xs) i (f x)
 at_place f xs i x is = ap f is ∙ sym (get_or-map f xs i x)
@@ -155,8 +157,8 @@ in_map : {X Y : Type 0} (f : X → Y) (xs : List X) (i : ℕ) → i < length xs 
 in_map f xs i lt = subst (λ n. i < n) (sym (length-map xs f)) lt
 
 -- one file more is done to the folder
-pub folder_more : (to : List ℕ) (image : Text → Text → Result Image Reason) (from : List ℕ) (m : Contents) (xs : List Noted) (i : ℕ) (x : Noted) (fate : Result Image Reason) (f now new : Option Contents) (k k' : Option Ledger)
-    → f ≡ Some m → SourceStays from f now → is_relative_path x.route.path ≡ true → i < length xs → x ≡ get_or xs i x → (is_migrated x.way ≡ true → fate ≡ image_here image from m x)
+pub folder_more : (to : List ℕ) (image : Text → Text → Result Image Reason) (from : List ℕ) (m : Contents) (xs : List PlannedFile) (i : ℕ) (x : PlannedFile) (fate : Result Image Reason) (f now new : Option Contents) (k k' : Option Ledger)
+    → f ≡ Some m → SourceStays from f now → is_relative_path x.route.path ≡ true → i < length xs → x ≡ get_or xs i x → (is_migrated x.action ≡ true → fate ≡ image_here image from m x)
     → now ≡ option_map (files_after to (take i (works_in image from m xs))) f → IfSome now (λ n. DidWork to (work_by x (bytes_of from n x) fate) now new k k')
     → new ≡ option_map (files_after to (take (i + 1) (works_in image from m xs))) f
 folder_more to image from m xs i x fate f now new k k' e s relative lt is same before did =
@@ -166,8 +168,8 @@ folder_more to image from m xs i x fate f now new k k' e s relative lt is same b
       mapped None g h = tt
       mapped (Some n) g h = g n h
 
-pub ledger_more : (to : List ℕ) (image : Text → Text → Result Image Reason) (from : List ℕ) (m : Contents) (xs : List Noted) (i : ℕ) (x : Noted) (fate : Result Image Reason) (f now new : Option Contents) (k know knew : Option Ledger)
-    → f ≡ Some m → SourceStays from f now → is_relative_path x.route.path ≡ true → i < length xs → x ≡ get_or xs i x → (is_migrated x.way ≡ true → fate ≡ image_here image from m x)
+pub ledger_more : (to : List ℕ) (image : Text → Text → Result Image Reason) (from : List ℕ) (m : Contents) (xs : List PlannedFile) (i : ℕ) (x : PlannedFile) (fate : Result Image Reason) (f now new : Option Contents) (k know knew : Option Ledger)
+    → f ≡ Some m → SourceStays from f now → is_relative_path x.route.path ≡ true → i < length xs → x ≡ get_or xs i x → (is_migrated x.action ≡ true → fate ≡ image_here image from m x)
     → know ≡ option_map (ledger_after (take i (works_in image from m xs))) k → IfSome now (λ n. DidWork to (work_by x (bytes_of from n x) fate) now new know knew)
     → knew ≡ option_map (ledger_after (take (i + 1) (works_in image from m xs))) k
 ledger_more to image from m xs i x fate f now new k know knew e s relative lt is same before did =
@@ -178,21 +180,21 @@ ledger_more to image from m xs i x fate f now new k know knew e s relative lt is
       mapped (Some n) g h = g n h
 
 -- and is told
-pub outcome_more : (image : Text → Text → Result Image Reason) (from : List ℕ) (m : Contents) (xs : List Noted) (i : ℕ) (x : Noted) (fate : Result Image Reason) (f now : Option Contents) (first old new : List Outcome) (outcome : Outcome)
-    → f ≡ Some m → SourceStays from f now → is_relative_path x.route.path ≡ true → i < length xs → x ≡ get_or xs i x → (is_migrated x.way ≡ true → fate ≡ image_here image from m x)
-    → old ≡ first ++ map outcome_of (take i (works_in image from m xs)) → IfSome now (λ n. outcome ≡ outcome_of (work_by x (bytes_of from n x) fate)) → new ≡ old ++ outcome ∷ []
-    → new ≡ first ++ map outcome_of (take (i + 1) (works_in image from m xs))
-outcome_more image from m xs i x fate f now first old new outcome e s relative lt is same before told grown =
+pub outcome_more : (image : Text → Text → Result Image Reason) (from : List ℕ) (m : Contents) (xs : List PlannedFile) (i : ℕ) (x : PlannedFile) (fate : Result Image Reason) (f now : Option Contents) (old new : List Outcome) (outcome : Outcome)
+    → f ≡ Some m → SourceStays from f now → is_relative_path x.route.path ≡ true → i < length xs → x ≡ get_or xs i x → (is_migrated x.action ≡ true → fate ≡ image_here image from m x)
+    → old ≡ map outcome_of (take i (works_in image from m xs)) → IfSome now (λ n. outcome ≡ outcome_of (work_by x (bytes_of from n x) fate)) → new ≡ old ++ outcome ∷ []
+    → new ≡ map outcome_of (take (i + 1) (works_in image from m xs))
+outcome_more image from m xs i x fate f now old new outcome e s relative lt is same before told grown =
     let work = work_in image from m x in
     let works = works_in image from m xs in
-    grown ∙ ap (λ ys. ys ++ outcome ∷ []) before ∙ append_assoc first (map outcome_of (take i works)) (outcome ∷ [])
-    ∙ ap (λ ys. first ++ ys) (ap (λ y. map outcome_of (take i works) ++ y ∷ []) (work_here (λ work. outcome ≡ outcome_of work) image from f now m x fate e s relative same told)
+    grown ∙ ap (λ ys. ys ++ outcome ∷ []) before
+    ∙ ap (λ y. map outcome_of (take i works) ++ y ∷ []) (work_here (λ work. outcome ≡ outcome_of work) image from f now m x fate e s relative same told)
     ∙ sym (map-append outcome_of (take i works) (work ∷ []))
-    ∙ ap (map outcome_of) (ap (λ w. take i works ++ w ∷ []) (at_place (work_in image from m) xs i x is) ∙ sym (take_more works i work (in_map (work_in image from m) xs i lt))))
+    ∙ ap (map outcome_of) (ap (λ w. take i works ++ w ∷ []) (at_place (work_in image from m) xs i x is) ∙ sym (take_more works i work (in_map (work_in image from m) xs i lt)))
 
 -- a stop at one file
-pub stopped_file : (to : List ℕ) (image : Text → Text → Result Image Reason) (from : List ℕ) (m : Contents) (xs : List Noted) (i : ℕ) (x : Noted) (fate : Result Image Reason) (f now new : Option Contents) (k know knew : Option Ledger)
-    → f ≡ Some m → SourceStays from f now → is_relative_path x.route.path ≡ true → i < length xs → x ≡ get_or xs i x → (is_migrated x.way ≡ true → fate ≡ image_here image from m x)
+pub stopped_file : (to : List ℕ) (image : Text → Text → Result Image Reason) (from : List ℕ) (m : Contents) (xs : List PlannedFile) (i : ℕ) (x : PlannedFile) (fate : Result Image Reason) (f now new : Option Contents) (k know knew : Option Ledger)
+    → f ≡ Some m → SourceStays from f now → is_relative_path x.route.path ≡ true → i < length xs → x ≡ get_or xs i x → (is_migrated x.action ≡ true → fate ≡ image_here image from m x)
     → now ≡ option_map (files_after to (take i (works_in image from m xs))) f → know ≡ option_map (ledger_after (take i (works_in image from m xs))) k
     → IfSome now (λ n. Broken to (work_by x (bytes_of from n x) fate) now new know knew) → StoppedAt to (works_in image from m xs) i f new k knew
 stopped_file to image from m xs i x fate f now new k know knew e s relative lt is same before rows broken =
@@ -200,11 +202,11 @@ stopped_file to image from m xs i x fate f now new k know knew e s relative lt i
     (work_here (λ work. Broken to work now new know knew) image from f now m x fate e s relative same broken)
 
 -- what was noted of one of the files
-pub note_of : (from : List ℕ) (f : Option Contents) (xs : List Noted) (i : ℕ) (x : Noted) → i < length xs → x ≡ get_or xs i x → IfSome f (λ m. All (IsNoteOf from m) xs) → IfSome f (λ m. IsNoteOf from m x)
+pub note_of : (from : List ℕ) (f : Option Contents) (xs : List PlannedFile) (i : ℕ) (x : PlannedFile) → i < length xs → x ≡ get_or xs i x → IfSome f (λ m. All (IsNoteOf from m) xs) → IfSome f (λ m. IsNoteOf from m x)
 note_of from None xs i x lt is h = tt
 note_of from (Some m) xs i x lt is h = subst (IsNoteOf from m) (sym is) (h i x lt)
 
-pub sound_of : (xs : List Noted) (i : ℕ) (x : Noted) → i < length xs → x ≡ get_or xs i x → All IsSound xs → IsSound x
+pub sound_of : (xs : List PlannedFile) (i : ℕ) (x : PlannedFile) → i < length xs → x ≡ get_or xs i x → All IsSound xs → IsSound x
 sound_of xs i x lt is h = subst IsSound (sym is) (h i x lt)
 
 pub no_file : (to : List ℕ) (o : Option Contents) → o ≡ option_map (files_after to []) o
@@ -216,7 +218,7 @@ no_row None = refl
 no_row (Some l) = refl
 
 -- works are the same by what stands there now
-pub works_same : (image : Text → Text → Result Image Reason) (from : List ℕ) (m n : Contents) (xs : List Noted) → ((path : List ℕ) → is_relative_path path ≡ true → fin.get n (full from path) ≡ fin.get m (full from path)) → All IsSound xs
+pub works_same : (image : Text → Text → Result Image Reason) (from : List ℕ) (m n : Contents) (xs : List PlannedFile) → ((path : List ℕ) → is_relative_path path ≡ true → fin.get n (full from path) ≡ fin.get m (full from path)) → All IsSound xs
     → works_in image from n xs ≡ works_in image from m xs
 works_same image from m n [] same h = refl
 works_same image from m n (x ∷ xs) same h =
@@ -224,25 +226,25 @@ works_same image from m n (x ∷ xs) same h =
     ∙ ap (λ ws. work_in image from m x ∷ ws) (works_same image from m n xs same (All-tail IsSound x xs h))
 
 -- what holds by what stands there now
-pub by_now : (P : List Work → Type 0) (image : Text → Text → Result Image Reason) (from : List ℕ) (f now : Option Contents) (m : Contents) (xs : List Noted) → f ≡ Some m → SourceStays from f now → All IsSound xs
+pub by_now : (P : List Work → Type 0) (image : Text → Text → Result Image Reason) (from : List ℕ) (f now : Option Contents) (m : Contents) (xs : List PlannedFile) → f ≡ Some m → SourceStays from f now → All IsSound xs
     → IfSome now (λ n. P (works_in image from n xs)) → P (works_in image from m xs)
 by_now P image from f now m xs e s sound h =
     let later = s.told m e in
     subst P (works_same image from m later.m' xs later.same sound) (at_some (λ n. P (works_in image from n xs)) now later.m' later.is h)
 
 -- what was noted stays true
-pub notes_now : (P : Text → Contents → Noted → Type 0) (from : List ℕ) (f now : Option Contents) (xs : List Noted) → OfSource P → SourceStays from f now → All IsSound xs → IfSome f (λ m. All (P from m) xs) → IfSome now (λ m. All (P from m) xs)
+pub notes_now : (P : Text → Contents → PlannedFile → Type 0) (from : List ℕ) (f now : Option Contents) (xs : List PlannedFile) → OfSource P → SourceStays from f now → All IsSound xs → IfSome f (λ m. All (P from m) xs) → IfSome now (λ m. All (P from m) xs)
 notes_now P from None now xs keeps s sound h = subst (λ o. IfSome o (λ m. All (P from m) xs)) (sym (s.untold refl)) tt
 notes_now P from (Some m) now xs keeps s sound h =
     let later = s.told m refl in
     subst (λ o. IfSome o (λ m. All (P from m) xs)) (sym later.is) (λ k d lt. keeps from m later.m' (get_or xs k d) (later.same (get_or xs k d).route.path (sound k d lt).path) (h k d lt))
 
 -- and of some of the files
-pub notes_part : (P : Contents → Noted → Type 0) (f : Option Contents) (xs : List Noted) (a b : ℕ) → IfSome f (λ m. All (P m) xs) → IfSome f (λ m. All (P m) (slice_range xs a b))
+pub notes_part : (P : Contents → PlannedFile → Type 0) (f : Option Contents) (xs : List PlannedFile) (a b : ℕ) → IfSome f (λ m. All (P m) xs) → IfSome f (λ m. All (P m) (slice_range xs a b))
 notes_part P None xs a b h = tt
 notes_part P (Some m) xs a b h = All-take (P m) (b - a) (drop a xs) (All-drop (P m) a xs h)
 
-pub sound_part : (xs : List Noted) (a b : ℕ) → All IsSound xs → All IsSound (slice_range xs a b)
+pub sound_part : (xs : List PlannedFile) (a b : ℕ) → All IsSound xs → All IsSound (slice_range xs a b)
 sound_part xs a b h = All-take IsSound (b - a) (drop a xs) (All-drop IsSound a xs h)
 
 -- a front and the batch behind it
@@ -278,7 +280,7 @@ stopped_later to works first more last done f now new k know knew e d h s = reco
 }
 
 -- a stop before the first of some files
-pub stopped_first : (to : List ℕ) (image : Text → Text → Result Image Reason) (from : List ℕ) (m : Contents) (xs : List Noted) (f f' : Option Contents) (k k' : Option Ledger) → 0 < length xs → f' ≡ f → k' ≡ k
+pub stopped_first : (to : List ℕ) (image : Text → Text → Result Image Reason) (from : List ℕ) (m : Contents) (xs : List PlannedFile) (f f' : Option Contents) (k k' : Option Ledger) → 0 < length xs → f' ≡ f → k' ≡ k
     → StoppedAt to (works_in image from m xs) 0 f f' k k'
 stopped_first to image from m [] f f' k k' lt e h = absurd (omega arith)
 stopped_first to image from m (x ∷ xs) f f' k k' lt e h = record {
@@ -300,12 +302,12 @@ range_more xs a b x le lt is =
       behind : {X : Type 0} (xs : List X) (a b : ℕ) → a ≤ b → b < length xs → b - a < length (drop a xs)
       behind xs a b le lt = grind (arith, common_steps)
 
-pub weighs_more : (xs : List Noted) (a b sum weight : ℕ) (x : Noted) → a ≤ b → b < length xs → x ≡ get_or xs b x → sum ≡ sum_by weight_of (slice_range xs a b) → weight ≡ weight_of x
+pub weighs_more : (xs : List PlannedFile) (a b sum weight : ℕ) (x : PlannedFile) → a ≤ b → b < length xs → x ≡ get_or xs b x → sum ≡ sum_by weight_of (slice_range xs a b) → weight ≡ weight_of x
     → sum + weight ≡ sum_by weight_of (slice_range xs a (b + 1))
 weighs_more xs a b sum weight x le lt is e w =
     ap (λ n. n + weight) e ∙ ap (λ n. sum_by weight_of (slice_range xs a b) + n) w ∙ sym (sum_by_push weight_of (slice_range xs a b) x) ∙ ap (sum_by weight_of) (sym (range_more xs a b x le lt is))
 
-pub weighs_none : (xs : List Noted) (a : ℕ) → 0 ≡ sum_by weight_of (slice_range xs a a)
+pub weighs_none : (xs : List PlannedFile) (a : ℕ) → 0 ≡ sum_by weight_of (slice_range xs a a)
 weighs_none xs a = let e : a - a ≡ 0 = omega arith in ap (λ n. sum_by weight_of (take n (drop a xs))) (sym e)
 
 -- the whole is a front, a batch behind it, and the rest
@@ -323,53 +325,53 @@ pub some_left : (n : ℕ) → n ≢ 0 → 0 < n
 some_left n h = grind arith
 
 -- what is left of a batch's room, with one file more
-pub room_more : (xs : List Noted) (all a b room weight new : ℕ) (x : Noted) → a ≤ b → b < length xs → x ≡ get_or xs b x → room + sum_by weight_of (slice_range xs a b) ≡ all → weight ≡ weight_of x
+pub room_more : (xs : List PlannedFile) (all a b room weight new : ℕ) (x : PlannedFile) → a ≤ b → b < length xs → x ≡ get_or xs b x → room + sum_by weight_of (slice_range xs a b) ≡ all → weight ≡ weight_of x
     → weight ≤ room → new ≡ room - weight → new + sum_by weight_of (slice_range xs a (b + 1)) ≡ all
 room_more xs all a b room weight new x le lt is e w fits n =
     let more = weighs_more xs a b (sum_by weight_of (slice_range xs a b)) weight x le lt is refl w in
     omega (arith, more, e, fits, n)
 
-pub room_first : (xs : List Noted) (a all : ℕ) → all + sum_by weight_of (slice_range xs a a) ≡ all
+pub room_first : (xs : List PlannedFile) (a all : ℕ) → all + sum_by weight_of (slice_range xs a a) ≡ all
 room_first xs a all = let none = weighs_none xs a in omega (arith, none)
 
-fitting_on : (room : ℕ) (x : Noted) (xs : List Noted) → weight_of x ≤ room → fitting room (x ∷ xs) ≡ fitting (room - weight_of x) xs + 1
+fitting_on : (room : ℕ) (x : PlannedFile) (xs : List PlannedFile) → weight_of x ≤ room → fitting room (x ∷ xs) ≡ fitting (room - weight_of x) xs + 1
 fitting_on room x xs fits = ap (λ b. cond b (fitting (room - weight_of x) xs + 1) 0) (le-leb (weight_of x) room fits)
 
-dropped_at : (xs : List Noted) (i : ℕ) (x : Noted) → i < length xs → x ≡ get_or xs i x → drop i xs ≡ x ∷ drop (i + 1) xs
+dropped_at : (xs : List PlannedFile) (i : ℕ) (x : PlannedFile) → i < length xs → x ≡ get_or xs i x → drop i xs ≡ x ∷ drop (i + 1) xs
 dropped_at xs i x lt is = drop_more xs i x lt ∙ ap (λ y. y ∷ drop (i + 1) xs) (sym is)
 
 -- one file more fits
-pub fits_more : (xs : List Noted) (i room weight new : ℕ) (x : Noted) (all : ℕ) → i < length xs → x ≡ get_or xs i x → weight ≡ weight_of x → weight ≤ room → new ≡ room - weight
+pub fits_more : (xs : List PlannedFile) (i room weight new : ℕ) (x : PlannedFile) (all : ℕ) → i < length xs → x ≡ get_or xs i x → weight ≡ weight_of x → weight ≤ room → new ≡ room - weight
     → i + fitting room (drop i xs) ≡ all → (i + 1) + fitting new (drop (i + 1) xs) ≡ all
 fits_more xs i room weight new x all lt is w fits n e =
     let here = ap (fitting room) (dropped_at xs i x lt is) ∙ fitting_on room x (drop (i + 1) xs) (omega (arith, w, fits)) in
     let same : fitting (room - weight_of x) (drop (i + 1) xs) ≡ fitting new (drop (i + 1) xs) = ap (λ k. fitting k (drop (i + 1) xs)) (omega (arith, n, w)) in
     omega (arith, here, same, e)
 
-keep_file : (to : List ℕ) (image : Text → Text → Result Image Reason) (from : List ℕ) (m n : Contents) (x : Noted) → x.way ≡ Keep → wrote to (work_in image from m x) n ≡ n
+keep_file : (to : List ℕ) (image : Text → Text → Result Image Reason) (from : List ℕ) (m n : Contents) (x : PlannedFile) → x.action ≡ Keep → wrote to (work_in image from m x) n ≡ n
 keep_file to image from m n x e = ap (λ w. wrote_plan (full to x.route.target) (plan_by w (bytes_of from m x) (image_here image from m x)) n) e
 
-keep_row : (image : Text → Text → Result Image Reason) (from : List ℕ) (m : Contents) (l : Ledger) (x : Noted) → x.way ≡ Keep → logged (work_in image from m x) l ≡ l
+keep_row : (image : Text → Text → Result Image Reason) (from : List ℕ) (m : Contents) (l : Ledger) (x : PlannedFile) → x.action ≡ Keep → logged (work_in image from m x) l ≡ l
 keep_row image from m l x e = ap (λ w. logged_plan x.route.target x.route.path x.digest (plan_by w (bytes_of from m x) (image_here image from m x)) l) e
 
-pass_files : (to : List ℕ) (image : Text → Text → Result Image Reason) (from : List ℕ) (m : Contents) (x : Noted) (before : List Work) (f : Option Contents) → x.way ≡ Keep
+pass_files : (to : List ℕ) (image : Text → Text → Result Image Reason) (from : List ℕ) (m : Contents) (x : PlannedFile) (before : List Work) (f : Option Contents) → x.action ≡ Keep
     → option_map (files_after to before) f ≡ option_map (files_after to (work_in image from m x ∷ before)) f
 pass_files to image from m x before None e = refl
 pass_files to image from m x before (Some n) e = ap (λ o. Some (files_after to before o)) (sym (keep_file to image from m n x e))
 
-pass_rows : (image : Text → Text → Result Image Reason) (from : List ℕ) (m : Contents) (x : Noted) (before : List Work) (k : Option Ledger) → x.way ≡ Keep
+pass_rows : (image : Text → Text → Result Image Reason) (from : List ℕ) (m : Contents) (x : PlannedFile) (before : List Work) (k : Option Ledger) → x.action ≡ Keep
     → option_map (ledger_after before) k ≡ option_map (ledger_after (work_in image from m x ∷ before)) k
 pass_rows image from m x before None e = refl
 pass_rows image from m x before (Some l) e = ap (λ o. Some (ledger_after before o)) (sym (keep_row image from m l x e))
 
 -- a stop behind files that are kept
-pub stopped_kept : (to : List ℕ) (image : Text → Text → Result Image Reason) (from : List ℕ) (m : Contents) (xs : List Noted) (i : ℕ) (f f' : Option Contents) (k k' : Option Ledger) → i < length xs
-    → All (λ (x : Noted). x.way ≡ Keep) (take i xs) → f' ≡ f → k' ≡ k → StoppedAt to (works_in image from m xs) i f f' k k'
+pub stopped_kept : (to : List ℕ) (image : Text → Text → Result Image Reason) (from : List ℕ) (m : Contents) (xs : List PlannedFile) (i : ℕ) (f f' : Option Contents) (k k' : Option Ledger) → i < length xs
+    → All (λ (x : PlannedFile). x.action ≡ Keep) (take i xs) → f' ≡ f → k' ≡ k → StoppedAt to (works_in image from m xs) i f f' k k'
 stopped_kept to image from m [] i f f' k k' lt kept e h = absurd (omega arith)
 stopped_kept to image from m (x ∷ xs) zero f f' k k' lt kept e h = stopped_first to image from m (x ∷ xs) f f' k k' (omega arith) e h
 stopped_kept to image from m (x ∷ xs) (suc i) f f' k k' lt kept e h =
-    let s = stopped_kept to image from m xs i f f' k k' (omega arith) (All-tail (λ (x : Noted). x.way ≡ Keep) x (take i xs) kept) e h in
-    let here = All-head (λ (x : Noted). x.way ≡ Keep) x (take i xs) kept in
+    let s = stopped_kept to image from m xs i f f' k k' (omega arith) (All-tail (λ (x : PlannedFile). x.action ≡ Keep) x (take i xs) kept) e h in
+    let here = All-head (λ (x : PlannedFile). x.action ≡ Keep) x (take i xs) kept in
     record {
       before = work_in image from m x ∷ s.before;
       work = s.work;

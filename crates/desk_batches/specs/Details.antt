@@ -4,11 +4,11 @@ use Rattle.desk_readings.specs.declared.measured.ClassNote.{ClassNote}
 use Rattle.desk_readings.specs.declared.measured.ClassNote.TheVariants.{NoClass, Changes, Stays}
 use Rattle.desk_report.specs.declared.lines.Detail.{Detail}
 use Rattle.desk_report.specs.declared.lines.Detail.TheVariants as detail
-use Rattle.desk_batches.specs.declared.noted.Noted.{Noted}
+use Rattle.desk_batches.specs.declared.planned.PlannedFile.{PlannedFile}
 
 -- a file that was noted, without what it is known to become
-abbrev pub bare : Noted → Noted
-bare noted = record { route = noted.route; size = noted.size; digest = noted.digest; stays = None; way = noted.way }
+abbrev pub bare : PlannedFile → PlannedFile
+bare file = record { route = file.route; size = file.size; digest = file.digest; class = file.class; stays = None; action = file.action }
 
 -- Of a file, the detail of its image where it is a class in which nothing changes. Where it is a class, the first of these numbers
 -- says how many defined names it holds.
@@ -29,5 +29,5 @@ abbrev pub details_of : List ClassNote → List ℕ → List (Option Detail)
 details_of [] counts = []
 details_of (note ∷ notes) counts = detail_with note counts ∷ details_of notes (counts_behind note counts)
 
-abbrev pub stays_in : List Noted → List (Option Detail)
-stays_in = map (λ (noted : Noted). noted.stays)
+abbrev pub stays_in : List PlannedFile → List (Option Detail)
+stays_in = map (λ (file : PlannedFile). file.stays)

@@ -10,19 +10,18 @@ ghost use Rattle.desk_batches.specs.Stops.{HasCause, StoppedAt};
 ghost use Rattle.desk_batches.specs.Fresh.{IsNotKept, StopsAtFresh};
 ghost use Rattle.desk_batches.specs.Turns.{SourceStays, fitting, image_here, migrated, outcome_of, weight_of, works_in};
 ghost use Rattle.desk_batches.specs.Works.{files_after, ledger_after};
+ghost use Rattle.desk_batches.specs.declared.stops.Stop.TheVariants as stop;
 ghost use Rattle.desk_words.specs.Roots.{IsPathRoot, RootsApart};
 
 use crate::cutting::batch_end;
 use crate::images::images_of_batch;
 use crate::migrating::Migration;
-use crate::noted::{Noted, Outcome, Way};
+use crate::planned::{Action, Outcome, PlannedFile};
 use crate::stops::Stop;
-use crate::writing::write_noted;
-use desk_base::Text;
+use crate::writing::write_planned;
 use desk_folders::Folders;
-use desk_graph::ClassGraph;
 use desk_ledger::Keeper;
-use desk_rules::RuleSet;
+use desk_words::Roots;
 use desk_workers::{Gate, Workers};
 use std::alloc::Global;
 use std::thread::Threads;
@@ -38,12 +37,12 @@ pub struct Stopped {
 }
 
 /// The place of the image behind a file that had this place.
-fn behind(next: usize, noted: &Noted) -> usize
+fn behind(next: usize, file: &PlannedFile) -> usize
     requires { next + 1 < 2 ^ 64 }
-    ensures count { result ≡ next + length (migrated (noted.now ∷ [])) }
+    ensures count { result ≡ next + length (migrated (file.now ∷ [])) }
     ensures bound { result ≤ next + 1 }
 {
-    if noted.way.is_migrated() {
+    if file.action.is_migrated() {
         next + 1
     } else {
         next
@@ -51,68 +50,69 @@ fn behind(next: usize, noted: &Noted) -> usize
 }
 
 /// How many files at the head of a batch are kept, of which the last file of the batch is none.
-fn kept_at_head(batch: &[Noted]) -> usize
+fn kept_at_head(batch: &[PlannedFile]) -> usize
     requires { 0 < length batch.now }
     ensures inside { result < length batch.now }
-    ensures kept { All (λ noted. noted.way ≡ Way.Keep) (take result batch.now) }
+    ensures kept { All (λ file. file.action ≡ Action.Keep) (take result batch.now) }
     ensures next { result + 1 < length batch.now → IfSome (slice_get batch.now result) IsNotKept }
 {
     let mut kept = 0;
-    while kept + 1 < batch.len() && batch[kept].way == Way::Keep {
+    while kept + 1 < batch.len() && batch[kept].action == Action::Keep {
         kept += 1;
     }
     kept
 }
 
-/// Reads the whole files of a batch for the second time, migrates them, and writes the files of the batch.
+/// Room for what becomes of these files. The only error is want of memory, before the first of them.
+fn outcomes_for(alloc: Global, files: &[PlannedFile]) -> Result<Vec<Outcome>, Stopped>
+    ensures none { IfOk result (λ outcomes. outcomes.items ≡ []) }
+    ensures empty { IfOk result (λ outcomes. vec_len outcomes ≡ 0) }
+    ensures room { IfOk result (λ outcomes. length files.now ≤ vec_capacity outcomes) }
+    ensures err { IfErr result (λ stopped. (stopped.why ≡ stop.Memory) × (stopped.done ≡ 0)) }
+    ensures some { OnErr result (0 < length files.now) }
+{
+    match Vec::with_capacity(alloc, files.len()) {
+        Ok(outcomes) => Ok(outcomes),
+        Err(_) => Err(Stopped {
+            why: Stop::Memory,
+            done: 0,
+        }),
+    }
+}
+
+/// Reads the whole files of a batch for the second time, migrates them, and writes the files of the batch: what became of each.
 fn write_batch<R: Threads + Sync, F: Folders, K: Keeper, G: Gate + Sync>(
-    rt: &R,
-    alloc: Global,
+    workers: &Workers<'_, R, G>,
+    job: &Migration<'_>,
     folders: &mut F,
     keeper: &mut K,
-    gate: &G,
-    rules: &RuleSet,
-    graph: &ClassGraph<'_>,
-    from: &Text,
-    to: &Text,
-    workers: u32,
-    batch: &[Noted],
-    outcomes: &mut Vec<Outcome>,
-) -> Result<(), Stopped>
+    roots: &Roots,
+    batch: &[PlannedFile],
+) -> Result<Vec<Outcome>, Stopped>
     requires begins { 0 < length batch.now }
-    requires graph { graph.now.renames ≡ rules.now.renames }
-    requires some { 0 < workers }
-    requires workers { workers ≤ 64 }
     requires few { length batch.now < 2 ^ 32 }
     requires attached { IsSome (K.attached keeper.old) }
-    requires root { IsPathRoot to.now }
-    requires apart { RootsApart from.now to.now }
+    requires root { IsPathRoot roots.now.to }
+    requires apart { RootsApart roots.now.from roots.now.to }
     requires sound { All IsSound batch.now }
-    requires routes { All (λ noted. IsRouteBy rules.now noted.route) batch.now }
-    requires notes { IfSome (F.told folders.old) (λ m. All (IsNoteOf from.now m) batch.now) }
-    requires stays { IfSome (F.told folders.old) (λ m. All (StaysAsNoted (image_in rules.now graph.now.defined) from.now m) batch.now) }
-    requires room { vec_len outcomes.old + length batch.now ≤ vec_capacity outcomes.old }
-    ensures folders { OnOk result (IfSome (F.told folders.old) (λ m. F.told folders.new ≡ option_map (files_after to.now (works_in (image_in rules.now graph.now.defined) from.now m batch.now)) (F.told folders.old))) }
-    ensures ledger { OnOk result (IfSome (F.told folders.old) (λ m. K.told keeper.new ≡ option_map (ledger_after (works_in (image_in rules.now graph.now.defined) from.now m batch.now)) (K.told keeper.old))) }
-    ensures outcomes { OnOk result (IfSome (F.told folders.old) (λ m. outcomes.new.items ≡ outcomes.old.items ++ map outcome_of (works_in (image_in rules.now graph.now.defined) from.now m batch.now))) }
-    ensures length { OnOk result (vec_len outcomes.new ≡ vec_len outcomes.old + length batch.now) }
-    ensures capacity { vec_capacity outcomes.new ≡ vec_capacity outcomes.old }
-    ensures err { IfErr result (λ stopped. IfSome (F.told folders.old) (λ m. StoppedAt to.now (works_in (image_in rules.now graph.now.defined) from.now m batch.now) stopped.done (F.told folders.old) (F.told folders.new) (K.told keeper.old) (K.told keeper.new))) }
+    requires routes { All (λ file. IsRouteBy job.now.graph.now.rules file.route) batch.now }
+    requires notes { IfSome (F.told folders.old) (λ m. All (IsNoteOf roots.now.from m) batch.now) }
+    requires stays { IfSome (F.told folders.old) (λ m. All (StaysAsNoted (image_in job.now.graph.now.rules job.now.graph.now.defined) roots.now.from m) batch.now) }
+    ensures folders { OnOk result (IfSome (F.told folders.old) (λ m. F.told folders.new ≡ option_map (files_after roots.now.to (works_in (image_in job.now.graph.now.rules job.now.graph.now.defined) roots.now.from m batch.now)) (F.told folders.old))) }
+    ensures ledger { OnOk result (IfSome (F.told folders.old) (λ m. K.told keeper.new ≡ option_map (ledger_after (works_in (image_in job.now.graph.now.rules job.now.graph.now.defined) roots.now.from m batch.now)) (K.told keeper.old))) }
+    ensures outcomes { IfOk result (λ outcomes. IfSome (F.told folders.old) (λ m. outcomes.items ≡ map outcome_of (works_in (image_in job.now.graph.now.rules job.now.graph.now.defined) roots.now.from m batch.now))) }
+    ensures length { IfOk result (λ outcomes. vec_len outcomes ≡ length batch.now) }
+    ensures err { IfErr result (λ stopped. IfSome (F.told folders.old) (λ m. StoppedAt roots.now.to (works_in (image_in job.now.graph.now.rules job.now.graph.now.defined) roots.now.from m batch.now) stopped.done (F.told folders.old) (F.told folders.new) (K.told keeper.old) (K.told keeper.new))) }
     ensures within { IfErr result (λ stopped. stopped.done < length batch.now) }
     ensures fresh { IfErr result (λ stopped. StopsAtFresh batch.now stopped.done stopped.why) }
-    ensures stays { SourceStays from.now (F.told folders.old) (F.told folders.new) }
+    ensures stays { SourceStays roots.now.from (F.told folders.old) (F.told folders.new) }
     ensures attached { K.attached keeper.new ≡ K.attached keeper.old }
     ensures counts_f { F.faults folders.old ≤ F.faults folders.new }
     ensures counts_k { K.faults keeper.old ≤ K.faults keeper.new }
     ensures cause { IfErr result (λ stopped. HasCause (F.told folders.old) stopped.why (F.faults folders.old) (F.faults folders.new) (K.faults keeper.old) (K.faults keeper.new)) }
 {
-    let job = Migration::of(alloc, rules, graph);
-    let workers = Workers {
-        rt,
-        gate,
-        count: workers,
-    };
-    let made = match images_of_batch(&workers, &job, folders, from, batch) {
+    let mut outcomes = outcomes_for(job.alloc, batch)?;
+    let made = match images_of_batch(workers, job, folders, &roots.from, batch) {
         Ok(made) => made,
         Err(why) => {
             return Err(Stopped {
@@ -123,86 +123,59 @@ fn write_batch<R: Threads + Sync, F: Folders, K: Keeper, G: Gate + Sync>(
     };
     let images = made.as_slice();
     let mut next = 0;
-    for (i, noted) in batch.iter().enumerate() {
-        match write_noted(alloc, folders, keeper, from, to, noted, images, next) {
+    for (i, file) in batch.iter().enumerate() {
+        match write_planned(job.alloc, folders, keeper, roots, file, images.get(next)) {
             Ok(outcome) => outcomes.push_reserved(outcome),
             Err(why) => return Err(Stopped { why, done: i }),
         }
-        next = behind(next, noted);
+        next = behind(next, file);
     }
-    Ok(())
+    Ok(outcomes)
 }
 
 /// Takes the files in their order, in batches whose whole files have at most 67,108,864 bytes together; each batch takes as many
-/// files as fit. The whole files of a batch are read again, and migrated by so many workers. Then, for each file of the batch in
+/// files as fit. The whole files of a batch are read again, and migrated by the workers. Then, for each file of the batch in
 /// order that has an image, its row is forgotten if one was found, its image is written to its target, and its row is put; any
 /// other file is copied in parts as it is read again. Where the digest of a file differs from the one that was noted, the answer
 /// is `Moved`: this never comes where the folders tell their contents.
 pub fn write_all<R: Threads + Sync, F: Folders, K: Keeper, G: Gate + Sync>(
-    rt: &R,
-    alloc: Global,
+    workers: &Workers<'_, R, G>,
+    job: &Migration<'_>,
     folders: &mut F,
     keeper: &mut K,
-    gate: &G,
-    rules: &RuleSet,
-    graph: &ClassGraph<'_>,
-    from: &Text,
-    to: &Text,
-    workers: u32,
-    noted: &[Noted],
+    roots: &Roots,
+    planned: &[PlannedFile],
 ) -> Result<Vec<Outcome>, Stopped>
-    requires graph { graph.now.renames ≡ rules.now.renames }
-    requires some { 0 < workers }
-    requires workers { workers ≤ 64 }
-    requires few { length noted.now < 2 ^ 32 }
+    requires few { length planned.now < 2 ^ 32 }
     requires attached { IsSome (K.attached keeper.old) }
-    requires root { IsPathRoot to.now }
-    requires apart { RootsApart from.now to.now }
-    requires sound { All IsSound noted.now }
-    requires routes { All (λ noted. IsRouteBy rules.now noted.route) noted.now }
-    requires notes { IfSome (F.told folders.old) (λ m. All (IsNoteOf from.now m) noted.now) }
-    requires stays { IfSome (F.told folders.old) (λ m. All (StaysAsNoted (image_in rules.now graph.now.defined) from.now m) noted.now) }
-    ensures folders { OnOk result (IfSome (F.told folders.old) (λ m. F.told folders.new ≡ option_map (files_after to.now (works_in (image_in rules.now graph.now.defined) from.now m noted.now)) (F.told folders.old))) }
-    ensures ledger { OnOk result (IfSome (F.told folders.old) (λ m. K.told keeper.new ≡ option_map (ledger_after (works_in (image_in rules.now graph.now.defined) from.now m noted.now)) (K.told keeper.old))) }
-    ensures outcomes { IfOk result (λ outcomes. IfSome (F.told folders.old) (λ m. outcomes.items ≡ map outcome_of (works_in (image_in rules.now graph.now.defined) from.now m noted.now))) }
-    ensures length { IfOk result (λ outcomes. length outcomes.items ≡ length noted.now) }
-    ensures within { IfErr result (λ stopped. stopped.done ≤ length noted.now) }
-    ensures fresh { IfErr result (λ stopped. StopsAtFresh noted.now stopped.done stopped.why) }
-    ensures err { IfErr result (λ stopped. IfSome (F.told folders.old) (λ m. StoppedAt to.now (works_in (image_in rules.now graph.now.defined) from.now m noted.now) stopped.done (F.told folders.old) (F.told folders.new) (K.told keeper.old) (K.told keeper.new))) }
-    ensures stays { SourceStays from.now (F.told folders.old) (F.told folders.new) }
+    requires root { IsPathRoot roots.now.to }
+    requires apart { RootsApart roots.now.from roots.now.to }
+    requires sound { All IsSound planned.now }
+    requires routes { All (λ file. IsRouteBy job.now.graph.now.rules file.route) planned.now }
+    requires notes { IfSome (F.told folders.old) (λ m. All (IsNoteOf roots.now.from m) planned.now) }
+    requires stays { IfSome (F.told folders.old) (λ m. All (StaysAsNoted (image_in job.now.graph.now.rules job.now.graph.now.defined) roots.now.from m) planned.now) }
+    ensures folders { OnOk result (IfSome (F.told folders.old) (λ m. F.told folders.new ≡ option_map (files_after roots.now.to (works_in (image_in job.now.graph.now.rules job.now.graph.now.defined) roots.now.from m planned.now)) (F.told folders.old))) }
+    ensures ledger { OnOk result (IfSome (F.told folders.old) (λ m. K.told keeper.new ≡ option_map (ledger_after (works_in (image_in job.now.graph.now.rules job.now.graph.now.defined) roots.now.from m planned.now)) (K.told keeper.old))) }
+    ensures outcomes { IfOk result (λ outcomes. IfSome (F.told folders.old) (λ m. outcomes.items ≡ map outcome_of (works_in (image_in job.now.graph.now.rules job.now.graph.now.defined) roots.now.from m planned.now))) }
+    ensures length { IfOk result (λ outcomes. length outcomes.items ≡ length planned.now) }
+    ensures within { IfErr result (λ stopped. stopped.done ≤ length planned.now) }
+    ensures fresh { IfErr result (λ stopped. StopsAtFresh planned.now stopped.done stopped.why) }
+    ensures err { IfErr result (λ stopped. IfSome (F.told folders.old) (λ m. StoppedAt roots.now.to (works_in (image_in job.now.graph.now.rules job.now.graph.now.defined) roots.now.from m planned.now) stopped.done (F.told folders.old) (F.told folders.new) (K.told keeper.old) (K.told keeper.new))) }
+    ensures stays { SourceStays roots.now.from (F.told folders.old) (F.told folders.new) }
     ensures attached { K.attached keeper.new ≡ K.attached keeper.old }
     ensures counts_f { F.faults folders.old ≤ F.faults folders.new }
     ensures counts_k { K.faults keeper.old ≤ K.faults keeper.new }
     ensures cause { IfErr result (λ stopped. HasCause (F.told folders.old) stopped.why (F.faults folders.old) (F.faults folders.new) (K.faults keeper.old) (K.faults keeper.new)) }
 {
-    let mut outcomes = match Vec::with_capacity(alloc, noted.len()) {
-        Ok(outcomes) => outcomes,
-        Err(_) => {
-            return Err(Stopped {
-                why: Stop::Memory,
-                done: 0,
-            });
-        }
-    };
+    let mut outcomes = outcomes_for(job.alloc, planned)?;
     let mut at = 0;
-    while at < noted.len() {
-        let end = batch_end(noted, at);
-        let batch = &noted[at..end];
-        match write_batch(
-            rt,
-            alloc,
-            folders,
-            keeper,
-            gate,
-            rules,
-            graph,
-            from,
-            to,
-            workers,
-            batch,
-            &mut outcomes,
-        ) {
-            Ok(()) => at = end,
+    while at < planned.len() {
+        let end = batch_end(planned, at);
+        match write_batch(workers, job, folders, keeper, roots, &planned[at..end]) {
+            Ok(mut more) => {
+                outcomes.append(&mut more).unwrap();
+                at = end;
+            }
             Err(stopped) => {
                 return Err(Stopped {
                     why: stopped.why,

@@ -3,7 +3,7 @@
 ghost use Rattle.std.specs.Prelude.{◌≡◌, length, map};
 ghost use Rattle.desk_batches.specs.Details.{bare, counts_behind, detail_with, details_of, stays_in};
 
-use crate::noted::Noted;
+use crate::planned::PlannedFile;
 use desk_readings::ClassNote;
 use desk_report::Detail;
 
@@ -33,15 +33,14 @@ fn next_detail(note: ClassNote, counts: &[u32]) -> (Option<Detail>, &[u32])
 
 /// The files, each with the detail of its image where it is a class in which nothing changes: by what was noted of each as a class, and
 /// how many defined names of the application each class holds, in the files' order.
-pub fn with_details(noted: Vec<Noted>, notes: &[ClassNote], counts: &[u32]) -> Vec<Noted>
-    requires { length noted.items ≡ length notes.now }
-    ensures bare { map bare result.items ≡ map bare noted.items }
-    ensures stays { stays_in result.items ≡ details_of notes.now counts.now }
+pub fn with_details(planned: Vec<PlannedFile>, counts: &[u32]) -> Vec<PlannedFile>
+    ensures bare { map bare result.items ≡ map bare planned.items }
+    ensures stays { stays_in result.items ≡ details_of (map (λ file. file.class) planned.items) counts.now }
 {
-    let mut known = noted;
+    let mut known = planned;
     let mut left = counts;
     for place in 0..known.len() {
-        let (detail, behind) = next_detail(notes[place], left);
+        let (detail, behind) = next_detail(known[place].class, left);
         known[place].stays = detail;
         left = behind;
     }

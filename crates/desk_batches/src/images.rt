@@ -10,9 +10,9 @@ ghost use Rattle.desk_batches.specs.declared.stops.Stop.TheVariants as stop;
 
 use crate::cutting::split_slice;
 use crate::digested::DigestedImage;
-use crate::inputs::{Input, read_batch};
+use crate::inputs::read_batch;
 use crate::migrating::{Migration, migrate_and_read, migrate_batch};
-use crate::noted::Noted;
+use crate::planned::PlannedFile;
 use crate::stops::Stop;
 use desk_base::Text;
 use desk_folders::Folders;
@@ -37,20 +37,20 @@ fn append_images(
 /// The images of the files of a batch that are read whole, in their order. They are read again slice by slice: while the workers
 /// migrate one slice, this thread reads the next. Where a slice has no images, the rest of the batch is read before that is told, since
 /// what stops this reading comes first.
-pub(crate) fn images_of_batch<R: Threads + Sync, F: Folders, G: Gate + Sync>(
+pub(crate) fn images_of_batch<'f, R: Threads + Sync, F: Folders, G: Gate + Sync>(
     workers: &Workers<'_, R, G>,
-    job: &Migration<'_>,
+    job: &Migration<'f>,
     folders: &mut F,
     from: &Text,
-    batch: &[Noted],
+    batch: &'f [PlannedFile],
 ) -> Result<Vec<Result<DigestedImage, Reason>>, Stop>
     requires few { length batch.now < 2 ^ 32 }
     requires sound { All IsSound batch.now }
-    requires routes { All (λ noted. IsRouteBy job.now.rules.now noted.route) batch.now }
+    requires routes { All (λ file. IsRouteBy job.now.graph.now.rules file.route) batch.now }
     requires notes { IfSome (F.told folders.old) (λ m. All (IsNoteOf from.now m) batch.now) }
-    requires stays { IfSome (F.told folders.old) (λ m. All (StaysAsNoted (image_in job.now.rules.now job.now.graph.now.defined) from.now m) batch.now) }
+    requires stays { IfSome (F.told folders.old) (λ m. All (StaysAsNoted (image_in job.now.graph.now.rules job.now.graph.now.defined) from.now m) batch.now) }
     ensures told { F.told folders.new ≡ F.told folders.old }
-    ensures images { IfOk result (λ images. IfSome (F.told folders.old) (λ m. images.items ≡ map (image_here (image_in job.now.rules.now job.now.graph.now.defined) from.now m) (migrated batch.now))) }
+    ensures images { IfOk result (λ images. IfSome (F.told folders.old) (λ m. images.items ≡ map (image_here (image_in job.now.graph.now.rules job.now.graph.now.defined) from.now m) (migrated batch.now))) }
     ensures count { IfOk result (λ images. length images.items ≡ length (migrated batch.now)) }
     ensures counts { F.faults folders.old ≤ F.faults folders.new }
     ensures some { IfErr result (λ why. (why ≡ stop.Memory) ⊎ (0 < length (migrated batch.now))) }
@@ -61,7 +61,7 @@ pub(crate) fn images_of_batch<R: Threads + Sync, F: Folders, G: Gate + Sync>(
     let mut inputs = read_batch(job.alloc, folders, from, slice)?;
     while !rest.is_empty() {
         let (next, behind) = split_slice(rest);
-        let (made, read) = migrate_and_read(workers, job, folders, from, &inputs, next);
+        let (made, read) = migrate_and_read(workers, job, folders, from, inputs, next);
         let ahead = read?;
         if let Err(why) = append_images(&mut images, made) {
             read_batch(job.alloc, folders, from, behind)?;
@@ -70,7 +70,7 @@ pub(crate) fn images_of_batch<R: Threads + Sync, F: Folders, G: Gate + Sync>(
         inputs = ahead;
         rest = behind;
     }
-    let last = migrate_batch(workers, job, &inputs);
+    let last = migrate_batch(workers, job, inputs);
     append_images(&mut images, last)?;
     Ok(images)
 }

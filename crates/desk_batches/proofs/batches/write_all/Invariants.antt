@@ -11,17 +11,17 @@ invariant-loop-at g l = record {
   attached : g.K.Keeper.attached l.keeper ≡ g.K.Keeper.attached l.fn.keeper;
   counts_f : g.F.Folders.faults l.fn.folders ≤ g.F.Folders.faults l.folders;
   counts_k : g.K.Keeper.faults l.fn.keeper ≤ g.K.Keeper.faults l.keeper;
-  stays : SourceStays l.from (g.F.Folders.told l.fn.folders) (g.F.Folders.told l.folders);
-  inside : l.at ≤ length l.noted;
+  stays : SourceStays l.roots.from (g.F.Folders.told l.fn.folders) (g.F.Folders.told l.folders);
+  inside : l.at ≤ length l.planned;
   filled : vec_len l.outcomes ≡ l.at;
-  room : length l.noted ≤ vec_capacity l.outcomes;
+  room : length l.planned ≤ vec_capacity l.outcomes;
   folders : (m : Contents) → g.F.Folders.told l.fn.folders ≡ Some m
-      → g.F.Folders.told l.folders ≡ option_map (files_after l.to (works_in (image_in l.rules l.graph.defined) l.from m (take l.at l.noted))) (g.F.Folders.told l.fn.folders);
+      → g.F.Folders.told l.folders ≡ option_map (files_after l.roots.to (works_in (image_in l.job.graph.now.rules l.job.graph.now.defined) l.roots.from m (take l.at l.planned))) (g.F.Folders.told l.fn.folders);
   ledger : (m : Contents) → g.F.Folders.told l.fn.folders ≡ Some m
-      → g.K.Keeper.told l.keeper ≡ option_map (ledger_after (works_in (image_in l.rules l.graph.defined) l.from m (take l.at l.noted))) (g.K.Keeper.told l.fn.keeper);
+      → g.K.Keeper.told l.keeper ≡ option_map (ledger_after (works_in (image_in l.job.graph.now.rules l.job.graph.now.defined) l.roots.from m (take l.at l.planned))) (g.K.Keeper.told l.fn.keeper);
   outcomes : (m : Contents) → g.F.Folders.told l.fn.folders ≡ Some m
-      → l.outcomes.items ≡ map outcome_of (works_in (image_in l.rules l.graph.defined) l.from m (take l.at l.noted));
+      → l.outcomes.items ≡ map outcome_of (works_in (image_in l.job.graph.now.rules l.job.graph.now.defined) l.roots.from m (take l.at l.planned));
 }
 
 abbrev pub decreases-loop-at : goal.decreases-loop-at
-decreases-loop-at g l = length l.noted - l.at
+decreases-loop-at g l = length l.planned - l.at

@@ -6,15 +6,15 @@ use Rattle.desk_file.specs.Linked.{image_in}
 use Rattle.desk_file.specs.Routes.{IsRouteBy}
 use Rattle.desk_batches.specs.Notes.{IsNoteOf, IsSound, StaysAsNoted}
 use Rattle.desk_batches.specs.Turns.{image_here, image_of_input, input_in, migrated, slice_length}
-use Rattle.desk_batches.specs.declared.inputs.Input.{Input}
-use Rattle.desk_batches.specs.declared.noted.Noted.{Noted}
+use Rattle.desk_batches.specs.Inputs.{WholeFile}
+use Rattle.desk_batches.specs.declared.planned.PlannedFile.{PlannedFile}
 use Rattle.desk_batches.proofs.Fresh.{any_err, some_back, some_front, some_left}
 use Rattle.desk_batches.proofs.Slices.{all_back, all_front, both_ok, count_first, count_next, digests_known, few_inputs, notes_front, notes_later, slice_more, slice_read}
 use Rattle.desk_batches.proofs.images.images_of_batch.Goals as goal
 
 pub loop-rest-init : goal.loop-rest-init
 loop-rest-init g c =
-    let rules' = c.args.job.now.rules.now in
+    let rules' = c.args.job.now.graph.now.rules in
     let defined = c.args.job.now.graph.now.defined in
     let from = c.args.from.now in
     let told = g.F.Folders.told c.args.folders.now in
@@ -32,34 +32,30 @@ loop-rest-init g c =
           let read = at_some (λ m. inputs ≡ map (input_in from m) (migrated slice)) told m e c.in_ok-inputs.ensures.inputs in
           slice_read rules' defined from m batch slice rest n inputs c.requires.routes (at_some (λ m. All (StaysAsNoted (image_in rules' defined) from m) batch) told m e c.requires.stays) split read
           ∙ ap (λ ys. ys ++ (map (image_of_input rules' defined) inputs ++ map (image_here (image_in rules' defined) from m) (migrated rest))) (sym none);
-      count = let first = count_first batch slice rest n inputs split c.in_ok-inputs.ensures.routes in let empty = ap length none in omega (arith, first, empty);
+      count = let first = count_first batch slice rest n inputs split c.in_ok-inputs.ensures.files in let empty = ap length none in omega (arith, first, empty);
       digests = λ m e. digests_known from told m slice inputs e (notes_front from told batch slice rest n split c.requires.notes) c.in_ok-inputs.ensures.inputs;
       short = let long = split.4 in omega (arith, long);
       sound = all_back IsSound batch slice rest n split c.requires.sound;
-      routes = all_back (λ (noted : Noted). IsRouteBy rules' noted.route) batch slice rest n split c.requires.routes;
+      routes = all_back (λ (file : PlannedFile). IsRouteBy rules' file.route) batch slice rest n split c.requires.routes;
       notes = λ m e. all_back (IsNoteOf from m) batch slice rest n split (at_some (λ m. All (IsNoteOf from m) batch) told m e c.requires.notes);
       stays = λ m e. all_back (StaysAsNoted (image_in rules' defined) from m) batch slice rest n split (at_some (λ m. All (StaysAsNoted (image_in rules' defined) from m) batch) told m e c.requires.stays);
     }
 
 pub migrate_and_read-made-requires-clause-few : goal.migrate_and_read-made-requires-clause-few
 migrate_and_read-made-requires-clause-few g c κs within =
-    let all : c.deref.result.now ≡ c.loop-rest.inputs.items = search rules in
-    let same = ap length all in
     let few = few_inputs c.args.batch.now c.loop-rest.rest.now _ _ _ c.loop-rest.invariant.count in
     let most = c.requires.few in
-    omega (arith, same, few, most)
+    omega (arith, few, most)
 
 pub migrate_batch-last-requires-clause-few : goal.migrate_batch-last-requires-clause-few
 migrate_batch-last-requires-clause-few g c κs within =
-    let all : c.deref-2.result.now ≡ c.loop-rest.inputs.items = search rules in
-    let same = ap length all in
     let few = few_inputs c.args.batch.now c.loop-rest.rest.now _ _ _ c.loop-rest.invariant.count in
     let most = c.requires.few in
-    omega (arith, same, few, most)
+    omega (arith, few, most)
 
 pub loop-rest-preserved : goal.loop-rest-preserved
 loop-rest-preserved g c =
-    let rules' = c.args.job.now.rules.now in
+    let rules' = c.args.job.now.graph.now.rules in
     let defined = c.args.job.now.graph.now.defined in
     let from = c.args.from.now in
     let told = g.F.Folders.told c.args.folders.now in
@@ -69,12 +65,11 @@ loop-rest-preserved g c =
     let behind = c.split_slice-in-loop-rest.result.1.now in
     let n = slice_length rest in
     let split = c.split_slice-in-loop-rest.ensures in
-    let whole : c.deref.result.now ≡ c.loop-rest.inputs.items = search rules in
     let inputs = c.loop-rest.inputs.items in
     let ahead = c.in_ok-ahead.ahead.items in
     let now : g.F.Folders.told c.loop-rest.folders ≡ told = c.loop-rest.invariant.told in
     let was : c.migrate_and_read-made.result.1 ≡ Ok c.in_ok-ahead.ahead = search rules in
-    let routes = IfOk-at_ok (λ inputs. map (λ (input : Input). input.route) inputs.items ≡ map (λ (noted : Noted). noted.route) (migrated next)) was c.migrate_and_read-made.ensures.routes in
+    let files = IfOk-at_ok (λ inputs. map (λ (input : WholeFile). input.file) inputs.items ≡ migrated next) was c.migrate_and_read-made.ensures.files in
     let reads = IfOk-at_ok (λ inputs. IfSome (g.F.Folders.told c.loop-rest.folders) (λ m. inputs.items ≡ map (input_in from m) (migrated next))) was c.migrate_and_read-made.ensures.inputs in
     record {
       told = search rules;
@@ -82,17 +77,17 @@ loop-rest-preserved g c =
       images = λ m e.
           both_ok c.migrate_and_read-made.result.0 c.in_default.ensures.made c.migrate_and_read-made.ensures.images c.in_default.ensures.ok (λ more is grown.
           slice_more rules' defined from m batch rest next behind n inputs ahead c.loop-rest.images.items more.items c.append_images.new.images.items c.loop-rest.invariant.routes (c.loop-rest.invariant.stays m e) split (c.loop-rest.invariant.images m e)
-          (is ∙ ap (map (image_of_input rules' defined)) whole) grown (at_some (λ m. ahead ≡ map (input_in from m) (migrated next)) (g.F.Folders.told c.loop-rest.folders) m (now ∙ e) reads));
+          is grown (at_some (λ m. ahead ≡ map (input_in from m) (migrated next)) (g.F.Folders.told c.loop-rest.folders) m (now ∙ e) reads));
       count =
           both_ok c.migrate_and_read-made.result.0 c.in_default.ensures.made c.migrate_and_read-made.ensures.images c.in_default.ensures.ok (λ more is grown.
           count_next rules' defined batch rest next behind n inputs ahead c.loop-rest.images.items more.items c.append_images.new.images.items split c.loop-rest.invariant.count
-          (is ∙ ap (map (image_of_input rules' defined)) whole) grown routes);
+          is grown files);
       digests = λ m e.
           digests_known from (g.F.Folders.told c.loop-rest.folders) m next ahead (now ∙ e)
           (notes_later from told (g.F.Folders.told c.loop-rest.folders) next now (λ m e. all_front (IsNoteOf from m) rest next behind n split (c.loop-rest.invariant.notes m e))) reads;
       short = let long = split.4 in let before = c.loop-rest.invariant.short in omega (arith, long, before);
       sound = all_back IsSound rest next behind n split c.loop-rest.invariant.sound;
-      routes = all_back (λ (noted : Noted). IsRouteBy rules' noted.route) rest next behind n split c.loop-rest.invariant.routes;
+      routes = all_back (λ (file : PlannedFile). IsRouteBy rules' file.route) rest next behind n split c.loop-rest.invariant.routes;
       notes = λ m e. all_back (IsNoteOf from m) rest next behind n split (c.loop-rest.invariant.notes m e);
       stays = λ m e. all_back (StaysAsNoted (image_in rules' defined) from m) rest next behind n split (c.loop-rest.invariant.stays m e);
     }
