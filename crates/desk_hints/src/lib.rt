@@ -5,7 +5,7 @@
 //! hint_of(&status)                     // Some(Hint::NoRenames)
 //! hint_behind(&fault, Listed::File)    // Some(Hint::FileAsFolder), where a folder of the words is a file
 //! Hint::NoRenames.text()               // migrate: the rule folder has no `renames.properties`, or it has no key ..
-//! words_hint(alloc, &words)?           // migrate: error: unexpected argument '--form' found
+//! slip_line(alloc, &slip)?             // migrate: `rnu` is no task: the first word is `run`, ..
 //! ```
 #![tactic(auto)]
 
@@ -17,4 +17,4 @@ mod words;
 pub use hints::{HINTS, Hint, hint_of};
 pub use listed::{Listed, hint_behind, listed_by};
 pub use releases::{release_line, release_of};
-pub use words::words_hint;
+pub use words::slip_line;

@@ -8,7 +8,7 @@ use std::alloc::Global;
 
 /// What a line of a report says of a file, by its path as it is shown.
 #[derive(Clone, Copy, Debug, PartialEq, Eq)]
-pub enum Said<'a> {
+pub enum LineRead<'a> {
     /// The file was copied.
     Copied(&'a [u8]),
     /// The image of a class was written.
@@ -37,32 +37,37 @@ pub enum Said<'a> {
 }
 
 /// What the line of a file that was written says, by its path, its target, the word behind them, and the one behind that.
-fn written<'a>(path: &'a [u8], target: &'a [u8], kind: &[u8], count: Option<&[u8]>) -> Said<'a> {
+fn written<'a>(
+    path: &'a [u8],
+    target: &'a [u8],
+    kind: &[u8],
+    count: Option<&[u8]>,
+) -> LineRead<'a> {
     match (kind, count) {
-        (b"copy", _) => Said::Copied(path),
-        (b"class", _) => Said::Class { path, target },
-        (b"text", Some(b"changed=0")) => Said::Unchanged(path),
-        _ => Said::Written,
+        (b"copy", _) => LineRead::Copied(path),
+        (b"class", _) => LineRead::Class { path, target },
+        (b"text", Some(b"changed=0")) => LineRead::Unchanged(path),
+        _ => LineRead::Written,
     }
 }
 
 /// Reads a line of a report, without its line end. No text that is shown holds a space.
-pub fn read_line(line: &[u8]) -> Said<'_> {
+pub fn read_line(line: &[u8]) -> LineRead<'_> {
     let mut words = line.split(|byte| *byte == b' ');
     let (first, second, third, fourth) = (words.next(), words.next(), words.next(), words.next());
     match (first, second, third, fourth) {
         (Some(b"written"), Some(path), Some(target), Some(kind)) => {
             written(path, target, kind, words.next())
         }
-        (Some(b"kept"), Some(_), Some(_), None) => Said::Kept,
-        (Some(b"refused"), Some(path), Some(reason), kind) => Said::Refused {
+        (Some(b"kept"), Some(_), Some(_), None) => LineRead::Kept,
+        (Some(b"refused"), Some(path), Some(reason), kind) => LineRead::Refused {
             path,
             reason,
             kind: kind.unwrap_or(b""),
         },
-        (Some(b"site"), ..) => Said::Site,
-        (Some(b"differs"), Some(_), Some(_), None) => Said::Differs,
-        _ => Said::Other,
+        (Some(b"site"), ..) => LineRead::Site,
+        (Some(b"differs"), Some(_), Some(_), None) => LineRead::Differs,
+        _ => LineRead::Other,
     }
 }
 

@@ -1,7 +1,7 @@
 //! What is noted of a report.
 
 use crate::closing::Closing;
-use crate::lines::{Said, is_archive_file, is_jsr305, is_signature, read_line};
+use crate::lines::{LineRead, is_archive_file, is_jsr305, is_signature, read_line};
 use crate::names::Names;
 use desk_base::{Memory, Text, TextList};
 use itoa::Buffer;
@@ -193,24 +193,24 @@ impl Notes {
     /// Takes a whole line. What memory doesn't suffice for is left out.
     fn take_line(&mut self, line: &[u8]) {
         let _ = match read_line(line) {
-            Said::Copied(path) => self.copied(path),
-            Said::Class { path, target } => self.class(path, target),
-            Said::Unchanged(path) => self.unchanged(path),
-            Said::Written => {
+            LineRead::Copied(path) => self.copied(path),
+            LineRead::Class { path, target } => self.class(path, target),
+            LineRead::Unchanged(path) => self.unchanged(path),
+            LineRead::Written => {
                 self.count_written();
                 Ok(())
             }
-            Said::Refused { path, reason, kind } => self.refused(path, reason, kind),
-            Said::Kept => {
+            LineRead::Refused { path, reason, kind } => self.refused(path, reason, kind),
+            LineRead::Kept => {
                 self.kept = self.kept.saturating_add(1);
                 Ok(())
             }
-            Said::Site => {
+            LineRead::Site => {
                 self.sites = self.sites.saturating_add(1);
                 Ok(())
             }
-            Said::Differs => self.differs(line),
-            Said::Other => Ok(()),
+            LineRead::Differs => self.differs(line),
+            LineRead::Other => Ok(()),
         };
     }
 

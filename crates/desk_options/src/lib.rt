@@ -2,11 +2,14 @@
 #![tactic(auto)]
 
 mod joining;
+mod loose;
 mod parsing;
 mod telling;
 mod values;
 
-pub use joining::is_flag;
+pub use loose::{
+    CALLS, COMPARE, GENERATE, INVERT, LooseWord, RUN, TaskOptions, asks_for_help, option_name,
+};
 pub use telling::{
     message_of_calls, message_of_compare, message_of_generate, message_of_invert, message_of_run,
 };

@@ -6,11 +6,11 @@ use crate::telling::{Told, tell, tell_again, tell_hint, tell_status, tell_text};
 use crate::words::rules_of;
 use desk_base::{Memory, Text};
 use desk_faults::{Fault, fault_line};
-use desk_hints::{Listed, listed_by, release_line, words_hint};
+use desk_hints::{Listed, listed_by, release_line, slip_line};
 use desk_notes::{Names, Notes, closing_line, is_utf16, unshown};
 use desk_report::Status;
 use desk_rules::RuleFault;
-use desk_words::Roots;
+use desk_words::{Request, Roots, find_slip};
 
 /// Writes the line of a fault that is remembered.
 fn tell_fault(rt: &HostRuntime, fault: Option<&Fault>) {
@@ -114,17 +114,17 @@ fn tell_run(rt: &HostRuntime, roots: &Roots, notes: &Notes) {
 }
 
 /// Tells which word stands against words that ask for nothing.
-fn tell_words(rt: &HostRuntime, words: &[Text]) {
-    if let Ok(Some(line)) = words_hint(rt.alloc(), words) {
-        tell(rt, line.as_bytes());
+fn tell_slip(rt: &HostRuntime, request: &Request<'_>) {
+    if let Ok(Some(slip)) = find_slip(rt.alloc(), request.words()) {
+        tell_text(rt, &slip_line(rt.alloc(), &slip));
     }
 }
 
 /// How a run ended.
 #[derive(Drop)]
 pub struct Ending<'a> {
-    /// The words that the program was given.
-    pub words: &'a [Text],
+    /// The words that the program was given, and what they were read as.
+    pub request: &'a Request<'a>,
     /// The roots of a run that was begun; none of other words.
     pub roots: Option<&'a Roots>,
     /// The status that the program ends with.
@@ -138,16 +138,16 @@ pub struct Ending<'a> {
 }
 
 /// Tells in which lines of the rule files stands what is against them.
-fn tell_places(rt: &HostRuntime, words: &[Text], fault: &RuleFault) {
-    if let Ok(Some(rules)) = rules_of(rt.alloc(), words) {
-        tell_text(rt, &places_of(rt, &rules, fault));
+fn tell_places(rt: &HostRuntime, request: &Request<'_>, fault: &RuleFault) {
+    if let Some(rules) = rules_of(request) {
+        tell_text(rt, &places_of(rt, rules, fault));
     }
 }
 
 /// Tells what looks like a slip in the rules that stood against a run.
-fn tell_rules(rt: &HostRuntime, words: &[Text]) {
-    if let Ok(Some(rules)) = rules_of(rt.alloc(), words) {
-        tell_text(rt, &folder_notes(rt, &rules));
+fn tell_rules(rt: &HostRuntime, request: &Request<'_>) {
+    if let Some(rules) = rules_of(request) {
+        tell_text(rt, &folder_notes(rt, rules));
     }
 }
 
@@ -157,8 +157,8 @@ fn tell_cause(rt: &HostRuntime, ending: &Ending<'_>) {
     match ending.status {
         Status::FolderFault { .. } => tell_fault(rt, ending.folders),
         Status::LedgerFault { .. } => tell_fault(rt, ending.ledger),
-        Status::Usage => tell_words(rt, ending.words),
-        Status::BadRules(fault) => tell_places(rt, ending.words, fault),
+        Status::Usage => tell_slip(rt, ending.request),
+        Status::BadRules(fault) => tell_places(rt, ending.request, fault),
         Status::Differs { .. } => tell_again(rt, ending.notes.differs.as_bytes()),
         _ => {}
     }
@@ -173,7 +173,7 @@ pub fn tell_end(rt: &HostRuntime, ending: &Ending<'_>) {
     match (ending.status, ending.roots) {
         (Status::Done | Status::Refusals, Some(roots)) => tell_run(rt, roots, ending.notes),
         (Status::Done | Status::Refusals, None) => tell_text(rt, &ending.notes.text()),
-        (Status::BadRules(_), _) => tell_rules(rt, ending.words),
+        (Status::BadRules(_), _) => tell_rules(rt, ending.request),
         _ => {}
     }
 }

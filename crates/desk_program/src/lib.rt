@@ -4,7 +4,8 @@
 //!
 //! ```text
 //! let words = read_words(&rt)?;                            // what stands behind the program's name
-//! let asked = asked_of(alloc, &words)?;                    // the roots, where the words ask for a run
+//! let request = Request::read(alloc, &words);              // what they ask for
+//! let asked = asked_of(&request);                          // the roots, where the words ask for a run
 //! ended_by_streams(&rt, &roots)?                           // the status of a run whose ledger standard output is written into
 //! guarded(&rt, &roots, &mut folders)                       // how a run ends before it begins, if it does
 //! exit_of(&status)

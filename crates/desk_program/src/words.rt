@@ -6,7 +6,7 @@ ghost use Rattle.desk_report.specs.Texts.{code_of};
 
 use desk_base::{Memory, Text};
 use desk_report::Status;
-use desk_words::{Order, Query, Roots, RootsFault, read_order};
+use desk_words::{Order, Query, Request, Roots, RootsFault};
 use std::alloc::Global;
 use std::io::ErrorKind;
 use std::process::ExitCode;
@@ -33,7 +33,7 @@ fn words_behind(alloc: Global, args: &[String]) -> Result<Vec<Text>, Memory>
     }
 }
 
-/// The words behind the program's name. Errors are want of memory, and a word that isn't in UTF-8.
+/// The words behind the program's name, as they were given. Errors are want of memory, and a word that isn't in UTF-8.
 pub fn read_words(rt: &HostRuntime) -> io::Result<Vec<Text>> {
     let mut args = Vec::new(rt.alloc());
     for arg in env::args(rt)? {
@@ -57,23 +57,25 @@ pub fn unread(kind: ErrorKind) -> Status
 }
 
 /// What the program does for words around the desk.
-#[derive(Debug, Drop)]
-pub enum Asked {
+#[derive(Clone, Copy, Debug)]
+pub enum Asked<'q> {
     /// A run over these roots.
-    Run(Roots),
+    Run(&'q Roots),
     /// A run over a generated application, whose rows go into an SQL database.
     Sql,
     /// Anything else, or nothing.
     Other,
+    /// Nothing, since memory ran out while the words were read.
+    Memory,
 }
 
-/// What words ask for. The only error is want of memory.
-pub fn asked_of(alloc: Global, words: &[Text]) -> Result<Asked, Memory> {
-    match read_order(alloc, words) {
-        Ok(Order::Run { roots, .. }) => Ok(Asked::Run(roots)),
-        Ok(Order::GenerateSql { .. }) => Ok(Asked::Sql),
-        Err(RootsFault::Memory) => Err(Memory),
-        _ => Ok(Asked::Other),
+/// What words ask for that were read.
+pub fn asked_of<'q>(request: &'q Request<'_>) -> Asked<'q> {
+    match request.order() {
+        Ok(Order::Run { roots, .. }) => Asked::Run(roots),
+        Ok(Order::GenerateSql { .. }) => Asked::Sql,
+        Err(RootsFault::Memory) => Asked::Memory,
+        _ => Asked::Other,
     }
 }
 
@@ -87,20 +89,11 @@ fn rules_in(order: &Order) -> Option<&Text> {
     }
 }
 
-/// The rule folder that an order names, as a text of its own.
-fn own_rules(order: &Order) -> Result<Option<Text>, Memory> {
-    match rules_in(order) {
-        Some(rules) => Ok(Some(rules.clone()?)),
-        None => Ok(None),
-    }
-}
-
-/// The rule folder that words name; none where their task has none. The only error is want of memory.
-pub(crate) fn rules_of(alloc: Global, words: &[Text]) -> Result<Option<Text>, Memory> {
-    match read_order(alloc, words) {
-        Ok(order) => own_rules(&order),
-        Err(RootsFault::Memory) => Err(Memory),
-        _ => Ok(None),
+/// The rule folder that words name; none where their task has none, and where they have no task.
+pub(crate) fn rules_of<'q>(request: &'q Request<'_>) -> Option<&'q Text> {
+    match request.order() {
+        Ok(order) => rules_in(order),
+        Err(_) => None,
     }
 }
 

@@ -29,7 +29,7 @@ fn is_utf8(text: &[u8]) -> bool
 }
 
 /// Whether a text is a package as a rule file writes it: identifiers with a `.` between each two, in UTF-8 and in modified UTF-8.
-fn is_package(text: &[u8]) -> bool
+pub(crate) fn is_package(text: &[u8]) -> bool
     ensures { result ≡ is_written_package text.now }
 {
     is_dotted(text) && is_stored(text) && is_utf8(text)

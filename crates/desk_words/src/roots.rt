@@ -22,7 +22,7 @@ pub struct Root {
 }
 
 /// Whether a value may name a root.
-fn is_value(value: &[u8]) -> bool
+pub(crate) fn is_value(value: &[u8]) -> bool
     ensures { result ≡ is_value value.now }
 {
     match value {
@@ -39,7 +39,7 @@ fn is_dropped(part: &[u8]) -> bool
 }
 
 /// Whether a value leads to a folder above.
-fn leads_upward(value: &[u8]) -> bool
+pub(crate) fn leads_upward(value: &[u8]) -> bool
     ensures { result ≡ list_any is_upward (parts value.now) }
 {
     value

@@ -1,4 +1,4 @@
-//! A sink that is listened to.
+//! A sink that notes what is written to it.
 
 ghost use Rattle.std.specs.Prelude.{◌≡◌};
 
@@ -9,7 +9,7 @@ use std::io::{IsTerminal, Write};
 /// A sink whose bytes are noted on their way. It tells what the sink tells. Before the first of them the line that
 /// stands on standard error is taken away, where that is a terminal, so that the report doesn't begin within it.
 #[derive(Drop)]
-pub struct Overheard<'r, O> {
+pub struct NotingSink<'r, O> {
     rt: &'r HostRuntime,
     is_begun: bool,
     /// The sink that the bytes go on to.
@@ -25,12 +25,12 @@ fn clear_line(rt: &HostRuntime) {
     }
 }
 
-impl<'r, O: Sink> Overheard<'r, O> {
+impl<'r, O: Sink> NotingSink<'r, O> {
     /// The sink, of which nothing is noted yet. It takes no memory.
-    pub fn new(rt: &'r HostRuntime, out: O) -> Overheard<'r, O>
+    pub fn new(rt: &'r HostRuntime, out: O) -> NotingSink<'r, O>
         ensures { result.out ≡ out }
     {
-        Overheard {
+        NotingSink {
             rt,
             is_begun: false,
             out,
@@ -39,7 +39,7 @@ impl<'r, O: Sink> Overheard<'r, O> {
     }
 }
 
-impl<O: Sink> Sink for Overheard<'_, O> {
+impl<O: Sink> Sink for NotingSink<'_, O> {
     ghost told = { λ s. O.told s.out };
 
     ghost faults = { λ s. O.faults s.out };
