@@ -4,13 +4,13 @@ use crate::ledger::AnyLedger;
 use desk_base::{Memory, Text};
 use desk_disk::DiskFolders;
 use desk_faults::Fault;
-use desk_notes::Overheard;
+use desk_notes::NotingSink;
 use desk_program::{
     Asked, Ending, Stopped, asked_of, ended_by_streams, guarded, tell_end, tell_unread, unread,
 };
 use desk_report::{Sink, Status, write_fault};
 use desk_run::{FreeGate, desk};
-use desk_words::Roots;
+use desk_words::{Request, Roots};
 use std::io::ErrorKind;
 use std::thread::Threads;
 
@@ -20,7 +20,7 @@ struct Outside<'r, O> {
     rt: &'r HostRuntime,
     folders: DiskFolders<'r>,
     ledger: Box<AnyLedger<'r>>,
-    out: Overheard<'r, O>,
+    out: NotingSink<'r, O>,
     before: Option<Fault>,
 }
 
@@ -30,7 +30,7 @@ impl<'r, O: Sink> Outside<'r, O> {
             rt,
             folders: DiskFolders::new(rt),
             ledger,
-            out: Overheard::new(rt, out),
+            out: NotingSink::new(rt, out),
             before: None,
         }
     }
@@ -55,11 +55,11 @@ impl<'r, O: Sink> Outside<'r, O> {
     }
 
     /// Follows the words.
-    fn run<R: Threads + Sync>(&mut self, threads: &R, words: &[Text]) -> Status {
+    fn run<R: Threads + Sync>(&mut self, threads: &R, request: &Request<'_>) -> Status {
         let status = desk(
             threads,
             self.rt.alloc(),
-            words,
+            request,
             &mut self.folders,
             &mut *self.ledger,
             &mut self.out,
@@ -71,11 +71,11 @@ impl<'r, O: Sink> Outside<'r, O> {
     }
 
     /// Tells what stands behind a status.
-    fn tell(&self, words: &[Text], roots: Option<&Roots>, status: &Status) {
+    fn tell(&self, request: &Request<'_>, roots: Option<&Roots>, status: &Status) {
         tell_end(
             self.rt,
             &Ending {
-                words,
+                request,
                 roots,
                 status,
                 folders: self.before.as_ref().or(self.folders.last_fault()),
@@ -97,7 +97,7 @@ impl<'r, O: Sink> Outside<'r, O> {
         drop(before);
         drop(ledger);
         drop(folders);
-        let Overheard { out, .. } = out;
+        let NotingSink { out, .. } = out;
         out
     }
 }
@@ -115,7 +115,7 @@ pub struct Followed<O> {
 fn follow_run<R: Threads + Sync, O: Sink + Drop>(
     rt: &HostRuntime,
     threads: &R,
-    words: &[Text],
+    request: &Request<'_>,
     roots: &Roots,
     out: O,
 ) -> Followed<O> {
@@ -130,9 +130,9 @@ fn follow_run<R: Threads + Sync, O: Sink + Drop>(
     let mut outside = Outside::new(rt, ledger, out);
     let (status, roots) = match outside.begin(roots) {
         Some(status) => (status, None),
-        None => (outside.run(threads, words), Some(roots)),
+        None => (outside.run(threads, request), Some(roots)),
     };
-    outside.tell(words, roots, &status);
+    outside.tell(request, roots, &status);
     Followed {
         status,
         out: outside.into_out(),
@@ -143,7 +143,7 @@ fn follow_run<R: Threads + Sync, O: Sink + Drop>(
 fn follow_other<R: Threads + Sync, O: Sink + Drop>(
     rt: &HostRuntime,
     threads: &R,
-    words: &[Text],
+    request: &Request<'_>,
     sql: bool,
     out: O,
 ) -> Followed<O> {
@@ -152,8 +152,8 @@ fn follow_other<R: Threads + Sync, O: Sink + Drop>(
     };
     let mut outside = Outside::new(rt, ledger, out);
     outside.show_progress();
-    let status = outside.run(threads, words);
-    outside.tell(words, None, &status);
+    let status = outside.run(threads, request);
+    outside.tell(request, None, &status);
     Followed {
         status,
         out: outside.into_out(),
@@ -167,19 +167,20 @@ fn end_without_task<O: Sink>(rt: &HostRuntime, status: Status, mut out: O) -> Fo
     Followed { status, out }
 }
 
-/// Follows words as the program does: what they ask for is done over the real folders, with its report on an output, and what stands
-/// behind the status is told on standard error. Where the words ask for nothing, the status is `Usage`.
+/// Follows words as the program does: they are read once, what they ask for is done over the real folders, with its report on an
+/// output, and what stands behind the status is told on standard error. Where the words ask for nothing, the status is `Usage`.
 pub fn follow_words<R: Threads + Sync, O: Sink + Drop>(
     rt: &HostRuntime,
     threads: &R,
     words: &[Text],
     out: O,
 ) -> Followed<O> {
-    match asked_of(rt.alloc(), words) {
-        Ok(Asked::Run(roots)) => follow_run(rt, threads, words, &roots, out),
-        Ok(Asked::Sql) => follow_other(rt, threads, words, true, out),
-        Ok(Asked::Other) => follow_other(rt, threads, words, false, out),
-        Err(Memory) => end_without_task(rt, Status::Memory, out),
+    let request = Request::read(rt.alloc(), words);
+    match asked_of(&request) {
+        Asked::Run(roots) => follow_run(rt, threads, &request, roots, out),
+        Asked::Sql => follow_other(rt, threads, &request, true, out),
+        Asked::Other => follow_other(rt, threads, &request, false, out),
+        Asked::Memory => end_without_task(rt, Status::Memory, out),
     }
 }
 

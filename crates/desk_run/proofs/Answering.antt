@@ -9,7 +9,7 @@ use Rattle.desk_comparison.specs.Halts.{HaltsComparing, IsEnd, is_comparison_sta
 use Rattle.desk_folders.specs.Contents.{Contents, files_below}
 use Rattle.desk_intake.specs.Halts.{HaltsAtRules, is_limit, is_rules_status}
 use Rattle.desk_intake.specs.Rulings.{ruled}
-use Rattle.desk_intake.specs.declared.rules.Ruled.{Ruled}
+use Rattle.desk_intake.specs.declared.rules.DigestedRules.{DigestedRules}
 use Rattle.desk_intake.specs.declared.halts.Halt.{Halt}
 use Rattle.desk_intake.specs.declared.halts.Halt.TheVariants as halt
 use Rattle.desk_invert.specs.Answers.{IsFaultOf, inversion}
@@ -202,7 +202,7 @@ rules_halt rules told f f' halt.Ledger g = absurd g
 rules_halt rules told f f' (halt.Answer status) g = (rules_against rules status g.0, if_some_map told _ _ (λ m e. ap inverse_by e) g.1)
 
 -- rules that have no inverse
-pub inverse_halt : (rules : Text) (told : Option Contents) (r : Ruled) (f f' : ℕ) (e : InvertError) → IfSome told (λ m. ruled rules (files_below rules m) ≡ Ok r) → IsFaultOf (inversion r.rules) e
+pub inverse_halt : (rules : Text) (told : Option Contents) (r : DigestedRules) (f f' : ℕ) (e : InvertError) → IfSome told (λ m. ruled rules (files_below rules m) ≡ Ok r) → IsFaultOf (inversion r.rules) e
     → HaltsQuery (query.Invert rules) told f f' (halt_of_inverse e)
 inverse_halt rules told r f f' (error.Fault fault) have is = (refl, if_some_map told _ _ (λ m e. ap inverse_by e ∙ ap told_inverse is) have)
 inverse_halt rules told r f f' error.Memory have is = tt

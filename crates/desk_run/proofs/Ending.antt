@@ -8,8 +8,8 @@ use Rattle.desk_base.specs.Paths.{full}
 use Rattle.desk_batches.specs.Stops.{Broken, StoppedAt}
 use Rattle.desk_batches.specs.Turns.{outcome_of, outcome_of_plan}
 use Rattle.desk_batches.specs.Works.{Keep, Work, cleared, files_after, fresh, ledger_after, writes}
-use Rattle.desk_batches.specs.declared.noted.Noted.{Noted}
-use Rattle.desk_batches.specs.declared.noted.Outcome.{Outcome}
+use Rattle.desk_batches.specs.declared.planned.PlannedFile.{PlannedFile}
+use Rattle.desk_batches.specs.declared.planned.Outcome.{Outcome}
 use Rattle.desk_batches.specs.declared.stops.Stop.{Stop}
 use Rattle.desk_batches.specs.declared.stops.Stop.TheVariants as stop
 use Rattle.desk_file.specs.Routes.{route_of}
@@ -33,7 +33,7 @@ use Rattle.desk_run.specs.Answers.{other_run, or_else, answer_of_run, first_answ
 use Rattle.desk_run.specs.Endings.{WhereTold, Tells, Planned, LedgerEarly, HaltsEarly, AllWritten, Finishes, Reported, ReportedOf, StandsAt, IsDone, IsTold, IsWritten, StandsAfter, is_final}
 use Rattle.desk_run.specs.Meaning.{run_of_asked}
 use Rattle.desk_run.specs.Asked.{Asked}
-use Rattle.desk_run.specs.Notes.{measured_of, noted_by}
+use Rattle.desk_run.specs.Notes.{measured_of, planned_by}
 use Rattle.desk_run.specs.Reports.{report_by, line_of, lines_of, file_line, summary_of, summary_by, ending, ending_by, outcome_line, is_written, was_kept, was_refused, number_in, renamed_uses, added_texts, number_in_file, number_of}
 use Rattle.desk_run.specs.Runs.{Run, is_kept_file, is_fresh, is_refused}
 use Rattle.desk_run.specs.Stands.{Unchanged, Between}
@@ -255,11 +255,11 @@ abbrev pub outcomes_of : Run → Rows → List File → List Outcome
 outcomes_of run rows files = map outcome_of (works_of run rows files)
 
 lines_same : (run : Run) (rules : Rules) (finds : Text → Held → Bool) (rows : Rows) (files : List File) → ((path : Text) → (route_of rules path).target ≡ run.target path)
-    → lines_of (map (noted_by finds rows) (map (measured_of rules) files)) (outcomes_of run rows files) ≡ flat_map (line_of run rows) files
+    → lines_of (map (planned_by finds rows) (map (measured_of rules) files)) (outcomes_of run rows files) ≡ flat_map (line_of run rows) files
 lines_same run rules finds rows [] goes = refl
 lines_same run rules finds rows (file ∷ files) goes =
-    ap (λ t. outcome_line file.path t (outcome_of (work_of run rows file)) ++ lines_of (map (noted_by finds rows) (map (measured_of rules) files)) (outcomes_of run rows files)) (goes file.path)
-    ∙ ap (λ t. t ++ lines_of (map (noted_by finds rows) (map (measured_of rules) files)) (outcomes_of run rows files)) (line_outcome file.path (run.target file.path) _ _ _)
+    ap (λ t. outcome_line file.path t (outcome_of (work_of run rows file)) ++ lines_of (map (planned_by finds rows) (map (measured_of rules) files)) (outcomes_of run rows files)) (goes file.path)
+    ∙ ap (λ t. t ++ lines_of (map (planned_by finds rows) (map (measured_of rules) files)) (outcomes_of run rows files)) (line_outcome file.path (run.target file.path) _ _ _)
     ∙ ap (λ t. line_of run rows file ++ t) (lines_same run rules finds rows files goes)
 
 counted : (p : Outcome → Bool) (q : File → Bool) (run : Run) (rows : Rows) → ((file : File) → p (outcome_of (work_of run rows file)) ≡ q file) → (files : List File) → count_by p (outcomes_of run rows files) ≡ count_by q files
@@ -320,11 +320,11 @@ planned_first asked m0 l0 to header works p =
     ∙ ap (λ o. or_else o last) p.other)
 
 -- what became of the files of a run that is written whole
-pub is_written_all : (asked : Asked) (m0 : Contents) (l0 : Ledger) (to : Text) (header : Header) (works : List Work) (rules : Rules) (noted : List Noted) (outcomes : List Outcome) (f' : Option Contents) (k' : Option Ledger)
+pub is_written_all : (asked : Asked) (m0 : Contents) (l0 : Ledger) (to : Text) (header : Header) (works : List Work) (rules : Rules) (planned : List PlannedFile) (outcomes : List Outcome) (f' : Option Contents) (k' : Option Ledger)
     → (p : Planned asked m0 l0 to header works) → ((path : Text) → (route_of rules path).target ≡ p.run.target path) → AllWritten to works (Some m0) f' (Some (with_header header l0)) k'
-    → noted ≡ map (noted_by p.run.finds l0.rows) (map (measured_of rules) (files_below p.run.from m0)) → outcomes ≡ map outcome_of works → Tells f' k' (λ m l. IsWritten asked m0 l0 m l noted outcomes)
+    → planned ≡ map (planned_by p.run.finds l0.rows) (map (measured_of rules) (files_below p.run.from m0)) → outcomes ≡ map outcome_of works → Tells f' k' (λ m l. IsWritten asked m0 l0 m l planned outcomes)
 unfolding all_written
-is_written_all asked m0 l0 to header works rules noted outcomes f' k' p goes a e o =
+is_written_all asked m0 l0 to header works rules planned outcomes f' k' p goes a e o =
     let t = all_written asked m0 l0 to header works f' k' p a in
     let files = files_below p.run.from m0 in
     let are : outcomes ≡ outcomes_of p.run l0.rows files = o ∙ ap (map outcome_of) p.are in
@@ -336,7 +336,7 @@ is_written_all asked m0 l0 to header works rules noted outcomes f' k' p goes a e
       ledger = t.ledger;
       holds = record {
         done = t.holds;
-        report_is = ap (λ os. report_by noted os) are ∙ ap (λ ns. report_by ns (outcomes_of p.run l0.rows files)) e
+        report_is = ap (λ os. report_by planned os) are ∙ ap (λ ns. report_by ns (outcomes_of p.run l0.rows files)) e
             ∙ ap (λ t. t ++ summary_text (summary_by (outcomes_of p.run l0.rows files))) (lines_same p.run rules p.run.finds l0.rows files goes)
             ∙ ap (λ s. flat_map (line_of p.run l0.rows) files ++ summary_text s) (summary_same p.run l0.rows files);
         totals = totals;
@@ -345,29 +345,29 @@ is_written_all asked m0 l0 to header works rules noted outcomes f' k' p goes a e
     }
 
 -- what is told behind a run that is written
-pub told_reported : (asked : Asked) (f0 f' : Option Contents) (k0 k' : Option Ledger) (noted : List Noted) (outcomes : List Outcome) (o o' : Option Text) (status : Status)
-    → WhereTold f0 k0 (λ m0 l0. Tells f' k' (λ m l. IsWritten asked m0 l0 m l noted outcomes)) → IsTold status → Reported (report_by noted outcomes) o o' status → ReportedOf asked f0 k0 o o' status
-told_reported asked f0 f' k0 k' noted outcomes o o' Done w t r = λ m l ef ek. let x = w m l ef ek in ok_and (run_of_asked asked m) x.holds.done.run _ x.holds.done.ready.is (r ∙ ap (λ t. writing t o) x.holds.report_is)
-told_reported asked f0 f' k0 k' noted outcomes o o' Refusals w t r = λ m l ef ek. let x = w m l ef ek in ok_and (run_of_asked asked m) x.holds.done.run _ x.holds.done.ready.is (r ∙ ap (λ t. writing t o) x.holds.report_is)
-told_reported asked f0 f' k0 k' noted outcomes o o' OutputFault w t r = λ m l ef ek. let x = w m l ef ek in ok_and (run_of_asked asked m) x.holds.done.run _ x.holds.done.ready.is (subst (λ t. WritesFront t o o') x.holds.report_is r)
-told_reported asked f0 f' k0 k' noted outcomes o o' Memory w t r = absurd t
-told_reported asked f0 f' k0 k' noted outcomes o o' (FolderFault done) w t r = absurd t
-told_reported asked f0 f' k0 k' noted outcomes o o' (LedgerFault done) w t r = absurd t
-told_reported asked f0 f' k0 k' noted outcomes o o' Usage w t r = absurd t
-told_reported asked f0 f' k0 k' noted outcomes o o' (NestedRoots first second) w t r = absurd t
-told_reported asked f0 f' k0 k' noted outcomes o o' (BadRules fault) w t r = absurd t
-told_reported asked f0 f' k0 k' noted outcomes o o' (OtherRun kept wanted) w t r = absurd t
-told_reported asked f0 f' k0 k' noted outcomes o o' (Limit kind path) w t r = absurd t
-told_reported asked f0 f' k0 k' noted outcomes o o' (PathClash first second) w t r = absurd t
-told_reported asked f0 f' k0 k' noted outcomes o o' (NameClash defined other image) w t r = absurd t
-told_reported asked f0 f' k0 k' noted outcomes o o' (Stranded path held) w t r = absurd t
-told_reported asked f0 f' k0 k' noted outcomes o o' (Moved path one other) w t r = absurd t
-told_reported asked f0 f' k0 k' noted outcomes o o' (NotInvertible fault) w t r = absurd t
-told_reported asked f0 f' k0 k' noted outcomes o o' (Differs path) w t r = absurd t
+pub told_reported : (asked : Asked) (f0 f' : Option Contents) (k0 k' : Option Ledger) (planned : List PlannedFile) (outcomes : List Outcome) (o o' : Option Text) (status : Status)
+    → WhereTold f0 k0 (λ m0 l0. Tells f' k' (λ m l. IsWritten asked m0 l0 m l planned outcomes)) → IsTold status → Reported (report_by planned outcomes) o o' status → ReportedOf asked f0 k0 o o' status
+told_reported asked f0 f' k0 k' planned outcomes o o' Done w t r = λ m l ef ek. let x = w m l ef ek in ok_and (run_of_asked asked m) x.holds.done.run _ x.holds.done.ready.is (r ∙ ap (λ t. writing t o) x.holds.report_is)
+told_reported asked f0 f' k0 k' planned outcomes o o' Refusals w t r = λ m l ef ek. let x = w m l ef ek in ok_and (run_of_asked asked m) x.holds.done.run _ x.holds.done.ready.is (r ∙ ap (λ t. writing t o) x.holds.report_is)
+told_reported asked f0 f' k0 k' planned outcomes o o' OutputFault w t r = λ m l ef ek. let x = w m l ef ek in ok_and (run_of_asked asked m) x.holds.done.run _ x.holds.done.ready.is (subst (λ t. WritesFront t o o') x.holds.report_is r)
+told_reported asked f0 f' k0 k' planned outcomes o o' Memory w t r = absurd t
+told_reported asked f0 f' k0 k' planned outcomes o o' (FolderFault done) w t r = absurd t
+told_reported asked f0 f' k0 k' planned outcomes o o' (LedgerFault done) w t r = absurd t
+told_reported asked f0 f' k0 k' planned outcomes o o' Usage w t r = absurd t
+told_reported asked f0 f' k0 k' planned outcomes o o' (NestedRoots first second) w t r = absurd t
+told_reported asked f0 f' k0 k' planned outcomes o o' (BadRules fault) w t r = absurd t
+told_reported asked f0 f' k0 k' planned outcomes o o' (OtherRun kept wanted) w t r = absurd t
+told_reported asked f0 f' k0 k' planned outcomes o o' (Limit kind path) w t r = absurd t
+told_reported asked f0 f' k0 k' planned outcomes o o' (PathClash first second) w t r = absurd t
+told_reported asked f0 f' k0 k' planned outcomes o o' (NameClash defined other image) w t r = absurd t
+told_reported asked f0 f' k0 k' planned outcomes o o' (Stranded path held) w t r = absurd t
+told_reported asked f0 f' k0 k' planned outcomes o o' (Moved path one other) w t r = absurd t
+told_reported asked f0 f' k0 k' planned outcomes o o' (NotInvertible fault) w t r = absurd t
+told_reported asked f0 f' k0 k' planned outcomes o o' (Differs path) w t r = absurd t
 
-pub told_stands : (asked : Asked) (f0 f' : Option Contents) (k0 k' : Option Ledger) (noted : List Noted) (outcomes : List Outcome) (status : Status)
-    → WhereTold f0 k0 (λ m0 l0. Tells f' k' (λ m l. IsWritten asked m0 l0 m l noted outcomes)) → IsTold status → WhereTold f0 k0 (λ m0 l0. Tells f' k' (λ m l. StandsAfter asked m0 l0 m l status))
-told_stands asked f0 f' k0 k' noted outcomes status w t = λ m0 l0 ef ek.
+pub told_stands : (asked : Asked) (f0 f' : Option Contents) (k0 k' : Option Ledger) (planned : List PlannedFile) (outcomes : List Outcome) (status : Status)
+    → WhereTold f0 k0 (λ m0 l0. Tells f' k' (λ m l. IsWritten asked m0 l0 m l planned outcomes)) → IsTold status → WhereTold f0 k0 (λ m0 l0. Tells f' k' (λ m l. StandsAfter asked m0 l0 m l status))
+told_stands asked f0 f' k0 k' planned outcomes status w t = λ m0 l0 ef ek.
     let x = w m0 l0 ef ek in record { m = x.m; l = x.l; folders = x.folders; ledger = x.ledger; holds = by m0 l0 x.m x.l status t x.holds.done } where
       by : (m0 : Contents) (l0 : Ledger) (m : Contents) (l : Ledger) (status : Status) → IsTold status → IsDone asked m0 l0 m l → StandsAfter asked m0 l0 m l status
       by m0 l0 m l Done t d = d
@@ -388,13 +388,13 @@ told_stands asked f0 f' k0 k' noted outcomes status w t = λ m0 l0 ef ek.
       by m0 l0 m l (NotInvertible fault) t d = absurd t
       by m0 l0 m l (Differs path) t d = absurd t
 
-pub told_first : (asked : Asked) (f0 f' : Option Contents) (k0 k' : Option Ledger) (noted : List Noted) (outcomes : List Outcome) (status : Status)
-    → WhereTold f0 k0 (λ m0 l0. Tells f' k' (λ m l. IsWritten asked m0 l0 m l noted outcomes)) → (is_final status ≡ true → status ≡ ending_by outcomes) → WhereTold f0 k0 (λ m l. is_final status ≡ true → status ≡ first_answer asked m l)
-told_first asked f0 f' k0 k' noted outcomes status w ends = λ m l ef ek e. ends e ∙ (w m l ef ek).holds.ends
+pub told_first : (asked : Asked) (f0 f' : Option Contents) (k0 k' : Option Ledger) (planned : List PlannedFile) (outcomes : List Outcome) (status : Status)
+    → WhereTold f0 k0 (λ m0 l0. Tells f' k' (λ m l. IsWritten asked m0 l0 m l planned outcomes)) → (is_final status ≡ true → status ≡ ending_by outcomes) → WhereTold f0 k0 (λ m l. is_final status ≡ true → status ≡ first_answer asked m l)
+told_first asked f0 f' k0 k' planned outcomes status w ends = λ m l ef ek e. ends e ∙ (w m l ef ek).holds.ends
 
-pub told_totals : (asked : Asked) (f0 f' : Option Contents) (k0 k' : Option Ledger) (noted : List Noted) (outcomes : List Outcome) (totals : Summary) → WhereTold f0 k0 (λ m0 l0. Tells f' k' (λ m l. IsWritten asked m0 l0 m l noted outcomes))
+pub told_totals : (asked : Asked) (f0 f' : Option Contents) (k0 k' : Option Ledger) (planned : List PlannedFile) (outcomes : List Outcome) (totals : Summary) → WhereTold f0 k0 (λ m0 l0. Tells f' k' (λ m l. IsWritten asked m0 l0 m l planned outcomes))
     → totals ≡ summary_by outcomes → WhereTold f0 k0 (λ m l. IsOkAnd (run_of_asked asked m) (λ run. totals ≡ summary_of run l.rows (files_below run.from m)))
-told_totals asked f0 f' k0 k' noted outcomes totals w e = λ m l ef ek. let x = w m l ef ek in ok_and (run_of_asked asked m) x.holds.done.run _ x.holds.done.ready.is (e ∙ x.holds.totals)
+told_totals asked f0 f' k0 k' planned outcomes totals w e = λ m l ef ek. let x = w m l ef ek in ok_and (run_of_asked asked m) x.holds.done.run _ x.holds.done.ready.is (e ∙ x.holds.totals)
 
 -- ---- a stop of the writing
 

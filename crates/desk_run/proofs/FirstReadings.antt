@@ -11,7 +11,7 @@ use Rattle.desk_readings.specs.Sizes.{large_size}
 use Rattle.desk_readings.specs.Noting.{IsWithin, NoteFails, NotedTo}
 use Rattle.desk_readings.specs.Readings.{bytes_here, first_large, is_large, measured_at, most_by, note_at, scans_at}
 use Rattle.desk_readings.specs.declared.measured.ClassNote.{ClassNote}
-use Rattle.desk_readings.specs.declared.measured.Measured.{Measured}
+use Rattle.desk_readings.specs.declared.measured.MeasuredFile.{MeasuredFile}
 use Rattle.desk_readings.specs.declared.faults.NoteFault.{NoteFault}
 use Rattle.desk_readings.specs.declared.faults.NoteFault.TheVariants as note
 use Rattle.desk_file.proofs.Treating.{whole_treated}
@@ -30,15 +30,15 @@ use Rattle.desk_second.specs.Applications.{classes_of}
 use Rattle.desk_intake.proofs.Listed.{scanned_routed}
 use Rattle.desk_intake.specs.Halts.{HaltsWith}
 use Rattle.desk_intake.specs.Limits.{most_size, size_answer}
-use Rattle.desk_run.specs.Notes.{IsRead, class_note_of, measured_of}
+use Rattle.desk_run.specs.Notes.{IsRead, measured_of}
 use Rattle.desk_intake.specs.Routes.{IsRelativeRoute}
 use Rattle.desk_intake.specs.Faults.{halt_of_note}
 
 -- ---- sizes and digests
 
-measured_routed : (rules : Rules) (from : Text) (m : Contents) (paths : List Text) → map (measured_at from m) (map (route_of rules) paths) ≡ map (measured_of rules) (map (file_at from m) paths)
+measured_routed : (rules : Rules) (from : Text) (m : Contents) (paths : List Text) → map (measured_at rules from m) (map (route_of rules) paths) ≡ map (measured_of rules) (map (file_at from m) paths)
 measured_routed rules from m [] = refl
-measured_routed rules from m (path ∷ paths) = ap (λ (fs : List Measured). measured_of rules (file_at from m path) ∷ fs) (measured_routed rules from m paths)
+measured_routed rules from m (path ∷ paths) = ap (λ (fs : List MeasuredFile). measured_of rules (file_at from m path) ∷ fs) (measured_routed rules from m paths)
 
 -- ---- classes
 
@@ -47,17 +47,6 @@ scans_routed rules from m [] = refl
 scans_routed rules from m (path ∷ paths) =
     ap (λ (ss : List Scanned). ss ++ scans_at from m (map (route_of rules) paths)) (scanned_routed rules path (bytes_at m (full from path)))
     ∙ ap (λ (ss : List Scanned). scanned_at rules path (bytes_at m (full from path)) ++ ss) (scans_routed rules from m paths)
-
-notes_routed : (rules : Rules) (from : Text) (m : Contents) (paths : List Text) → map (note_at rules from m) (map (route_of rules) paths) ≡ map (class_note_of rules) (map (file_at from m) paths)
-notes_routed rules from m [] = refl
-notes_routed rules from m (path ∷ paths) = ap (λ (ns : List ClassNote). class_note_of rules (file_at from m path) ∷ ns) (notes_routed rules from m paths)
-
-pub notes_told : (rules : Rules) (from : Text) (told mid : Option Contents) (routes : List Route) (notes : List ClassNote) → mid ≡ told → IfSome told (λ m. routes ≡ map (route_of rules) (paths_below from m))
-    → IfSome mid (λ m. notes ≡ map (note_at rules from m) routes) → IfSome told (λ m. notes ≡ map (class_note_of rules) (files_below from m))
-notes_told rules from told mid routes notes same listed noted = if_some _ told (λ m t.
-    at_some (λ m. notes ≡ map (note_at rules from m) routes) mid m (same ∙ t) noted
-    ∙ ap (map (note_at rules from m)) (at_some (λ m. routes ≡ map (route_of rules) (paths_below from m)) told m t listed)
-    ∙ notes_routed rules from m (paths_below from m))
 
 -- ---- bytes
 
@@ -94,16 +83,16 @@ large_routed rules from m (path ∷ paths) =
 -- ---- of all files below a root
 
 -- what is known of the files of these routes
-pub record SaysOf (rules : Rules) (from : Text) (m : Contents) (files : List Measured) (classes : List Scanned) : Type 0 where
+pub record SaysOf (rules : Rules) (from : Text) (m : Contents) (files : List MeasuredFile) (classes : List Scanned) : Type 0 where
   pub are : files ≡ map (measured_of rules) (files_below from m)
   pub scanned : classes ≡ classes_of rules (files_below from m)
   pub bytes : All (λ (file : File). IsBytes file.bytes) (files_below from m)
   pub fit : size_answer (is_whole rules) (files_below from m) ≡ None
 
-pub says_of : (rules : Rules) (from : Text) (m : Contents) (routes : List Route) (files : List Measured) (classes : List Scanned) → routes ≡ map (route_of rules) (paths_below from m) → NotedTo from m routes files classes
+pub says_of : (rules : Rules) (from : Text) (m : Contents) (routes : List Route) (files : List MeasuredFile) (classes : List Scanned) → routes ≡ map (route_of rules) (paths_below from m) → NotedTo rules from m routes files classes
     → SaysOf rules from m files classes
 says_of rules from m routes files classes e n = record {
-  are = n.files ∙ ap (map (measured_at from m)) e ∙ measured_routed rules from m (paths_below from m);
+  are = n.files ∙ ap (map (measured_at rules from m)) e ∙ measured_routed rules from m (paths_below from m);
   scanned = n.scanned ∙ ap (scans_at from m) e ∙ scans_routed rules from m (paths_below from m);
   bytes = bytes_routed rules from m (paths_below from m) (subst (All (λ (route : Route). IsBytes (bytes_here from m route))) e n.bytes);
   fit = sym (ap large_status (sym n.fit ∙ ap (first_large from m) e) ∙ large_routed rules from m (paths_below from m));
@@ -123,15 +112,15 @@ halts_large rules from told routes f f' (note.TooLarge path) e g = (
 
 -- ---- whatever is told
 
-pub all_read : (rules : Rules) (routes : List Route) (files : List Measured) → map (λ (file : Measured). file.route) files ≡ routes → All (λ (route : Route). IsRelativeRoute route) routes → All (λ (route : Route). IsRouteBy rules route) routes
+pub all_read : (rules : Rules) (routes : List Route) (files : List MeasuredFile) → map (λ (file : MeasuredFile). file.route) files ≡ routes → All (λ (route : Route). IsRelativeRoute route) routes → All (λ (route : Route). IsRouteBy rules route) routes
     → All IsWithin files → All (IsRead rules) files
 all_read rules routes files e relative routed within =
     by files (subst (All (λ (route : Route). IsRelativeRoute route)) (sym e) relative) (subst (All (λ (route : Route). IsRouteBy rules route)) (sym e) routed) within where
-      by : (files : List Measured) → All (λ (route : Route). IsRelativeRoute route) (map (λ (file : Measured). file.route) files) → All (λ (route : Route). IsRouteBy rules route) (map (λ (file : Measured). file.route) files)
+      by : (files : List MeasuredFile) → All (λ (route : Route). IsRelativeRoute route) (map (λ (file : MeasuredFile). file.route) files) → All (λ (route : Route). IsRouteBy rules route) (map (λ (file : MeasuredFile). file.route) files)
           → All IsWithin files → All (IsRead rules) files
       by [] r s w = All-nil (IsRead rules)
       by (file ∷ files) r s w =
-          let rest = map (λ (file : Measured). file.route) files in
+          let rest = map (λ (file : MeasuredFile). file.route) files in
           All-cons (IsRead rules) file files (record {
             route = All-head (λ (route : Route). IsRouteBy rules route) file.route rest s;
             relative = All-head (λ (route : Route). IsRelativeRoute route) file.route rest r;

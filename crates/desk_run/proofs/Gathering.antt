@@ -5,7 +5,7 @@ use Rattle.desk_base.specs.Names.{Text}
 use Rattle.desk_base.proofs.Results.{at_some}
 use Rattle.desk_readings.proofs.Fronts.{if_some}
 use Rattle.desk_readings.specs.Noting.{NotedTo}
-use Rattle.desk_readings.specs.declared.measured.Measured.{Measured}
+use Rattle.desk_readings.specs.declared.measured.MeasuredFile.{MeasuredFile}
 use Rattle.desk_clashes.specs.Clashes.{first_clash}
 use Rattle.desk_file.specs.Images.{target}
 use Rattle.desk_file.specs.Routes.{route_of}
@@ -26,13 +26,13 @@ use Rattle.desk_run.specs.Endings.{AreRead, HasGathered}
 use Rattle.desk_run.specs.Halts.{HaltsAtFiles, HaltsGathering, HaltsReadingAll, clash_of, paths_in, reading_answer, is_read_status, is_early_answer, targets_in}
 use Rattle.desk_intake.specs.Halts.{HaltsClashing, HaltsWith}
 use Rattle.desk_intake.specs.Limits.{paths_answer, size_answer}
-use Rattle.desk_run.specs.Meaning.{header_of, run_of, run_by_roots, run_by_rules, run_of_asked}
+use Rattle.desk_run.specs.Meaning.{run_of, run_by_roots, run_by_rules, run_of_asked}
 use Rattle.desk_intake.specs.Rulings.{ruled}
 use Rattle.desk_run.specs.Asked.{Asked, asked_roots}
 use Rattle.desk_run.specs.Notes.{IsRead, class_note_of, measured_of}
 use Rattle.desk_run.specs.Reports.{ending}
 use Rattle.desk_run.specs.declared.gather.Gathered.{Gathered}
-use Rattle.desk_intake.specs.declared.rules.Ruled.{Ruled}
+use Rattle.desk_intake.specs.declared.rules.DigestedRules.{DigestedRules}
 use Rattle.desk_intake.specs.declared.halts.Halt.{Halt}
 use Rattle.desk_intake.specs.declared.halts.Halt.TheVariants as halt
 
@@ -56,7 +56,7 @@ reading_status asked (NotInvertible fault) e = cc
 reading_status asked (Differs path) e = cc
 reading_status asked (OtherRun kept wanted) e = cc
 
-reading_first : (names : Roots) (m : Contents) (l : Ledger) (status : Status) (r : Result Ruled Status) → reading_answer names m r ≡ Some status → answer_of_run m l (run_by_rules m names r) ≡ status
+reading_first : (names : Roots) (m : Contents) (l : Ledger) (status : Status) (r : Result DigestedRules Status) → reading_answer names m r ≡ Some status → answer_of_run m l (run_by_rules m names r) ≡ status
 reading_first names m l status (Err s) e = cc
 reading_first names m l status (Ok r) e =
     let run = run_of names r m in
@@ -76,7 +76,7 @@ halts_reading asked names told f f' (halt.Answer status) e g =
     }
 
 -- the run that was read
-pub run_read : (asked : Asked) (names : Roots) (r : Ruled) (told : Option Contents) → asked ≡ Ok names → IfSome told (λ m. ruled names.rules (files_below names.rules m) ≡ Ok r)
+pub run_read : (asked : Asked) (names : Roots) (r : DigestedRules) (told : Option Contents) → asked ≡ Ok names → IfSome told (λ m. ruled names.rules (files_below names.rules m) ≡ Ok r)
     → IfSome told (λ m. run_of_asked asked m ≡ Ok (run_of names r m))
 run_read asked names r told e g = if_some _ told (λ m t. ap (run_by_roots m) e ∙ ap (run_by_rules m names) (at_some (λ m. ruled names.rules (files_below names.rules m) ≡ Ok r) told m t g))
 
@@ -88,34 +88,34 @@ first_some : (a b : Option Status) (status : Status) → a ≡ Some status → f
 first_some a b status e = ap (λ o. first_of o b) e
 
 -- the paths and targets of what was read
-paths_read : (rules : Rules) (from : Text) (m : Contents) (paths : List Text) → map (λ (file : Measured). file.route.path) (map (measured_of rules) (map (file_at from m) paths)) ≡ paths
+paths_read : (rules : Rules) (from : Text) (m : Contents) (paths : List Text) → map (λ (file : MeasuredFile). file.route.path) (map (measured_of rules) (map (file_at from m) paths)) ≡ paths
 paths_read rules from m [] = refl
 paths_read rules from m (path ∷ paths) = ap (λ ps. path ∷ ps) (paths_read rules from m paths)
 
-targets_read : (rules : Rules) (from : Text) (m : Contents) (paths : List Text) → map (λ (file : Measured). file.route.target) (map (measured_of rules) (map (file_at from m) paths)) ≡ map (target rules) paths
+targets_read : (rules : Rules) (from : Text) (m : Contents) (paths : List Text) → map (λ (file : MeasuredFile). file.route.target) (map (measured_of rules) (map (file_at from m) paths)) ≡ map (target rules) paths
 targets_read rules from m [] = refl
 targets_read rules from m (path ∷ paths) = ap (λ ts. target rules path ∷ ts) (targets_read rules from m paths)
 
 -- what clashes of them
-clash_same : (rules : Rules) (from : Text) (m : Contents) (files : List Measured) → files ≡ map (measured_of rules) (files_below from m) → clash_of files ≡ clash_answer (target rules) (paths_below from m)
+clash_same : (rules : Rules) (from : Text) (m : Contents) (files : List MeasuredFile) → files ≡ map (measured_of rules) (files_below from m) → clash_of files ≡ clash_answer (target rules) (paths_below from m)
 clash_same rules from m files e =
     ap clash_of e
-    ∙ ap (λ ps. clash_status ps (first_clash (map (λ (file : Measured). file.route.target) (map (measured_of rules) (files_below from m))))) (paths_read rules from m (paths_below from m))
+    ∙ ap (λ ps. clash_status ps (first_clash (map (λ (file : MeasuredFile). file.route.target) (map (measured_of rules) (files_below from m))))) (paths_read rules from m (paths_below from m))
     ∙ ap (λ ts. clash_status (paths_below from m) (first_clash ts)) (targets_read rules from m (paths_below from m))
 
 -- what stands against files of which none has too many bytes
-files_answer_read : (rules : Rules) (from : Text) (m : Contents) (files : List Measured) (classes : List Scanned) → paths_answer from (target rules) (paths_below from m) ≡ None → SaysOf rules from m files classes
+files_answer_read : (rules : Rules) (from : Text) (m : Contents) (files : List MeasuredFile) (classes : List Scanned) → paths_answer from (target rules) (paths_below from m) ≡ None → SaysOf rules from m files classes
     → files_answer from (target rules) (is_whole rules) m ≡ clash_of files
 files_answer_read rules from m files classes routed says = first_none _ _ routed ∙ first_none _ _ says.fit ∙ sym (clash_same rules from m files says.are)
 
 -- what was noted of the files of these routes says this of them
-pub says_told : (rules : Rules) (from : Text) (told mid : Option Contents) (routes : List Route) (files : List Measured) (classes : List Scanned) → mid ≡ told → IfSome told (λ m. routes ≡ map (route_of rules) (paths_below from m))
-    → IfSome mid (λ m. NotedTo from m routes files classes) → IfSome told (λ m. SaysOf rules from m files classes)
+pub says_told : (rules : Rules) (from : Text) (told mid : Option Contents) (routes : List Route) (files : List MeasuredFile) (classes : List Scanned) → mid ≡ told → IfSome told (λ m. routes ≡ map (route_of rules) (paths_below from m))
+    → IfSome mid (λ m. NotedTo rules from m routes files classes) → IfSome told (λ m. SaysOf rules from m files classes)
 says_told rules from told mid routes files classes same listed noted = if_some _ told (λ m t.
-    says_of rules from m routes files classes (at_some (λ m. routes ≡ map (route_of rules) (paths_below from m)) told m t listed) (at_some (λ m. NotedTo from m routes files classes) mid m (same ∙ t) noted))
+    says_of rules from m routes files classes (at_some (λ m. routes ≡ map (route_of rules) (paths_below from m)) told m t listed) (at_some (λ m. NotedTo rules from m routes files classes) mid m (same ∙ t) noted))
 
 -- nothing stands against them
-pub are_read : (rules : Rules) (from : Text) (told : Option Contents) (files : List Measured) (classes : List Scanned) → IfSome told (λ m. paths_answer from (target rules) (paths_below from m) ≡ None)
+pub are_read : (rules : Rules) (from : Text) (told : Option Contents) (files : List MeasuredFile) (classes : List Scanned) → IfSome told (λ m. paths_answer from (target rules) (paths_below from m) ≡ None)
     → IfSome told (λ m. SaysOf rules from m files classes) → clash_of files ≡ None → IfSome told (λ m. AreRead rules from m files classes)
 are_read rules from told files classes clear says e = if_some _ told (λ m t.
     let s = at_some (λ m. SaysOf rules from m files classes) told m t says in
@@ -127,7 +127,7 @@ are_read rules from told files classes clear says e = if_some _ told (λ m t.
     })
 
 -- two of them clash
-pub halts_clash : (rules : Rules) (from : Text) (told : Option Contents) (files : List Measured) (classes : List Scanned) (f f' : ℕ) (h : Halt) → IfSome told (λ m. paths_answer from (target rules) (paths_below from m) ≡ None)
+pub halts_clash : (rules : Rules) (from : Text) (told : Option Contents) (files : List MeasuredFile) (classes : List Scanned) (f f' : ℕ) (h : Halt) → IfSome told (λ m. paths_answer from (target rules) (paths_below from m) ≡ None)
     → IfSome told (λ m. SaysOf rules from m files classes) → HaltsClashing (paths_in files) (targets_in files) h → HaltsAtFiles from (target rules) (is_whole rules) told f f' h
 halts_clash rules from told files classes f f' halt.Memory clear says g = tt
 halts_clash rules from told files classes f f' halt.Folders clear says g = absurd g
@@ -157,22 +157,18 @@ err_reading asked names told f f' (Ok x) e g = tt
 err_reading asked names told f f' (Err h) e g = halts_reading asked names told f f' h e g
 
 -- what was gathered
-pub ok_gathered : (names : Roots) (told : Option Contents) (r : Result Gathered Halt) → IfOk r (λ g. g.header ≡ header_of names g.ruled.value) → IfOk r (λ g. IfSome told (λ m. ruled names.rules (files_below names.rules m) ≡ Ok g.ruled.value))
+pub ok_gathered : (names : Roots) (told : Option Contents) (r : Result Gathered Halt) → IfOk r (λ g. IfSome told (λ m. ruled names.rules (files_below names.rules m) ≡ Ok g.ruled.value))
     → IfOk r (λ g. AreRules g.ruled.value.rules) → IfOk r (λ g. IfSome told (λ m. AreRead g.ruled.value.rules names.from m g.notes.files.items g.notes.scanned.items)) → IfOk r (λ g. All (IsRead g.ruled.value.rules) g.notes.files.items)
-    → IfOk r (λ g. IfSome told (λ m. g.notes.class_notes.items ≡ map (class_note_of g.ruled.value.rules) (files_below names.from m))) → IfOk r (λ g. length g.notes.class_notes.items ≡ length g.notes.files.items)
     → IfOk r (λ g. length g.notes.files.items < 2 ^ 32) → IfOk r (λ g. length g.notes.scanned.items < 2 ^ 32) → IfOk r (HasGathered names told)
-ok_gathered names told (Ok g) header rules are files read notes count few few_classes = record {
-  header = header;
+ok_gathered names told (Ok g) rules are files read few few_classes = record {
   are = are;
   read = read;
-  count = count;
   few = few;
   few_classes = few_classes;
   told_of = if_some _ told (λ m t. record {
     rules = at_some (λ m. ruled names.rules (files_below names.rules m) ≡ Ok g.ruled.value) told m t rules;
     run = at_some (λ m. run_of_asked (asked_roots names) m ≡ Ok (run_of names g.ruled.value m)) told m t (run_read (asked_roots names) names g.ruled.value told refl rules);
     files = at_some (λ m. AreRead g.ruled.value.rules names.from m g.notes.files.items g.notes.scanned.items) told m t files;
-    class_notes = at_some (λ m. g.notes.class_notes.items ≡ map (class_note_of g.ruled.value.rules) (files_below names.from m)) told m t notes;
   });
 }
-ok_gathered names told (Err x) header rules are files read notes count few few_classes = tt
+ok_gathered names told (Err x) rules are files read few few_classes = tt

@@ -9,8 +9,8 @@ use Rattle.std.proofs.lemmas.List.Sums.{sum_by-cons}
 use Rattle.sha2.specs.Sha256.{sha256}
 use Rattle.desk_base.specs.Counts.{Rose, Rose-later}
 use Rattle.desk_base.specs.Names.{Text}
-use Rattle.desk_batches.specs.declared.noted.Noted.{Noted}
-use Rattle.desk_batches.specs.declared.noted.Outcome.{Outcome}
+use Rattle.desk_batches.specs.declared.planned.PlannedFile.{PlannedFile}
+use Rattle.desk_batches.specs.declared.planned.Outcome.{Outcome}
 use Rattle.desk_file.specs.declared.images.Image.{Image}
 use Rattle.desk_folders.specs.Contents.{Contents, File, files_below}
 use Rattle.desk_ledger.specs.declared.keeper.Held.{Held}
@@ -65,19 +65,19 @@ ending_counted run l0 m0 outcomes e =
     let count : count_by was_refused outcomes ≡ count_by (is_refused run l0.rows) (files_below run.from m0) = ap (λ (s : Summary). s.refused) e in
     ap (λ b. if b then Refusals else Done) (any_counted was_refused outcomes ∙ ap is_positive count ∙ sym (any_counted (is_refused run l0.rows) (files_below run.from m0)))
 
-pub written_completes : (asked : Asked) (m0 : Contents) (l0 : Ledger) (m : Contents) (l : Ledger) (noted : List Noted) (outcomes : List Outcome) → IsWritten asked m0 l0 m l noted outcomes
+pub written_completes : (asked : Asked) (m0 : Contents) (l0 : Ledger) (m : Contents) (l : Ledger) (planned : List PlannedFile) (outcomes : List Outcome) → IsWritten asked m0 l0 m l planned outcomes
     → Completes asked m0 l0 l (λ t. summary_by outcomes ≡ t)
-written_completes asked m0 l0 m l noted outcomes w = record {
+written_completes asked m0 l0 m l planned outcomes w = record {
   run = ok_and (run_of_asked asked m0) w.done.run
       (λ (run : Run). HoldsRows run m0 l0 l × (first_answer asked m0 l0 ≡ ending run l0.rows (files_below run.from m0)) × (summary_by outcomes ≡ summary_of run l0.rows (files_below run.from m0)))
       w.done.ready.is (holds_rows w.done.run m0 l0 m l w.done.stands, sym w.ends ∙ ending_counted w.done.run l0 m0 outcomes w.totals, w.totals);
 }
 
-pub told_completes : (asked : Asked) (f f' : Option Contents) (k k' : Option Ledger) (noted : List Noted) (outcomes : List Outcome) (totals : Summary)
-    → WhereTold f k (λ m0 l0. Tells f' k' (λ m l. IsWritten asked m0 l0 m l noted outcomes)) → totals ≡ summary_by outcomes → WhereTold f k (λ m0 l0. TellsLedger k' (λ l. Completes asked m0 l0 l (λ t. totals ≡ t)))
-told_completes asked f f' k k' noted outcomes totals w e = λ m0 l0 ef ek.
+pub told_completes : (asked : Asked) (f f' : Option Contents) (k k' : Option Ledger) (planned : List PlannedFile) (outcomes : List Outcome) (totals : Summary)
+    → WhereTold f k (λ m0 l0. Tells f' k' (λ m l. IsWritten asked m0 l0 m l planned outcomes)) → totals ≡ summary_by outcomes → WhereTold f k (λ m0 l0. TellsLedger k' (λ l. Completes asked m0 l0 l (λ t. totals ≡ t)))
+told_completes asked f f' k k' planned outcomes totals w e = λ m0 l0 ef ek.
     let x = w m0 l0 ef ek in
-    record { l = x.l; ledger = x.ledger; holds = subst (λ (s : Summary). Completes asked m0 l0 x.l (λ t. s ≡ t)) (sym e) (written_completes asked m0 l0 x.m x.l noted outcomes x.holds) }
+    record { l = x.l; ledger = x.ledger; holds = subst (λ (s : Summary). Completes asked m0 l0 x.l (λ t. s ≡ t)) (sym e) (written_completes asked m0 l0 x.m x.l planned outcomes x.holds) }
 
 -- ---- behind the line of a fault
 

@@ -8,9 +8,9 @@ use Rattle.desk_batches.specs.Stops.{StoppedAt}
 use Rattle.desk_batches.specs.Turns.{bytes_of, image_here, plan_by, work_in, works_in}
 use Rattle.desk_batches.specs.Works.{Keep, Work, fresh, keeps}
 use Rattle.desk_batches.specs.declared.batches.Stopped.{Stopped}
-use Rattle.desk_batches.specs.declared.noted.Noted.{Noted}
-use Rattle.desk_batches.specs.declared.noted.Way.{Way}
-use Rattle.desk_batches.specs.declared.noted.Way.TheVariants as way
+use Rattle.desk_batches.specs.declared.planned.PlannedFile.{PlannedFile}
+use Rattle.desk_batches.specs.declared.planned.Action.{Action}
+use Rattle.desk_batches.specs.declared.planned.Action.TheVariants as action
 use Rattle.desk_batches.specs.declared.stops.Stop.{Stop}
 use Rattle.desk_batches.specs.declared.stops.Stop.TheVariants as stop
 use Rattle.desk_file.specs.declared.images.Image.{Image}
@@ -41,27 +41,27 @@ next_fresh run m0 l0 works done are h = λ before rest file split count.
     let here : keeps (work file).plan ≡ false = subst (λ (o : Option Work). IsSomeAnd o (λ (w : Work). keeps w.plan ≡ false)) is h in
     not_kept (is_kept_file run l0.rows file) _ _ here
 
--- ---- a file that was noted
+-- ---- a file that is planned
 
 written : (found : Bool) (fate : Result Image Reason) → keeps (fresh found fate) ≡ false
 written found (Ok image) = refl
 written found (Err reason) = refl
 
-work_not_kept : (image : Text → Text → Result Image Reason) (from : Text) (m : Contents) (noted : Noted) (w : Way) → noted.way ≡ w → IsNotKept noted → keeps (work_in image from m noted).plan ≡ false
-work_not_kept image from m noted way.Keep e other = absurd (other e)
-work_not_kept image from m noted (way.Migrate found) e other = ap (λ (w : Way). keeps (plan_by w (bytes_of from m noted) (image_here image from m noted))) e ∙ written found (image_here image from m noted)
-work_not_kept image from m noted (way.Copy found) e other = ap (λ (w : Way). keeps (plan_by w (bytes_of from m noted) (image_here image from m noted))) e
+work_not_kept : (image : Text → Text → Result Image Reason) (from : Text) (m : Contents) (planned : PlannedFile) (w : Action) → planned.action ≡ w → IsNotKept planned → keeps (work_in image from m planned).plan ≡ false
+work_not_kept image from m planned action.Keep e other = absurd (other e)
+work_not_kept image from m planned (action.Migrate found) e other = ap (λ (w : Action). keeps (plan_by w (bytes_of from m planned) (image_here image from m planned))) e ∙ written found (image_here image from m planned)
+work_not_kept image from m planned (action.Copy found) e other = ap (λ (w : Action). keeps (plan_by w (bytes_of from m planned) (image_here image from m planned))) e
 
-some_work : (image : Text → Text → Result Image Reason) (from : Text) (m : Contents) (o : Option Noted) → IsSomeAnd o IsNotKept → IsSomeAnd (option_map (work_in image from m) o) (λ (w : Work). keeps w.plan ≡ false)
+some_work : (image : Text → Text → Result Image Reason) (from : Text) (m : Contents) (o : Option PlannedFile) → IsSomeAnd o IsNotKept → IsSomeAnd (option_map (work_in image from m) o) (λ (w : Work). keeps w.plan ≡ false)
 some_work image from m None h = absurd h
-some_work image from m (Some noted) h = work_not_kept image from m noted noted.way refl h
+some_work image from m (Some planned) h = work_not_kept image from m planned planned.action refl h
 
-fresh_work : (image : Text → Text → Result Image Reason) (from : Text) (m : Contents) (files : List Noted) (done : ℕ) → IsSomeAnd (slice_get files done) IsNotKept → IsFreshWork (works_in image from m files) done
+fresh_work : (image : Text → Text → Result Image Reason) (from : Text) (m : Contents) (files : List PlannedFile) (done : ℕ) → IsSomeAnd (slice_get files done) IsNotKept → IsFreshWork (works_in image from m files) done
 fresh_work image from m files done h =
     subst (λ (o : Option Work). IsSomeAnd o (λ (w : Work). keeps w.plan ≡ false)) (sym (slice_get-map (work_in image from m) files done)) (some_work image from m (slice_get files done) h)
 
 -- where the writing of files stopped
-pub stop_at : (to : Text) (image : Text → Text → Result Image Reason) (from : Text) (m : Contents) (files : List Noted) (why : Stop) (done : ℕ) (f f' : Option Contents) (k k' : Option Ledger)
+pub stop_at : (to : Text) (image : Text → Text → Result Image Reason) (from : Text) (m : Contents) (files : List PlannedFile) (why : Stop) (done : ℕ) (f f' : Option Contents) (k k' : Option Ledger)
     → StoppedAt to (works_in image from m files) done f f' k k' → StopsAtFresh files done why → StopsAt why to (works_in image from m files) done f f' k k'
 stop_at to image from m files stop.Memory done f f' k k' s h = inl s
 stop_at to image from m files stop.Ledger done f f' k k' s h = inl s
@@ -69,13 +69,13 @@ stop_at to image from m files (stop.Moved moved) done f f' k k' s h = s
 stop_at to image from m files stop.Folders done f f' k k' s (inl e) = absurd cc
 stop_at to image from m files stop.Folders done f f' k k' s (inr h) = record { stopped = s; fresh = fresh_work image from m files done h }
 
-stop_told : (to : Text) (image : Text → Text → Result Image Reason) (from : Text) (files : List Noted) (why : Stop) (done : ℕ) (f f' : Option Contents) (k k' : Option Ledger)
+stop_told : (to : Text) (image : Text → Text → Result Image Reason) (from : Text) (files : List PlannedFile) (why : Stop) (done : ℕ) (f f' : Option Contents) (k k' : Option Ledger)
     → IfSome f (λ m. StoppedAt to (works_in image from m files) done f f' k k') → StopsAtFresh files done why → IfSome f (λ m. StopsAt why to (works_in image from m files) done f f' k k')
 stop_told to image from files why done None f' k k' s h = tt
 stop_told to image from files why done (Some m) f' k k' s h = stop_at to image from m files why done (Some m) f' k k' s h
 
 -- where they stopped, if they did, and the ledger told the same behind it
-pub err_stops : {X : Type 0} (to : Text) (image : Text → Text → Result Image Reason) (from : Text) (files : List Noted) (r : Result X Stopped) (f f' : Option Contents) (k mid k' : Option Ledger) → k' ≡ mid
+pub err_stops : {X : Type 0} (to : Text) (image : Text → Text → Result Image Reason) (from : Text) (files : List PlannedFile) (r : Result X Stopped) (f f' : Option Contents) (k mid k' : Option Ledger) → k' ≡ mid
     → IfErr r (λ s. IfSome f (λ m. StoppedAt to (works_in image from m files) s.done f f' k mid)) → IfErr r (λ s. StopsAtFresh files s.done s.why)
     → IfErr r (λ s. IfSome f (λ m. StopsAt s.why to (works_in image from m files) s.done f f' k k'))
 err_stops to image from files (Ok x) f f' k mid k' e s h = tt

@@ -5,7 +5,7 @@ use Rattle.desk_base.specs.Names.{Text}
 use Rattle.desk_base.proofs.Results.{at_some}
 use Rattle.desk_readings.proofs.Fronts.{if_some}
 use Rattle.desk_batches.specs.Turns.{works_in}
-use Rattle.desk_batches.specs.declared.noted.Noted.{Noted}
+use Rattle.desk_batches.specs.declared.planned.PlannedFile.{PlannedFile}
 use Rattle.desk_clashes.specs.ClashLaws.{ApartFromAll, AllApart, all_apart}
 use Rattle.desk_clashes.specs.declared.Clash.{Clash}
 use Rattle.desk_file.specs.Images.{target}
@@ -21,7 +21,7 @@ use Rattle.desk_rules.specs.Rules.{Rules}
 use Rattle.desk_second.specs.Applications.{classes_of}
 use Rattle.desk_words.specs.Roots.{AreRoots}
 use Rattle.desk_words.specs.declared.roots.Roots.{Roots}
-use Rattle.desk_run.proofs.Measures.{works_noted}
+use Rattle.desk_run.proofs.Measures.{works_planned}
 use Rattle.desk_intake.specs.Standing.{clash_status, clash_answer, first_of, names_answer}
 use Rattle.desk_run.specs.Answers.{files_answer, or_else, other_run, first_answer, answer_of_run, is_answer, AskedCause}
 use Rattle.desk_run.specs.Endings.{GatheredFrom, HasGathered, IsAnswer, IsReady, Planned, LedgerEarly, HaltsEarly}
@@ -29,13 +29,13 @@ use Rattle.desk_run.specs.Halts.{HaltsGathering, HaltsPlan, AnswersPlan, LedgerO
 use Rattle.desk_intake.specs.Halts.{is_names_status}
 use Rattle.desk_run.specs.Meaning.{defined_in, finds_in, header_of, run_of}
 use Rattle.desk_run.specs.Asked.{Asked, asked_roots}
-use Rattle.desk_run.specs.Notes.{IsRead, measured_of, noted_by}
+use Rattle.desk_run.specs.Notes.{IsRead, measured_of, planned_by}
 use Rattle.desk_run.specs.Reports.{ending}
 use Rattle.desk_run.specs.Runs.{Run, AllRelative, targets_of}
 use Rattle.desk_intake.specs.Apart.{AllApart as Distinct, Misses}
 use Rattle.desk_run.specs.Truth.{IsOurs}
 use Rattle.desk_run.specs.declared.gather.Gathered.{Gathered}
-use Rattle.desk_intake.specs.declared.rules.Ruled.{Ruled}
+use Rattle.desk_intake.specs.declared.rules.DigestedRules.{DigestedRules}
 use Rattle.desk_intake.specs.declared.halts.Halt.{Halt}
 use Rattle.desk_intake.specs.declared.halts.Halt.TheVariants as halt
 
@@ -66,7 +66,7 @@ built_apart run m e =
       targets_paths run m (path ∷ paths) = ap (λ ts. run.target path ∷ ts) (targets_paths run m paths)
 
 -- the run over the files below its root
-abbrev pub run_at : Roots → Ruled → Contents → Run
+abbrev pub run_at : Roots → DigestedRules → Contents → Run
 run_at names r m = run_of names r m
 
 -- what stands against its classes
@@ -101,9 +101,9 @@ abbrev images_over : Gathered → Text → Text → Result Image Reason
 images_over g = image_in g.ruled.value.rules (defined_in g.notes.scanned.items)
 
 -- what was planned
-unfoldable pub planned : (names : Roots) (m : Contents) (l : Ledger) (g : Gathered) (noted : List Noted) → AreRoots names → HasGathered names (Some m) g → names_of g ≡ None → noted ≡ map (noted_by (finds_in names m) l.rows) g.notes.files.items
-    → IsOurs g.header l.header → other_run g.header l.header ≡ None → Planned (asked_roots names) m l names.to g.header (works_in (images_over g) names.from m noted)
-planned names m l g noted sound h clear e ours other =
+unfoldable pub planned_run : (names : Roots) (m : Contents) (l : Ledger) (g : Gathered) (planned : List PlannedFile) → AreRoots names → HasGathered names (Some m) g → names_of g ≡ None → planned ≡ map (planned_by (finds_in names m) l.rows) g.notes.files.items
+    → IsOurs (header_of names g.ruled.value) l.header → other_run (header_of names g.ruled.value) l.header ≡ None → Planned (asked_roots names) m l names.to (header_of names g.ruled.value) (works_in (images_over g) names.from m planned)
+planned_run names m l g planned sound h clear e ours other =
     let r = g.ruled.value in
     let run = run_at names r m in
     let from : GatheredFrom names m g = h.told_of in
@@ -113,20 +113,20 @@ planned names m l g noted sound h clear e ours other =
       ready = ready names m g sound from h.read clear;
       runs = record { roots = names; ruled = r; asks = refl; rules = from.rules; is = refl; are = h.are; bytes = from.files.bytes };
       to_is = refl;
-      header_is = h.header;
-      other = subst (λ h. other_run h l.header ≡ None) h.header other;
-      ours = subst (λ h. IsOurs h l.header) h.header ours;
-      are = ap (λ ds. works_in (image_in r.rules ds) names.from m noted) classes
-          ∙ works_noted run r.rules (defined_in (classes_of r.rules (files_below names.from m))) l.rows m g.notes.files.items noted refl (λ path. refl) e from.files.are;
+      header_is = refl;
+      other = other;
+      ours = ours;
+      are = ap (λ ds. works_in (image_in r.rules ds) names.from m planned) classes
+          ∙ works_planned run r.rules (defined_in (classes_of r.rules (files_below names.from m))) l.rows m g.notes.files.items planned refl (λ path. refl) e from.files.are;
     }
 
-own_early : (names : Roots) (g : Gathered) (f0 : Option Contents) (k0 k1 : Option Ledger) → AreRoots names → HasGathered names f0 g → LedgerOwn (names_of g) g.header k0 k1 → LedgerEarly (asked_roots names) f0 k0 k1
+own_early : (names : Roots) (g : Gathered) (f0 : Option Contents) (k0 k1 : Option Ledger) → AreRoots names → HasGathered names f0 g → LedgerOwn (names_of g) (header_of names g.ruled.value) k0 k1 → LedgerEarly (asked_roots names) f0 k0 k1
 own_early names g f0 k0 k1 sound h (inl e) = inl e
 own_early names g f0 k0 k1 sound h (inr own) = inr (record {
-  header = g.header;
+  header = header_of names g.ruled.value;
   ledger = own.0;
   ours = own.2;
-  whose = if_some _ f0 (λ m ef. (run_at names g.ruled.value m, ready names m g sound (at_some (λ m. GatheredFrom names m g) f0 m ef h.told_of) h.read own.1, h.header));
+  whose = if_some _ f0 (λ m ef. (run_at names g.ruled.value m, ready names m g sound (at_some (λ m. GatheredFrom names m g) f0 m ef h.told_of) h.read own.1, refl));
 })
 
 ledger_status : (asked : Asked) (status : Status) → is_ledger_status status ≡ true → (is_answer status ≡ true) × AskedCause asked status
@@ -176,7 +176,7 @@ first_behind names m l g from =
     ap (answer_of_run m l) from.run ∙ ap (λ o. or_else o (or_else (names_answer run.name run.classes) last)) from.files.built ∙ ap (λ o. or_else o last) (sym (names_same names m g from))
 
 -- an answer of the planning is the first
-plan_answer : (names : Roots) (g : Gathered) (f0 : Option Contents) (k0 : Option Ledger) (status : Status) → HasGathered names f0 g → AnswersPlan (names_of g) g.header k0 status → IsAnswer (asked_roots names) f0 k0 status
+plan_answer : (names : Roots) (g : Gathered) (f0 : Option Contents) (k0 : Option Ledger) (status : Status) → HasGathered names f0 g → AnswersPlan (names_of g) (header_of names g.ruled.value) k0 status → IsAnswer (asked_roots names) f0 k0 status
 plan_answer names g f0 k0 status h (inl a) =
     let s = names_status (asked_roots names) status a.0 in
     record {
@@ -195,11 +195,11 @@ plan_answer names g f0 k0 status h (inr b) =
           let last = ending (run_at names g.ruled.value m) l.rows (files_below names.from m) in
           first_behind names m l g (at_some (λ m. GatheredFrom names m g) f0 m ef h.told_of)
           ∙ ap (λ o. or_else o (or_else (other_run (header_of names g.ruled.value) l.header) last)) b.1
-          ∙ ap (λ o. or_else o last) (ap (λ h. other_run h l.header) (sym h.header) ∙ at_some (λ l. other_run g.header l.header ≡ Some status) k0 l ek b.2);
+          ∙ ap (λ o. or_else o last) (at_some (λ l. other_run (header_of names g.ruled.value) l.header ≡ Some status) k0 l ek b.2);
     }
 
 -- where the names are looked at, the ledger is opened or the rows are looked up, a run halts early
-pub plan_early : (names : Roots) (g : Gathered) (f0 : Option Contents) (k0 k1 : Option Ledger) (a b c d : ℕ) (h : Halt) → AreRoots names → HasGathered names f0 g → HaltsPlan (names_of g) g.header k0 k1 a b c d h
+pub plan_early : (names : Roots) (g : Gathered) (f0 : Option Contents) (k0 k1 : Option Ledger) (a b c d : ℕ) (h : Halt) → AreRoots names → HasGathered names f0 g → HaltsPlan (names_of g) (header_of names g.ruled.value) k0 k1 a b c d h
     → HaltsEarly (asked_roots names) f0 k0 k1 a b c d h
 plan_early names g f0 k0 k1 a b c d halt.Memory sound is p = own_early names g f0 k0 k1 sound is p
 plan_early names g f0 k0 k1 a b c d halt.Folders sound is p = (own_early names g f0 k0 k1 sound is p.0, p.1)

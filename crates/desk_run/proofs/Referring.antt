@@ -19,7 +19,7 @@ use Rattle.desk_second.specs.Applications.{classes_of, targets_of, AreBytes}
 use Rattle.desk_second.specs.Second.{AreRules, Follows}
 use Rattle.desk_second.proofs.Second.{references, definitions, second}
 use Rattle.desk_words.specs.declared.roots.Roots.{Roots}
-use Rattle.desk_intake.specs.declared.rules.Ruled.{Ruled}
+use Rattle.desk_intake.specs.declared.rules.DigestedRules.{DigestedRules}
 use Rattle.desk_intake.specs.Standing.{first_of, name_clash_status, names_answer, stranded_status}
 use Rattle.desk_run.specs.Answers.{files_answer}
 use Rattle.desk_run.specs.Endings.{IsDone, StandsAfter, Tells}
@@ -48,7 +48,7 @@ targets_same rules from m [] = refl
 targets_same rules from m (path ∷ paths) = ap (λ ts. target rules path ∷ ts) (targets_same rules from m paths)
 
 -- over the files of a run against which nothing stands
-follow_over : (roots : Roots) (r : Ruled) (m : Contents) → AreRules r.rules → All (λ (f : File). IsBytes f.bytes) (files_below roots.from m)
+follow_over : (roots : Roots) (r : DigestedRules) (m : Contents) → AreRules r.rules → All (λ (f : File). IsBytes f.bytes) (files_below roots.from m)
     → files_answer roots.from (target r.rules) (is_whole r.rules) m ≡ None → names_answer (cls r.rules.renames) (classes_of r.rules (files_below roots.from m)) ≡ None
     → FollowOver (run_of roots r m) r.rules (files_below roots.from m)
 follow_over roots r m rules_are bytes built names =

@@ -18,7 +18,7 @@ use Rattle.desk_report.specs.declared.status.Status.{Status}
 use Rattle.desk_report.specs.declared.status.Status.TheVariants.{Done, Refusals, Memory, FolderFault, LedgerFault, OutputFault, Usage, NestedRoots, BadRules, Limit, PathClash, NameClash, Stranded, OtherRun, Moved, NotInvertible, Differs}
 use Rattle.desk_second.specs.Applications.{classes_of}
 use Rattle.desk_words.specs.declared.roots.Roots.{Roots}
-use Rattle.desk_intake.specs.declared.rules.Ruled.{Ruled}
+use Rattle.desk_intake.specs.declared.rules.DigestedRules.{DigestedRules}
 use Rattle.desk_run.specs.Asked.{Asked}
 use Rattle.desk_run.specs.Runs.{Run, has_output, is_kept, is_kept_file, is_fresh, written_of, row_of}
 use Rattle.desk_run.specs.Truth.{TrueLedger, SoundLedger, TargetsTell, IsVerified, IsTrusted}
@@ -27,7 +27,7 @@ use Rattle.desk_intake.specs.Rulings.{ruled}
 use Rattle.desk_run.specs.Stands.{Unchanged, Remains}
 use Rattle.desk_run.specs.Endings.{Tells, StandsAfter}
 use Rattle.desk_run.specs.Clauses.{HoldsFiles, HoldsRows, KeepsLedger, Files, RemainsAt, Left}
-use Rattle.desk_run.specs.Resuming.{is_stop, LeavesSources, WasStopped, WereStopped, AreTrusted, IsOneRun, GoesOn, Resumes}
+use Rattle.desk_run.specs.Resuming.{is_stop, LeavesSources, WasStopped, AreTrusted, IsOneRun, GoesOn, Resumes}
 use Rattle.desk_run.proofs.Truths.{text_case}
 use Rattle.desk_intake.proofs.There.{AllThere, IsThere, there_at, files_there}
 use Rattle.desk_run.proofs.Promised.{files_clause}
@@ -155,7 +155,7 @@ record SameRun (asked : Asked) (m0 m : Contents) (run : Run) : Type 0 where
 same_run : (asked : Asked) (m0 m : Contents) (run : Run) → LeavesSources asked m0 m → run_of_asked asked m0 ≡ Ok run → SameRun asked m0 m run
 same_run (Err status) m0 m run s e = cc
 same_run (Ok roots) m0 m run s e = by (ruled roots.rules (files_below roots.rules m0)) refl e where
-  by : (r : Result Ruled Status) → ruled roots.rules (files_below roots.rules m0) ≡ r → run_by_rules m0 roots r ≡ Ok run → SameRun (Ok roots) m0 m run
+  by : (r : Result DigestedRules Status) → ruled roots.rules (files_below roots.rules m0) ≡ r → run_by_rules m0 roots r ≡ Ok run → SameRun (Ok roots) m0 m run
   by (Err status) f g = cc
   by (Ok r) f g =
       let are : run_of roots r m0 ≡ run = cc in
@@ -395,7 +395,7 @@ completed asked m0 l0 m1 l1 m run is trust stopped h =
 no_run : (asked : Asked) (m0 m : Contents) (answer : Ledger → Status) (P : Run → Type 0) → LeavesSources asked m0 m → run_of_asked asked m0 ≡ Err answer → IsOkAnd (run_of_asked asked m) P → ⊥
 no_run (Err other) m0 m answer P s e h = h
 no_run (Ok roots) m0 m answer P s e h = by (ruled roots.rules (files_below roots.rules m0)) refl e where
-  by : (r : Result Ruled Status) → ruled roots.rules (files_below roots.rules m0) ≡ r → run_by_rules m0 roots r ≡ Err answer → ⊥
+  by : (r : Result DigestedRules Status) → ruled roots.rules (files_below roots.rules m0) ≡ r → run_by_rules m0 roots r ≡ Err answer → ⊥
   by (Ok r) f g = cc
   by (Err status) f g = subst (λ (o : Meant). IsOkAnd o P) (ap (λ fs. run_by_rules m roots (ruled roots.rules fs)) s.rules ∙ ap (run_by_rules m roots) f) h
 

@@ -26,7 +26,7 @@ use Rattle.desk_words.specs.declared.roots.Order.TheVariants as order
 use Rattle.desk_words.specs.declared.roots.RootsFault.{RootsFault}
 use Rattle.desk_words.specs.Roots.{AreRoots, RootsApart, order_of_words}
 use Rattle.desk_words.proofs.Rooted.{order_is_sound}
-use Rattle.desk_intake.specs.declared.rules.Ruled.{Ruled}
+use Rattle.desk_intake.specs.declared.rules.DigestedRules.{DigestedRules}
 use Rattle.desk_run.specs.Asked.{Asked}
 use Rattle.desk_run.specs.Named.{asked_by, asked_of}
 use Rattle.desk_run.specs.Runs.{Run, TargetsApart, AllRelative, targets_of}
@@ -131,7 +131,7 @@ pub record HasRoots (roots : Roots) (run : Run) : Type 0 where
 
 pub has_roots : (roots : Roots) (m : Contents) (run : Run) → run_of_asked (Ok roots) m ≡ Ok run → HasRoots roots run
 has_roots roots m run e = by (ruled roots.rules (files_below roots.rules m)) e where
-  by : (r : Result Ruled Status) → run_by_rules m roots r ≡ Ok run → HasRoots roots run
+  by : (r : Result DigestedRules Status) → run_by_rules m roots r ≡ Ok run → HasRoots roots run
   by (Err status) f = cc
   by (Ok r) f = record { from = cc; to = cc }
 

@@ -10,8 +10,8 @@ use Rattle.desk_batches.specs.Details.{bare, counts_behind, detail_with, details
 use Rattle.desk_batches.specs.Notes.{IsSound, StaysAsNoted}
 use Rattle.desk_batches.specs.Turns.{work_in, works_in}
 use Rattle.desk_batches.specs.Works.{Work}
-use Rattle.desk_batches.specs.declared.noted.Noted.{Noted}
-use Rattle.desk_batches.specs.declared.noted.Outcome.{Outcome}
+use Rattle.desk_batches.specs.declared.planned.PlannedFile.{PlannedFile}
+use Rattle.desk_batches.specs.declared.planned.Outcome.{Outcome}
 use Rattle.desk_class.specs.Held.{ascending}
 use Rattle.desk_file.proofs.Noting.{linked_itself, noted_itself}
 use Rattle.desk_file.proofs.Treating.{image_routed}
@@ -34,9 +34,9 @@ use Rattle.desk_graph.specs.declared.scanned.Scanned.{Scanned}
 use Rattle.desk_intake.proofs.Listed.{scanned_routed}
 use Rattle.desk_intake.proofs.There.{AllThere}
 use Rattle.desk_patterns.specs.PatternTexts.{texts_for}
-use Rattle.desk_readings.specs.Readings.{class_note, note_with, noted_route, scanned_route}
+use Rattle.desk_readings.specs.Readings.{class_note, noted_route, scanned_route}
 use Rattle.desk_readings.specs.declared.measured.ClassNote.{ClassNote}
-use Rattle.desk_readings.specs.declared.measured.Measured.{Measured}
+use Rattle.desk_readings.specs.declared.measured.MeasuredFile.{MeasuredFile}
 use Rattle.desk_report.specs.declared.lines.Detail.{Detail}
 use Rattle.desk_report.specs.declared.lines.Detail.TheVariants as detail
 use Rattle.desk_report.specs.declared.lines.Reason.{Reason}
@@ -44,12 +44,12 @@ use Rattle.desk_rules.specs.Rules.{Rules}
 use Rattle.desk_second.specs.Applications.{classes_of}
 use Rattle.desk_ledger.specs.Ledger.{Rows}
 use Rattle.desk_ledger.specs.declared.keeper.Held.{Held}
-use Rattle.desk_run.specs.Notes.{class_note_of, measured_in, measured_of, noted_by}
+use Rattle.desk_run.specs.Notes.{class_note_of, measured_in, measured_of, planned_by}
 use Rattle.desk_run.specs.Reports.{lines_of, outcome_line}
 
 -- ---- what doesn't depend on them
 
-pub of_bare : (P : Noted → Type 0) (xs ys : List Noted) → ((x y : Noted) → bare x ≡ bare y → P y → P x) → map bare xs ≡ map bare ys → All P ys → All P xs
+pub of_bare : (P : PlannedFile → Type 0) (xs ys : List PlannedFile) → ((x y : PlannedFile) → bare x ≡ bare y → P y → P x) → map bare xs ≡ map bare ys → All P ys → All P xs
 of_bare P [] ys moves e h = All-nil P
 of_bare P (x ∷ xs) [] moves e h = absurd cc
 of_bare P (x ∷ xs) (y ∷ ys) moves e h =
@@ -57,37 +57,47 @@ of_bare P (x ∷ xs) (y ∷ ys) moves e h =
     let later : map bare xs ≡ map bare ys = cc in
     All-cons P x xs (moves x y here (All-head P y ys h)) (of_bare P xs ys moves later (All-tail P y ys h))
 
-of_sound : (x : Noted) → IsSound x → IsSound (bare x)
+of_sound : (x : PlannedFile) → IsSound x → IsSound (bare x)
 of_sound x h = record { path = h.path; target = h.target; size = h.size }
 
-sound_of : (x : Noted) → IsSound (bare x) → IsSound x
+sound_of : (x : PlannedFile) → IsSound (bare x) → IsSound x
 sound_of x h = record { path = h.path; target = h.target; size = h.size }
 
-pub sound_bare : (x y : Noted) → bare x ≡ bare y → IsSound y → IsSound x
+pub sound_bare : (x y : PlannedFile) → bare x ≡ bare y → IsSound y → IsSound x
 sound_bare x y e h = sound_of x (subst IsSound (sym e) (of_sound y h))
 
 -- files that were planned have nothing more
-pub bare_noted : (noted : List Noted) (finds : Text → Held → Bool) (rows : Rows) (files : List Measured) → noted ≡ map (noted_by finds rows) files → map bare noted ≡ map (noted_by finds rows) files
-bare_noted noted finds rows files e = ap (map bare) e ∙ by finds rows files where
-  by : (finds : Text → Held → Bool) (rows : Rows) (files : List Measured) → map bare (map (noted_by finds rows) files) ≡ map (noted_by finds rows) files
+pub bare_planned : (planned : List PlannedFile) (finds : Text → Held → Bool) (rows : Rows) (files : List MeasuredFile) → planned ≡ map (planned_by finds rows) files → map bare planned ≡ map (planned_by finds rows) files
+bare_planned planned finds rows files e = ap (map bare) e ∙ by finds rows files where
+  by : (finds : Text → Held → Bool) (rows : Rows) (files : List MeasuredFile) → map bare (map (planned_by finds rows) files) ≡ map (planned_by finds rows) files
   by finds rows [] = refl
-  by finds rows (file ∷ files) = ap (λ (ns : List Noted). noted_by finds rows file ∷ ns) (by finds rows files)
+  by finds rows (file ∷ files) = ap (λ (ns : List PlannedFile). planned_by finds rows file ∷ ns) (by finds rows files)
 
-measured_bare : (xs : List Noted) → map measured_in (map bare xs) ≡ map measured_in xs
+measured_bare : (xs : List PlannedFile) → map measured_in (map bare xs) ≡ map measured_in xs
 measured_bare [] = refl
-measured_bare (x ∷ xs) = ap (λ (ms : List Measured). measured_in x ∷ ms) (measured_bare xs)
+measured_bare (x ∷ xs) = ap (λ (ms : List MeasuredFile). measured_in x ∷ ms) (measured_bare xs)
 
-pub measured_same : (xs ys : List Noted) → map bare xs ≡ map bare ys → map measured_in xs ≡ map measured_in ys
+pub measured_same : (xs ys : List PlannedFile) → map bare xs ≡ map bare ys → map measured_in xs ≡ map measured_in ys
 measured_same xs ys e = sym (measured_bare xs) ∙ ap (map measured_in) e ∙ measured_bare ys
 
-pub works_bare : (image : Text → Text → Result Image Reason) (from : Text) (m : Contents) (xs : List Noted) → works_in image from m (map bare xs) ≡ works_in image from m xs
+pub works_bare : (image : Text → Text → Result Image Reason) (from : Text) (m : Contents) (xs : List PlannedFile) → works_in image from m (map bare xs) ≡ works_in image from m xs
 works_bare image from m [] = refl
 works_bare image from m (x ∷ xs) = ap (λ (ws : List Work). work_in image from m x ∷ ws) (works_bare image from m xs)
 
-pub lines_bare : (xs : List Noted) (outcomes : List Outcome) → lines_of xs outcomes ≡ lines_of (map bare xs) outcomes
+pub lines_bare : (xs : List PlannedFile) (outcomes : List Outcome) → lines_of xs outcomes ≡ lines_of (map bare xs) outcomes
 lines_bare [] outcomes = refl
 lines_bare (x ∷ xs) [] = refl
 lines_bare (x ∷ xs) (outcome ∷ outcomes) = ap (λ (t : Text). outcome_line x.route.path x.route.target outcome ++ t) (lines_bare xs outcomes)
+
+-- what is noted of classes is planned with the files
+pub classes_same : (xs : List PlannedFile) → map (λ (x : PlannedFile). x.class) xs ≡ map (λ (file : MeasuredFile). file.class) (map measured_in xs)
+classes_same [] = refl
+classes_same (x ∷ xs) = ap (λ (ns : List ClassNote). x.class ∷ ns) (classes_same xs)
+
+-- and of files that were read it is what their bytes say
+pub classes_noted : (rules : Rules) (files : List File) → map (λ (file : MeasuredFile). file.class) (map (measured_of rules) files) ≡ map (class_note_of rules) files
+classes_noted rules [] = refl
+classes_noted rules (file ∷ files) = ap (λ (ns : List ClassNote). class_note_of rules file ∷ ns) (classes_noted rules files)
 
 -- ---- they are true
 
@@ -140,14 +150,14 @@ stays_here image p q a b s t path bytes same h =
     (subst (λ (a : Text). IfSome s (λ detail. image q a ≡ Ok (record { bytes = a; detail = detail }))) (sym bytes)
     (subst (λ (s : Option Detail). IfSome s (λ detail. image q b ≡ Ok (record { bytes = b; detail = detail }))) (sym same) h))
 
--- what is known of files that were noted, by what was noted of them as classes and how many defined names these hold
-pub all_stay : (rules : Rules) (ss : List Scanned) (from : Text) (m : Contents) (files : List File) (noted : List Noted) (counts : List ℕ) → AllThere from m files → All (λ (file : File). IsBytes file.bytes) files
-    → map measured_in noted ≡ map (measured_of rules) files → counts ≡ map (link_count (ascending (defined_names ss))) (classes_of rules files) → stays_in noted ≡ details_of (map (class_note_of rules) files) counts
-    → All (StaysAsNoted (image_in rules (ascending (defined_names ss))) from m) noted
+-- what is known of files that are planned, by what was noted of them as classes and how many defined names these hold
+pub all_stay : (rules : Rules) (ss : List Scanned) (from : Text) (m : Contents) (files : List File) (planned : List PlannedFile) (counts : List ℕ) → AllThere from m files → All (λ (file : File). IsBytes file.bytes) files
+    → map measured_in planned ≡ map (measured_of rules) files → counts ≡ map (link_count (ascending (defined_names ss))) (classes_of rules files) → stays_in planned ≡ details_of (map (class_note_of rules) files) counts
+    → All (StaysAsNoted (image_in rules (ascending (defined_names ss))) from m) planned
 all_stay rules ss from m [] [] counts there bytes same are e = All-nil (StaysAsNoted (image_in rules (ascending (defined_names ss))) from m)
-all_stay rules ss from m [] (x ∷ noted) counts there bytes same are e = absurd cc
+all_stay rules ss from m [] (x ∷ planned) counts there bytes same are e = absurd cc
 all_stay rules ss from m (file ∷ files) [] counts there bytes same are e = absurd cc
-all_stay rules ss from m (file ∷ files) (x ∷ noted) counts there bytes same are e =
+all_stay rules ss from m (file ∷ files) (x ∷ planned) counts there bytes same are e =
     let defined = ascending (defined_names ss) in
     let later = map (link_count defined) (classes_of rules files) in
     let route = route_of rules file.path in
@@ -158,12 +168,12 @@ all_stay rules ss from m (file ∷ files) (x ∷ noted) counts there bytes same 
     let one : Stays rules defined file.path file.bytes (noted_route rules route file.bytes) kept later =
     by_treatment rules ss file.path file.bytes later (treatment_of rules file.path) (All-head (λ (file : File). IsBytes file.bytes) file files bytes) refl in
     let measured : measured_in x ≡ measured_of rules file = cc in
-    let rest : map measured_in noted ≡ map (measured_of rules) files = cc in
+    let rest : map measured_in planned ≡ map (measured_of rules) files = cc in
     let detail : x.stays ≡ detail_with note counts = cc in
-    let details : stays_in noted ≡ details_of (map (class_note_of rules) files) (counts_behind note counts) = cc in
-    let path : x.route.path ≡ file.path = ap (λ (f : Measured). f.route.path) measured in
+    let details : stays_in planned ≡ details_of (map (class_note_of rules) files) (counts_behind note counts) = cc in
+    let path : x.route.path ≡ file.path = ap (λ (f : MeasuredFile). f.route.path) measured in
     let here : bytes_at m (full from x.route.path) ≡ file.bytes = ap (λ (p : Text). bytes_at m (full from p)) path ∙ ap (λ (o : Option Text). unwrap_or o []) there.0.held in
     let behind : counts_behind note counts ≡ later = ap (counts_behind note) split ∙ one.1 in
-    All-cons (StaysAsNoted (image_in rules defined) from m) x noted
+    All-cons (StaysAsNoted (image_in rules defined) from m) x planned
     (stays_here (image_in rules defined) x.route.path file.path (bytes_at m (full from x.route.path)) file.bytes x.stays (detail_with note (map (link_count defined) kept ++ later)) path here (detail ∙ ap (detail_with note) split) one.0)
-    (all_stay rules ss from m files noted (counts_behind note counts) there.1 (All-tail (λ (file : File). IsBytes file.bytes) file files bytes) rest behind details)
+    (all_stay rules ss from m files planned (counts_behind note counts) there.1 (All-tail (λ (file : File). IsBytes file.bytes) file files bytes) rest behind details)

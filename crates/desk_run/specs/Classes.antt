@@ -21,7 +21,7 @@ use Rattle.desk_file.specs.ClassScans.{is_class_kind}
 use Rattle.desk_words.specs.declared.roots.Roots.{Roots}
 use Rattle.desk_run.specs.Asked.{Asked}
 use Rattle.desk_intake.specs.Rulings.{ruled as ruled_of}
-use Rattle.desk_intake.specs.declared.rules.Ruled.{Ruled}
+use Rattle.desk_intake.specs.declared.rules.DigestedRules.{DigestedRules}
 use Rattle.desk_run.specs.Meaning.{run_of, run_of_asked}
 use Rattle.desk_run.specs.Runs.{Run, is_kept_file}
 use Rattle.desk_run.specs.Truth.{IsTrusted}
@@ -52,7 +52,7 @@ HoldsClasses run rules m0 l0 m = (before rest : List File) (file : File) (image 
 -- by the rules that the files below the rule root of the run that was asked for are, the targets hold the new classes
 pub record RenamesClasses (asked : Asked) (m0 : Contents) (l0 : Ledger) (m : Contents) : Type 0 where
   pub roots : Roots
-  pub ruled : Ruled
+  pub ruled : DigestedRules
   pub asks : asked ≡ Ok roots
   pub rules : ruled_of roots.rules (files_below roots.rules m0) ≡ Ok ruled
   pub is : run_of_asked asked m0 ≡ Ok (run_of roots ruled m0)

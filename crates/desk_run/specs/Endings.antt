@@ -17,25 +17,25 @@ use Rattle.desk_report.specs.declared.status.Status.{Status}
 use Rattle.desk_report.specs.declared.status.Status.TheVariants.{Done, Refusals, Memory, FolderFault, LedgerFault, OutputFault, OtherRun, Moved}
 use Rattle.desk_report.specs.Written.{WritesFront, writing}
 use Rattle.desk_batches.specs.Works.{Work, files_after, ledger_after}
-use Rattle.desk_readings.specs.declared.measured.Measured.{Measured}
-use Rattle.desk_batches.specs.declared.noted.Noted.{Noted}
-use Rattle.desk_batches.specs.declared.noted.Outcome.{Outcome}
+use Rattle.desk_readings.specs.declared.measured.MeasuredFile.{MeasuredFile}
+use Rattle.desk_batches.specs.declared.planned.PlannedFile.{PlannedFile}
+use Rattle.desk_batches.specs.declared.planned.Outcome.{Outcome}
 use Rattle.desk_batches.specs.declared.stops.Stop.TheVariants as stop
 use Rattle.desk_words.specs.declared.roots.Roots.{Roots}
 use Rattle.desk_intake.specs.Rulings.{ruled as ruled_of}
-use Rattle.desk_intake.specs.declared.rules.Ruled.{Ruled}
+use Rattle.desk_intake.specs.declared.rules.DigestedRules.{DigestedRules}
 use Rattle.desk_intake.specs.declared.halts.Halt.{Halt}
 use Rattle.desk_intake.specs.declared.halts.Halt.TheVariants as halt
 use Rattle.desk_run.specs.Runs.{Run, FindsIn, TargetsApart}
 use Rattle.desk_run.specs.Works.{works_of}
 use Rattle.desk_run.specs.Truth.{IsOurs}
 use Rattle.desk_run.specs.Reports.{ending_by, report, report_by, summary_by, summary_of}
-use Rattle.desk_run.specs.Notes.{IsRead, class_note_of, measured_of}
+use Rattle.desk_run.specs.Notes.{IsRead, measured_of}
 use Rattle.desk_run.specs.declared.gather.Gathered.{Gathered}
 use Rattle.desk_run.specs.Stops.{StopsAt, status_of_halt}
 use Rattle.desk_run.specs.Stands.{Unchanged, Between, NextIsFresh, Within}
 use Rattle.desk_run.specs.Asked.{Asked, asked_roots}
-use Rattle.desk_run.specs.Meaning.{header_of, run_of, run_of_asked}
+use Rattle.desk_run.specs.Meaning.{run_of, run_of_asked}
 use Rattle.desk_intake.specs.Standing.{names_answer}
 use Rattle.desk_run.specs.Answers.{files_answer, other_run, first_answer, is_answer, AskedCause}
 
@@ -61,7 +61,7 @@ pub record IsReady (asked : Asked) (m : Contents) (run : Run) : Type 0 where
 
 -- what was read of the files below a root, against which nothing stands: their sizes and digests, the classes among them, and that
 -- what stands in them are bytes
-pub record AreRead (rules : Rules) (from : Text) (m : Contents) (files : List Measured) (classes : List Scanned) : Type 0 where
+pub record AreRead (rules : Rules) (from : Text) (m : Contents) (files : List MeasuredFile) (classes : List Scanned) : Type 0 where
   pub are : files ≡ map (measured_of rules) (files_below from m)
   pub scanned : classes ≡ classes_of rules (files_below from m)
   pub bytes : All (λ (file : File). IsBytes file.bytes) (files_below from m)
@@ -72,14 +72,11 @@ pub record GatheredFrom (names : Roots) (m : Contents) (gathered : Gathered) : T
   pub rules : ruled_of names.rules (files_below names.rules m) ≡ Ok gathered.ruled.value
   pub run : run_of_asked (asked_roots names) m ≡ Ok (run_of names gathered.ruled.value m)
   pub files : AreRead gathered.ruled.value.rules names.from m gathered.notes.files.items gathered.notes.scanned.items
-  pub class_notes : gathered.notes.class_notes.items ≡ map (class_note_of gathered.ruled.value.rules) (files_below names.from m)
 
 -- what was gathered, whatever the folders tell
 pub record HasGathered (names : Roots) (told : Option Contents) (gathered : Gathered) : Type 0 where
-  pub header : gathered.header ≡ header_of names gathered.ruled.value
   pub are : AreRules gathered.ruled.value.rules
   pub read : All (IsRead gathered.ruled.value.rules) gathered.notes.files.items
-  pub count : length gathered.notes.class_notes.items ≡ length gathered.notes.files.items
   pub few : length gathered.notes.files.items < 2 ^ 32
   pub few_classes : length gathered.notes.scanned.items < 2 ^ 32
   pub told_of : IfSome told (λ m. GatheredFrom names m gathered)
@@ -87,7 +84,7 @@ pub record HasGathered (names : Roots) (told : Option Contents) (gathered : Gath
 -- the run that was asked for, by the rule set of the files below its rule root; its files are bytes
 pub record RunsOn (asked : Asked) (run : Run) (m : Contents) : Type 0 where
   pub roots : Roots
-  pub ruled : Ruled
+  pub ruled : DigestedRules
   pub asks : asked ≡ Ok roots
   pub rules : ruled_of roots.rules (files_below roots.rules m) ≡ Ok ruled
   pub is : run ≡ run_of roots ruled m
@@ -208,9 +205,9 @@ pub record IsDone (asked : Asked) (m0 : Contents) (l0 : Ledger) (m : Contents) (
   pub stands : Between run m0 l0 m l (length (files_below run.from m0))
 
 -- what became of each file of a run whose files are all done
-pub record IsWritten (asked : Asked) (m0 : Contents) (l0 : Ledger) (m : Contents) (l : Ledger) (noted : List Noted) (outcomes : List Outcome) : Type 0 where
+pub record IsWritten (asked : Asked) (m0 : Contents) (l0 : Ledger) (m : Contents) (l : Ledger) (planned : List PlannedFile) (outcomes : List Outcome) : Type 0 where
   pub done : IsDone asked m0 l0 m l
-  pub report_is : report_by noted outcomes ≡ report done.run l0.rows (files_below done.run.from m0)
+  pub report_is : report_by planned outcomes ≡ report done.run l0.rows (files_below done.run.from m0)
   pub totals : summary_by outcomes ≡ summary_of done.run l0.rows (files_below done.run.from m0)
   pub ends : ending_by outcomes ≡ first_answer asked m0 l0
 

@@ -13,7 +13,7 @@ use Rattle.desk_rules.specs.Rules.{Rules}
 use Rattle.desk_second.specs.Second.{Follows, AreImages, IsMigrated}
 use Rattle.desk_words.specs.declared.roots.Roots.{Roots}
 use Rattle.desk_intake.specs.Rulings.{ruled as ruled_of}
-use Rattle.desk_intake.specs.declared.rules.Ruled.{Ruled}
+use Rattle.desk_intake.specs.declared.rules.DigestedRules.{DigestedRules}
 use Rattle.desk_run.specs.Classes.{is_selected_class}
 use Rattle.desk_run.specs.Meaning.{run_of, run_of_asked}
 use Rattle.desk_run.specs.Asked.{Asked}
@@ -32,7 +32,7 @@ pub record FollowOver (run : Run) (rules : Rules) (files : List File) : Type 0 w
 -- by the rules that the files below the rule root of the run that was asked for are, references follow
 pub record ReferencesFollow (asked : Asked) (m0 : Contents) : Type 0 where
   pub roots : Roots
-  pub ruled : Ruled
+  pub ruled : DigestedRules
   pub asks : asked ≡ Ok roots
   pub rules : ruled_of roots.rules (files_below roots.rules m0) ≡ Ok ruled
   pub is : run_of_asked asked m0 ≡ Ok (run_of roots ruled m0)

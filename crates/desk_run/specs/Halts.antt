@@ -12,11 +12,11 @@ use Rattle.desk_report.specs.declared.status.Status.{Status}
 use Rattle.desk_report.specs.declared.status.Status.TheVariants.{Usage, NestedRoots, BadRules, Limit, PathClash, OtherRun}
 use Rattle.desk_words.specs.declared.roots.Roots.{Roots}
 use Rattle.desk_run.specs.Asked.{Asked}
-use Rattle.desk_readings.specs.declared.measured.Measured.{Measured}
+use Rattle.desk_readings.specs.declared.measured.MeasuredFile.{MeasuredFile}
 use Rattle.desk_intake.specs.Halts.{HaltsWith, is_names_status}
 use Rattle.desk_intake.specs.declared.halts.Halt.{Halt}
 use Rattle.desk_intake.specs.declared.halts.Halt.TheVariants.{Memory, Folders, Ledger as LedgerHalt, Answer}
-use Rattle.desk_intake.specs.declared.rules.Ruled.{Ruled}
+use Rattle.desk_intake.specs.declared.rules.DigestedRules.{DigestedRules}
 use Rattle.desk_intake.specs.Rulings.{ruled}
 use Rattle.desk_intake.specs.Standing.{clash_status}
 use Rattle.desk_run.specs.Answers.{files_answer, first_answer, other_run, AskedCause}
@@ -27,14 +27,14 @@ abbrev pub HaltsAtFiles : Text → (Text → Text) → (Text → Bool) → Optio
 HaltsAtFiles from target whole = HaltsWith (files_answer from target whole)
 
 -- the paths of files that were read, and their targets
-abbrev pub paths_in : List Measured → List Text
+abbrev pub paths_in : List MeasuredFile → List Text
 paths_in = map (λ file. file.route.path)
 
-abbrev pub targets_in : List Measured → List Text
+abbrev pub targets_in : List MeasuredFile → List Text
 targets_in = map (λ file. file.route.target)
 
 -- what stands against files that were read, by their targets
-abbrev pub clash_of : List Measured → Option Status
+abbrev pub clash_of : List MeasuredFile → Option Status
 clash_of files = clash_status (paths_in files) (first_clash (targets_in files))
 
 -- where works are planned
@@ -68,7 +68,7 @@ NamedAtPlan old new name (Answer status) = new ≡ old
 NamedAtPlan old new name _ = (new ≡ old) ⊎ (new ≡ Some name)
 
 -- what stands against a run by the rules of its folder, or by its files
-abbrev pub reading_answer : Roots → Contents → Result Ruled Status → Option Status
+abbrev pub reading_answer : Roots → Contents → Result DigestedRules Status → Option Status
 reading_answer names m (Err status) = Some status
 reading_answer names m (Ok ruled) = files_answer names.from (target ruled.rules) (is_whole ruled.rules) m
 

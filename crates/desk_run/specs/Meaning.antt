@@ -18,12 +18,12 @@ use Rattle.desk_report.specs.declared.status.Status.{Status}
 use Rattle.desk_second.specs.Applications.{classes_of}
 use Rattle.desk_words.specs.declared.roots.Roots.{Roots}
 use Rattle.desk_intake.specs.Rulings.{ruled}
-use Rattle.desk_intake.specs.declared.rules.Ruled.{Ruled}
+use Rattle.desk_intake.specs.declared.rules.DigestedRules.{DigestedRules}
 use Rattle.desk_run.specs.Asked.{Asked}
 use Rattle.desk_run.specs.Runs.{Run, has_output}
 
 -- the header of a run
-abbrev pub header_of : Roots → Ruled → Header
+abbrev pub header_of : Roots → DigestedRules → Header
 header_of roots r = record { from = roots.from; to = roots.to; rules = r.digest }
 
 -- the names that classes define, in byte order, each once
@@ -35,7 +35,7 @@ abbrev pub finds_in : Roots → Contents → Text → Held → Bool
 finds_in roots m target row = cond roots.verify (has_output (fin.get m (full roots.to target)) row.output) true
 
 -- the run over an application of these classes, which finds these folders
-abbrev pub run_over : Roots → Ruled → Contents → List Scanned → Run
+abbrev pub run_over : Roots → DigestedRules → Contents → List Scanned → Run
 run_over roots r m classes = record {
   from = roots.from;
   to = roots.to;
@@ -51,14 +51,14 @@ run_over roots r m classes = record {
 }
 
 -- the run over the files below its root
-abbrev pub run_of : Roots → Ruled → Contents → Run
+abbrev pub run_of : Roots → DigestedRules → Contents → Run
 run_of roots r m = run_over roots r m (classes_of r.rules (files_below roots.from m))
 
 -- a run, or the status that stands in place of one where a ledger holds this
 abbrev pub Meant : Type 0
 Meant = Result Run (Ledger → Status)
 
-abbrev pub run_by_rules : Contents → Roots → Result Ruled Status → Meant
+abbrev pub run_by_rules : Contents → Roots → Result DigestedRules Status → Meant
 run_by_rules m roots (Ok r) = Ok (run_of roots r m)
 run_by_rules m roots (Err status) = Err (λ l. status)
 

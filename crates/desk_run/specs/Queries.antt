@@ -8,7 +8,7 @@ use Rattle.desk_calls.specs.Answers.{calls_answer}
 use Rattle.desk_calls.specs.declared.telling.Calls.{Calls}
 use Rattle.desk_comparison.specs.Answers.{comparison}
 use Rattle.desk_intake.specs.Rulings.{ruled}
-use Rattle.desk_intake.specs.declared.rules.Ruled.{Ruled}
+use Rattle.desk_intake.specs.declared.rules.DigestedRules.{DigestedRules}
 use Rattle.desk_intake.specs.declared.halts.Halt.{Halt}
 use Rattle.desk_intake.specs.declared.halts.Halt.TheVariants as halt
 use Rattle.desk_invert.specs.Answers.{inversion}
@@ -46,7 +46,7 @@ abbrev pub told_inverse : Result Text InvertFault → Answer
 told_inverse (Ok file) = Ok (file, Done)
 told_inverse (Err fault) = Err (NotInvertible fault)
 
-abbrev pub inverse_by : Result Ruled Status → Answer
+abbrev pub inverse_by : Result DigestedRules Status → Answer
 inverse_by (Ok r) = told_inverse (inversion r.rules)
 inverse_by (Err status) = Err status
 

@@ -2,9 +2,9 @@
 use Rattle.std.specs.Prelude.{ℕ, ◌++◌, List, [], ◌∷◌, Bool, true, false, Result, Ok, Err, length, count_by, if◌then◌else◌}
 use Rattle.std.specs.List.{flat_map, list_any, sum_by}
 use Rattle.desk_base.specs.Names.{Text}
-use Rattle.desk_batches.specs.declared.noted.Noted.{Noted}
-use Rattle.desk_batches.specs.declared.noted.Outcome.{Outcome}
-use Rattle.desk_batches.specs.declared.noted.Outcome.TheVariants as outcome
+use Rattle.desk_batches.specs.declared.planned.PlannedFile.{PlannedFile}
+use Rattle.desk_batches.specs.declared.planned.Outcome.{Outcome}
+use Rattle.desk_batches.specs.declared.planned.Outcome.TheVariants as outcome
 use Rattle.desk_folders.specs.Contents.{File}
 use Rattle.desk_ledger.specs.Ledger.{Rows}
 use Rattle.desk_report.specs.declared.lines.Detail.{Detail}
@@ -79,10 +79,10 @@ outcome_line path target (outcome.Written detail) = line_text (Written path targ
 outcome_line path target (outcome.Refused reason) = line_text (Refused path reason)
 
 -- the lines of files, of which these became so
-abbrev pub lines_of : List Noted → List Outcome → Text
+abbrev pub lines_of : List PlannedFile → List Outcome → Text
 lines_of [] outcomes = []
-lines_of (noted ∷ more) [] = []
-lines_of (noted ∷ more) (outcome ∷ outcomes) = outcome_line noted.route.path noted.route.target outcome ++ lines_of more outcomes
+lines_of (planned ∷ more) [] = []
+lines_of (planned ∷ more) (outcome ∷ outcomes) = outcome_line planned.route.path planned.route.target outcome ++ lines_of more outcomes
 
 abbrev pub is_written : Outcome → Bool
 is_written outcome.Kept = false
@@ -116,8 +116,8 @@ summary_by outcomes = record {
   added = sum_by (number_in added_texts) outcomes;
 }
 
-abbrev pub report_by : List Noted → List Outcome → Text
-report_by noted outcomes = lines_of noted outcomes ++ summary_text (summary_by outcomes)
+abbrev pub report_by : List PlannedFile → List Outcome → Text
+report_by planned outcomes = lines_of planned outcomes ++ summary_text (summary_by outcomes)
 
 -- how a run ends whose files became so
 abbrev pub ending_by : List Outcome → Status

@@ -17,32 +17,31 @@ ghost use Rattle.desk_run.specs.Answers.{first_answer, other_run};
 ghost use Rattle.desk_run.specs.Endings.{Committed, HasCauses, HasGathered, IsSilent, IsTold, IsWritten, Named, Reported, ReportedOf, StandsAfter, Tells, WhereTold, is_final};
 ghost use Rattle.desk_run.specs.GeneratedSql.{Completes, TellsLedger};
 ghost use Rattle.desk_run.specs.Halts.{HaltsPlan, NamedAtPlan};
-ghost use Rattle.desk_run.specs.Meaning.{finds_in, run_of_asked};
+ghost use Rattle.desk_run.specs.Meaning.{finds_in, header_of, run_of_asked};
 ghost use Rattle.desk_run.specs.Asked.{asked_roots};
 ghost use Rattle.desk_intake.specs.Routes.{IsRelativeRoute};
 ghost use Rattle.desk_batches.specs.Details.{bare, details_of, stays_in};
-ghost use Rattle.desk_run.specs.Notes.{measured_in, noted_by};
+ghost use Rattle.desk_run.specs.Notes.{measured_in, planned_by};
 ghost use Rattle.desk_run.specs.Reports.{ending_by, report_by, summary_by, summary_of};
 ghost use Rattle.desk_run.specs.Stops.{CommittedBehind, StopsAt};
 ghost use Rattle.desk_run.specs.Truth.{IsOurs};
 ghost use Rattle.desk_readings.specs.Noting.{IsWithin};
-ghost use Rattle.desk_words.specs.Roots.{AreRoots, AreWorkers};
+ghost use Rattle.desk_words.specs.Roots.{AreRoots};
 
 use crate::gather::{Gathered, gather};
-use crate::opening::open_ledger;
+use crate::opening::{make_header, open_ledger};
 use crate::planning::plan_files;
 use crate::report::{has_refused, summary_of, write_report};
 use crate::stops::{status_of_halt, status_of_stop};
-use desk_batches::{Noted, Outcome, Stopped, with_details, write_all};
+use desk_batches::{Migration, Outcome, PlannedFile, Stopped, with_details, write_all};
 use desk_folders::Folders;
 use desk_graph::ClassGraph;
-use desk_intake::{Halt, build_graph};
-use desk_ledger::{Header, Keeper};
+use desk_intake::{Halt, DigestedRules, build_graph};
+use desk_ledger::Keeper;
 use desk_readings::MeasuredFiles;
 use desk_report::{Sink, Status, Summary};
-use desk_rules::RuleSet;
 use desk_words::Roots;
-use desk_workers::Gate;
+use desk_workers::{Gate, Workers};
 use std::alloc::Global;
 use std::thread::Threads;
 
@@ -52,7 +51,7 @@ pub struct Prepared<'r> {
     /// The names of the application's classes with their images.
     pub graph: ClassGraph<'r>,
     /// Each file of the source with what is to be done with it, in byte order of their paths.
-    pub noted: Vec<Noted>,
+    pub planned: Vec<PlannedFile>,
 }
 
 /// Looks at the names of the classes, opens the ledger and looks up what is to be done with each file.
@@ -61,41 +60,36 @@ fn plan<'r, F: Folders, K: Keeper>(
     folders: &mut F,
     keeper: &mut K,
     names: &Roots,
-    header: &Header,
-    rules: &'r RuleSet,
+    ruled: &'r DigestedRules,
     notes: MeasuredFiles,
 ) -> Result<Prepared<'r>, Halt>
     requires roots { AreRoots names.now }
     requires few { length notes.scanned.items < 2 ^ 32 }
-    requires count { length notes.class_notes.items ≡ length notes.files.items }
     requires relative { All (λ file. IsRelativeRoute file.route) notes.files.items }
     requires within { All IsWithin notes.files.items }
-    ensures graph { IfOk result (λ p. p.graph ≡ graph_of rules.entry.now.renames notes.scanned.items) }
+    ensures graph { IfOk result (λ p. p.graph ≡ graph_of ruled.entry.now.rules notes.scanned.items) }
     ensures told { F.told folders.new ≡ F.told folders.old }
-    ensures noted { IfOk result (λ p. WhereTold (F.told folders.old) (K.told keeper.old) (λ m l. map bare p.noted.items ≡ map (noted_by (finds_in names.now m) l.rows) notes.files.items)) }
-    ensures stays { IfOk result (λ p. stays_in p.noted.items ≡ details_of notes.class_notes.items p.graph.link_counts) }
-    ensures sound { IfOk result (λ p. All IsSound p.noted.items) }
-    ensures measured { IfOk result (λ p. map measured_in p.noted.items ≡ notes.files.items) }
-    ensures ledger { OnOk result (K.told keeper.new ≡ option_map (with_header header.now) (K.told keeper.old)) }
-    ensures ours { OnOk result (IfSome (K.told keeper.old) (λ l. IsOurs header.now l.header)) }
-    ensures other { OnOk result (IfSome (K.told keeper.old) (λ l. other_run header.now l.header ≡ None)) }
+    ensures planned { IfOk result (λ p. WhereTold (F.told folders.old) (K.told keeper.old) (λ m l. map bare p.planned.items ≡ map (planned_by (finds_in names.now m) l.rows) notes.files.items)) }
+    ensures stays { IfOk result (λ p. stays_in p.planned.items ≡ details_of (map (λ file. file.class) notes.files.items) p.graph.link_counts) }
+    ensures sound { IfOk result (λ p. All IsSound p.planned.items) }
+    ensures measured { IfOk result (λ p. map measured_in p.planned.items ≡ notes.files.items) }
+    ensures ledger { OnOk result (K.told keeper.new ≡ option_map (with_header (header_of names.now ruled.entry.now)) (K.told keeper.old)) }
+    ensures ours { OnOk result (IfSome (K.told keeper.old) (λ l. IsOurs (header_of names.now ruled.entry.now) l.header)) }
+    ensures other { OnOk result (IfSome (K.told keeper.old) (λ l. other_run (header_of names.now ruled.entry.now) l.header ≡ None)) }
     ensures attached { OnOk result (K.attached keeper.new ≡ Some names.now.ledger) }
-    ensures clear { OnOk result (names_answer (cls rules.entry.now.renames) notes.scanned.items ≡ None) }
+    ensures clear { OnOk result (names_answer (cls ruled.entry.now.rules.renames) notes.scanned.items ≡ None) }
     ensures named { IfErr result (NamedAtPlan (K.attached keeper.old) (K.attached keeper.new) names.now.ledger) }
-    ensures err { IfErr result (HaltsPlan (names_answer (cls rules.entry.now.renames) notes.scanned.items) header.now (K.told keeper.old) (K.told keeper.new) (F.faults folders.old) (F.faults folders.new) (K.faults keeper.old) (K.faults keeper.new)) }
+    ensures err { IfErr result (HaltsPlan (names_answer (cls ruled.entry.now.rules.renames) notes.scanned.items) (header_of names.now ruled.entry.now) (K.told keeper.old) (K.told keeper.new) (F.faults folders.old) (F.faults folders.new) (K.faults keeper.old) (K.faults keeper.new)) }
     ensures counts_f { F.faults folders.old ≤ F.faults folders.new }
     ensures counts { K.faults keeper.old ≤ K.faults keeper.new }
 {
-    let MeasuredFiles {
-        files,
-        class_notes,
-        scanned,
-    } = notes;
-    let graph = build_graph(alloc, rules, scanned)?;
-    open_ledger(keeper, &names.ledger, header)?;
+    let MeasuredFiles { files, scanned } = notes;
+    let graph = build_graph(alloc, &ruled.rules, scanned)?;
+    let header = make_header(names, ruled)?;
+    open_ledger(keeper, &names.ledger, &header)?;
     let planned = plan_files(alloc, folders, keeper, names, files)?;
-    let noted = with_details(planned, &class_notes, graph.link_counts());
-    Ok(Prepared { graph, noted })
+    let planned = with_details(planned, graph.link_counts());
+    Ok(Prepared { graph, planned })
 }
 
 /// How many files were done, of so many.
@@ -112,32 +106,26 @@ fn done_of(written: &Result<Vec<Outcome>, Stopped>, all: usize) -> usize
 /// Writes the files in their order, and then, also behind a stop, the rows that wait: where these can't be
 /// written, that is why the writing stopped.
 fn write_and_commit<R: Threads + Sync, F: Folders, K: Keeper, G: Gate + Sync>(
-    rt: &R,
-    alloc: Global,
+    workers: &Workers<'_, R, G>,
+    job: &Migration<'_>,
     folders: &mut F,
     keeper: &mut K,
-    gate: &G,
-    rules: &RuleSet,
-    graph: &ClassGraph<'_>,
     names: &Roots,
-    workers: u32,
-    noted: &[Noted],
+    planned: &[PlannedFile],
 ) -> Result<Vec<Outcome>, Stopped>
-    requires graph { graph.now.renames ≡ rules.now.renames }
     requires roots { AreRoots names.now }
-    requires workers { AreWorkers workers }
-    requires few { length noted.now < 2 ^ 32 }
+    requires few { length planned.now < 2 ^ 32 }
     requires attached { IsSome (K.attached keeper.old) }
-    requires sound { All IsSound noted.now }
-    requires routes { All (λ one. IsRouteBy rules.now one.route) noted.now }
-    requires notes { IfSome (F.told folders.old) (λ m. All (IsNoteOf names.now.from m) noted.now) }
-    requires stays { IfSome (F.told folders.old) (λ m. All (StaysAsNoted (image_in rules.now graph.now.defined) names.now.from m) noted.now) }
-    ensures folders { OnOk result (IfSome (F.told folders.old) (λ m. F.told folders.new ≡ option_map (files_after names.now.to (works_in (image_in rules.now graph.now.defined) names.now.from m noted.now)) (F.told folders.old))) }
-    ensures ledger { OnOk result (IfSome (F.told folders.old) (λ m. K.told keeper.new ≡ option_map (ledger_after (works_in (image_in rules.now graph.now.defined) names.now.from m noted.now)) (K.told keeper.old))) }
-    ensures outcomes { IfOk result (λ outcomes. IfSome (F.told folders.old) (λ m. outcomes.items ≡ map outcome_of (works_in (image_in rules.now graph.now.defined) names.now.from m noted.now))) }
-    ensures length { IfOk result (λ outcomes. length outcomes.items ≡ length noted.now) }
-    ensures within { IfErr result (λ stopped. stopped.done ≤ length noted.now) }
-    ensures err { IfErr result (λ stopped. IfSome (F.told folders.old) (λ m. StopsAt stopped.why names.now.to (works_in (image_in rules.now graph.now.defined) names.now.from m noted.now) stopped.done
+    requires sound { All IsSound planned.now }
+    requires routes { All (λ one. IsRouteBy job.now.graph.now.rules one.route) planned.now }
+    requires notes { IfSome (F.told folders.old) (λ m. All (IsNoteOf names.now.from m) planned.now) }
+    requires stays { IfSome (F.told folders.old) (λ m. All (StaysAsNoted (image_in job.now.graph.now.rules job.now.graph.now.defined) names.now.from m) planned.now) }
+    ensures folders { OnOk result (IfSome (F.told folders.old) (λ m. F.told folders.new ≡ option_map (files_after names.now.to (works_in (image_in job.now.graph.now.rules job.now.graph.now.defined) names.now.from m planned.now)) (F.told folders.old))) }
+    ensures ledger { OnOk result (IfSome (F.told folders.old) (λ m. K.told keeper.new ≡ option_map (ledger_after (works_in (image_in job.now.graph.now.rules job.now.graph.now.defined) names.now.from m planned.now)) (K.told keeper.old))) }
+    ensures outcomes { IfOk result (λ outcomes. IfSome (F.told folders.old) (λ m. outcomes.items ≡ map outcome_of (works_in (image_in job.now.graph.now.rules job.now.graph.now.defined) names.now.from m planned.now))) }
+    ensures length { IfOk result (λ outcomes. length outcomes.items ≡ length planned.now) }
+    ensures within { IfErr result (λ stopped. stopped.done ≤ length planned.now) }
+    ensures err { IfErr result (λ stopped. IfSome (F.told folders.old) (λ m. StopsAt stopped.why names.now.to (works_in (image_in job.now.graph.now.rules job.now.graph.now.defined) names.now.from m planned.now) stopped.done
         (F.told folders.old) (F.told folders.new) (K.told keeper.old) (K.told keeper.new))) }
     ensures written { OnOk result (NoneWaits (K.waiting keeper.new)) }
     ensures behind { IfErr result (λ stopped. CommittedBehind (K.waiting keeper.new) stopped.why) }
@@ -146,24 +134,12 @@ fn write_and_commit<R: Threads + Sync, F: Folders, K: Keeper, G: Gate + Sync>(
     ensures counts_k { K.faults keeper.old ≤ K.faults keeper.new }
     ensures cause { IfErr result (λ stopped. HasCause (F.told folders.old) stopped.why (F.faults folders.old) (F.faults folders.new) (K.faults keeper.old) (K.faults keeper.new)) }
 {
-    let written = write_all(
-        rt,
-        alloc,
-        folders,
-        keeper,
-        gate,
-        rules,
-        graph,
-        &names.from,
-        &names.to,
-        workers,
-        noted,
-    );
+    let written = write_all(workers, job, folders, keeper, names, planned);
     match keeper.commit() {
         Ok(()) => written,
         Err(fault) => Err(Stopped {
             why: fault.into(),
-            done: done_of(&written, noted.len()),
+            done: done_of(&written, planned.len()),
         }),
     }
 }
@@ -172,28 +148,25 @@ fn write_and_commit<R: Threads + Sync, F: Folders, K: Keeper, G: Gate + Sync>(
 #[derive(Drop)]
 pub struct Written {
     /// Each file of the source, in byte order of their paths.
-    pub noted: Vec<Noted>,
+    pub planned: Vec<PlannedFile>,
     /// What became of each, in the same order.
     pub outcomes: Vec<Outcome>,
 }
 
 /// Plans and writes what was gathered: what became of each file, or how the run ends before its report.
 fn write_gathered<R: Threads + Sync, F: Folders, K: Keeper, G: Gate + Sync>(
-    rt: &R,
+    workers: &Workers<'_, R, G>,
     alloc: Global,
     folders: &mut F,
     keeper: &mut K,
-    gate: &G,
     names: &Roots,
-    workers: u32,
     gathered: Gathered,
 ) -> Result<Written, Status>
     requires roots { AreRoots names.now }
-    requires workers { AreWorkers workers }
     requires gathered { HasGathered names.now (F.told folders.old) gathered }
-    ensures written { IfOk result (λ w. WhereTold (F.told folders.old) (K.told keeper.old) (λ m0 l0. Tells (F.told folders.new) (K.told keeper.new) (λ m l. IsWritten (asked_roots names.now) m0 l0 m l w.noted.items w.outcomes.items))) }
+    ensures written { IfOk result (λ w. WhereTold (F.told folders.old) (K.told keeper.old) (λ m0 l0. Tells (F.told folders.new) (K.told keeper.new) (λ m l. IsWritten (asked_roots names.now) m0 l0 m l w.planned.items w.outcomes.items))) }
     ensures few { IfOk result (λ w. length w.outcomes.items < 2 ^ 32) }
-    ensures same { IfOk result (λ w. length w.noted.items ≡ length w.outcomes.items) }
+    ensures same { IfOk result (λ w. length w.planned.items ≡ length w.outcomes.items) }
     ensures committed { OnOk result (NoneWaits (K.waiting keeper.new)) }
     ensures attached { OnOk result (K.attached keeper.new ≡ Some names.now.ledger) }
     ensures stopped { IfErr result (λ s. WhereTold (F.told folders.old) (K.told keeper.old) (λ m0 l0. Tells (F.told folders.new) (K.told keeper.new) (λ m l. StandsAfter (asked_roots names.now) m0 l0 m l s))) }
@@ -204,36 +177,14 @@ fn write_gathered<R: Threads + Sync, F: Folders, K: Keeper, G: Gate + Sync>(
     ensures counts_f { F.faults folders.old ≤ F.faults folders.new }
     ensures counts_k { K.faults keeper.old ≤ K.faults keeper.new }
 {
-    let Gathered {
-        ruled,
-        header,
-        notes,
-    } = gathered;
-    let Prepared { graph, noted } = match plan(
-        alloc,
-        folders,
-        keeper,
-        names,
-        &header,
-        &ruled.rules,
-        notes,
-    ) {
+    let Gathered { ruled, notes } = gathered;
+    let Prepared { graph, planned } = match plan(alloc, folders, keeper, names, &ruled, notes) {
         Ok(prepared) => prepared,
         Err(halt) => return Err(status_of_halt(halt)),
     };
-    match write_and_commit(
-        rt,
-        alloc,
-        folders,
-        keeper,
-        gate,
-        &ruled.rules,
-        &graph,
-        names,
-        workers,
-        &noted,
-    ) {
-        Ok(outcomes) => Ok(Written { noted, outcomes }),
+    let job = Migration::of(alloc, &graph);
+    match write_and_commit(workers, &job, folders, keeper, names, &planned) {
+        Ok(outcomes) => Ok(Written { planned, outcomes }),
         Err(stopped) => Err(status_of_stop(stopped.why, stopped.done as u32)),
     }
 }
@@ -241,19 +192,16 @@ fn write_gathered<R: Threads + Sync, F: Folders, K: Keeper, G: Gate + Sync>(
 /// Reads the rules and files of roots, opens the ledger, and writes the files: what became of each, or how the run ends before
 /// its report.
 fn write_files<R: Threads + Sync, F: Folders, K: Keeper, G: Gate + Sync>(
-    rt: &R,
+    workers: &Workers<'_, R, G>,
     alloc: Global,
     folders: &mut F,
     keeper: &mut K,
-    gate: &G,
     names: &Roots,
-    workers: u32,
 ) -> Result<Written, Status>
     requires roots { AreRoots names.now }
-    requires workers { AreWorkers workers }
-    ensures written { IfOk result (λ w. WhereTold (F.told folders.old) (K.told keeper.old) (λ m0 l0. Tells (F.told folders.new) (K.told keeper.new) (λ m l. IsWritten (asked_roots names.now) m0 l0 m l w.noted.items w.outcomes.items))) }
+    ensures written { IfOk result (λ w. WhereTold (F.told folders.old) (K.told keeper.old) (λ m0 l0. Tells (F.told folders.new) (K.told keeper.new) (λ m l. IsWritten (asked_roots names.now) m0 l0 m l w.planned.items w.outcomes.items))) }
     ensures few { IfOk result (λ w. length w.outcomes.items < 2 ^ 32) }
-    ensures same { IfOk result (λ w. length w.noted.items ≡ length w.outcomes.items) }
+    ensures same { IfOk result (λ w. length w.planned.items ≡ length w.outcomes.items) }
     ensures committed { OnOk result (NoneWaits (K.waiting keeper.new)) }
     ensures attached { OnOk result (K.attached keeper.new ≡ Some names.now.ledger) }
     ensures stopped { IfErr result (λ s. WhereTold (F.told folders.old) (K.told keeper.old) (λ m0 l0. Tells (F.told folders.new) (K.told keeper.new) (λ m l. StandsAfter (asked_roots names.now) m0 l0 m l s))) }
@@ -264,8 +212,8 @@ fn write_files<R: Threads + Sync, F: Folders, K: Keeper, G: Gate + Sync>(
     ensures counts_f { F.faults folders.old ≤ F.faults folders.new }
     ensures counts_k { K.faults keeper.old ≤ K.faults keeper.new }
 {
-    match gather(rt, alloc, folders, gate, names, workers) {
-        Ok(gathered) => write_gathered(rt, alloc, folders, keeper, gate, names, workers, gathered),
+    match gather(workers, alloc, folders, names) {
+        Ok(gathered) => write_gathered(workers, alloc, folders, keeper, names, gathered),
         Err(halt) => Err(status_of_halt(halt)),
     }
 }
@@ -273,16 +221,16 @@ fn write_files<R: Threads + Sync, F: Folders, K: Keeper, G: Gate + Sync>(
 /// Reports what became of the files.
 fn tell<O: Sink>(out: &mut O, written: Written) -> Status
     requires few { length written.outcomes.items < 2 ^ 32 }
-    requires same { length written.noted.items ≡ length written.outcomes.items }
-    ensures output { Reported (report_by written.noted.items written.outcomes.items) (O.told out.old) (O.told out.new) result }
+    requires same { length written.planned.items ≡ length written.outcomes.items }
+    ensures output { Reported (report_by written.planned.items written.outcomes.items) (O.told out.old) (O.told out.new) result }
     ensures only { IsTold result }
     ensures ends { is_final result ≡ true → result ≡ ending_by written.outcomes.items }
     ensures cause { HasCauses (Err (λ m l. Done)) None result 0 0 0 0 (O.faults out.old) (O.faults out.new) }
     ensures counts { O.faults out.old ≤ O.faults out.new }
 {
-    let Written { noted, outcomes } = written;
+    let Written { planned, outcomes } = written;
     let refused = has_refused(&outcomes);
-    match write_report(out, noted, &outcomes) {
+    match write_report(out, planned, &outcomes) {
         Ok(()) if refused => Status::Refusals,
         Ok(()) => Status::Done,
         Err(_) => Status::OutputFault,
@@ -291,17 +239,14 @@ fn tell<O: Sink>(out: &mut O, written: Written) -> Status
 
 /// A run over roots up to its end, without the line of a fault.
 pub(crate) fn run<R: Threads + Sync, F: Folders, K: Keeper, O: Sink, G: Gate + Sync>(
-    rt: &R,
+    workers: &Workers<'_, R, G>,
     alloc: Global,
     names: &Roots,
-    workers: u32,
     folders: &mut F,
     keeper: &mut K,
     out: &mut O,
-    gate: &G,
 ) -> Status
     requires roots { AreRoots names.now }
-    requires workers { AreWorkers workers }
     ensures stands { WhereTold (F.told folders.old) (K.told keeper.old) (λ m0 l0. Tells (F.told folders.new) (K.told keeper.new) (λ m l. StandsAfter (asked_roots names.now) m0 l0 m l result)) }
     ensures first { WhereTold (F.told folders.old) (K.told keeper.old) (λ m l. is_final result ≡ true → result ≡ first_answer (asked_roots names.now) m l) }
     ensures output { ReportedOf (asked_roots names.now) (F.told folders.old) (K.told keeper.old) (O.told out.old) (O.told out.new) result }
@@ -312,7 +257,7 @@ pub(crate) fn run<R: Threads + Sync, F: Folders, K: Keeper, O: Sink, G: Gate + S
     ensures counts_k { K.faults keeper.old ≤ K.faults keeper.new }
     ensures counts_o { O.faults out.old ≤ O.faults out.new }
 {
-    match write_files(rt, alloc, folders, keeper, gate, names, workers) {
+    match write_files(workers, alloc, folders, keeper, names) {
         Ok(written) => tell(out, written),
         Err(status) => status,
     }
@@ -320,16 +265,13 @@ pub(crate) fn run<R: Threads + Sync, F: Folders, K: Keeper, O: Sink, G: Gate + S
 
 /// The totals of a run over roots that completes, or how it ends before its report.
 pub(crate) fn totals_of_run<R: Threads + Sync, F: Folders, K: Keeper, G: Gate + Sync>(
-    rt: &R,
+    workers: &Workers<'_, R, G>,
     alloc: Global,
     names: &Roots,
-    workers: u32,
     folders: &mut F,
     keeper: &mut K,
-    gate: &G,
 ) -> Result<Summary, Status>
     requires roots { AreRoots names.now }
-    requires workers { AreWorkers workers }
     ensures totals { IfOk result (λ totals. WhereTold (F.told folders.old) (K.told keeper.old) (λ m l. IsOkAnd (run_of_asked (asked_roots names.now) m) (λ run. totals ≡ summary_of run l.rows (files_below run.from m)))) }
     ensures completes { IfOk result (λ totals. WhereTold (F.told folders.old) (K.told keeper.old) (λ m0 l0. TellsLedger (K.told keeper.new) (λ l. Completes (asked_roots names.now) m0 l0 l (λ t. totals ≡ t)))) }
     ensures stopped { IfErr result (λ s. WhereTold (F.told folders.old) (K.told keeper.old) (λ m0 l0. Tells (F.told folders.new) (K.told keeper.new) (λ m l. StandsAfter (asked_roots names.now) m0 l0 m l s))) }
@@ -337,7 +279,7 @@ pub(crate) fn totals_of_run<R: Threads + Sync, F: Folders, K: Keeper, G: Gate + 
     ensures causes { IfErr result (λ s. HasCauses (asked_roots names.now) (F.told folders.old) s (F.faults folders.old) (F.faults folders.new) (K.faults keeper.old) (K.faults keeper.new) 0 0) }
     ensures counts_k { K.faults keeper.old ≤ K.faults keeper.new }
 {
-    match write_files(rt, alloc, folders, keeper, gate, names, workers) {
+    match write_files(workers, alloc, folders, keeper, names) {
         Ok(written) => Ok(summary_of(&written.outcomes)),
         Err(status) => Err(status),
     }

@@ -6,63 +6,40 @@ ghost use Rattle.desk_file.specs.Treatments.{is_whole};
 ghost use Rattle.desk_folders.specs.Contents.{files_below};
 ghost use Rattle.desk_run.specs.Endings.{AreRead, HasGathered};
 ghost use Rattle.desk_run.specs.Halts.{HaltsAtFiles, HaltsGathering, HaltsReadingAll};
-ghost use Rattle.desk_run.specs.Meaning.{header_of};
 ghost use Rattle.desk_intake.specs.Rulings.{ruled};
 ghost use Rattle.desk_run.specs.Asked.{asked_roots};
-ghost use Rattle.desk_run.specs.Notes.{IsRead, class_note_of};
+ghost use Rattle.desk_run.specs.Notes.{IsRead};
 ghost use Rattle.desk_second.specs.Second.{AreRules};
-ghost use Rattle.desk_words.specs.Roots.{AreRoots, AreWorkers};
+ghost use Rattle.desk_words.specs.Roots.{AreRoots};
 
-use desk_base::Memory;
 use desk_folders::Folders;
-use desk_intake::{Halt, Ruled, list_routes, read_rules, refuse_clash};
-use desk_ledger::Header;
+use desk_intake::{Halt, DigestedRules, list_routes, read_rules, refuse_clash};
 use desk_readings::{MeasuredFiles, note_all};
 use desk_words::Roots;
 use desk_workers::{Gate, Workers};
 use std::alloc::Global;
 use std::thread::Threads;
 
-/// What a run goes by: its rules, its header, and what was read of its files.
+/// What a run goes by: its rules, and what was read of its files.
 #[derive(Drop)]
 pub struct Gathered {
     /// The rule set with the digest of its files.
-    pub ruled: Box<Ruled>,
-    /// The header that the ledger of this run has.
-    pub header: Header,
+    pub ruled: Box<DigestedRules>,
     /// What the first reading of the source found.
     pub notes: MeasuredFiles,
 }
 
-/// The header of a run.
-fn make_header(names: &Roots, ruled: &Ruled) -> Result<Header, Memory>
-    ensures { IfOk result (λ header. header ≡ header_of names.now ruled.now) }
-{
-    let from = names.from.clone()?;
-    let to = names.to.clone()?;
-    Ok(Header {
-        from,
-        to,
-        rules: ruled.digest,
-    })
-}
-
 /// Reads the files of a run for the first time, or finds what stands against them.
 fn read_files<R: Threads + Sync, F: Folders, G: Gate + Sync>(
-    rt: &R,
+    workers: &Workers<'_, R, G>,
     alloc: Global,
     folders: &mut F,
-    gate: &G,
     names: &Roots,
-    ruled: &Ruled,
-    workers: u32,
+    ruled: &DigestedRules,
 ) -> Result<MeasuredFiles, Halt>
     requires roots { AreRoots names.now }
-    requires workers { AreWorkers workers }
     ensures told { F.told folders.new ≡ F.told folders.old }
     ensures notes { IfOk result (λ notes. IfSome (F.told folders.old) (λ m. AreRead ruled.now.rules names.now.from m notes.files.items notes.scanned.items)) }
-    ensures class_notes { IfOk result (λ notes. IfSome (F.told folders.old) (λ m. notes.class_notes.items ≡ map (class_note_of ruled.now.rules) (files_below names.now.from m))) }
-    ensures count { IfOk result (λ notes. length notes.class_notes.items ≡ length notes.files.items) }
     ensures read { IfOk result (λ notes. All (IsRead ruled.now.rules) notes.files.items) }
     ensures few { IfOk result (λ notes. length notes.files.items < 2 ^ 32) }
     ensures few_classes { IfOk result (λ notes. length notes.scanned.items < 2 ^ 32) }
@@ -70,34 +47,23 @@ fn read_files<R: Threads + Sync, F: Folders, G: Gate + Sync>(
     ensures counts { F.faults folders.old ≤ F.faults folders.new }
 {
     let routes = list_routes(alloc, folders, &ruled.rules, &names.from)?;
-    let workers = Workers {
-        rt,
-        gate,
-        count: workers,
-    };
-    let notes = note_all(&workers, alloc, folders, &ruled.rules, &names.from, routes)?;
+    let notes = note_all(workers, alloc, folders, &ruled.rules, &names.from, routes)?;
     refuse_clash(alloc, &notes.files)?;
     Ok(notes)
 }
 
 /// Reads the rules and files of roots, or finds what stands against them.
 fn gather_by<R: Threads + Sync, F: Folders, G: Gate + Sync>(
-    rt: &R,
+    workers: &Workers<'_, R, G>,
     alloc: Global,
     folders: &mut F,
-    gate: &G,
     names: &Roots,
-    workers: u32,
 ) -> Result<Gathered, Halt>
     requires roots { AreRoots names.now }
-    requires workers { AreWorkers workers }
     ensures told { F.told folders.new ≡ F.told folders.old }
-    ensures header { IfOk result (λ g. g.header ≡ header_of names.now g.ruled.value) }
     ensures rules { IfOk result (λ g. IfSome (F.told folders.old) (λ m. ruled names.now.rules (files_below names.now.rules m) ≡ Ok g.ruled.value)) }
     ensures are { IfOk result (λ g. AreRules g.ruled.value.rules) }
     ensures notes { IfOk result (λ g. IfSome (F.told folders.old) (λ m. AreRead g.ruled.value.rules names.now.from m g.notes.files.items g.notes.scanned.items)) }
-    ensures class_notes { IfOk result (λ g. IfSome (F.told folders.old) (λ m. g.notes.class_notes.items ≡ map (class_note_of g.ruled.value.rules) (files_below names.now.from m))) }
-    ensures count { IfOk result (λ g. length g.notes.class_notes.items ≡ length g.notes.files.items) }
     ensures read { IfOk result (λ g. All (IsRead g.ruled.value.rules) g.notes.files.items) }
     ensures few { IfOk result (λ g. length g.notes.files.items < 2 ^ 32) }
     ensures few_classes { IfOk result (λ g. length g.notes.scanned.items < 2 ^ 32) }
@@ -105,30 +71,22 @@ fn gather_by<R: Threads + Sync, F: Folders, G: Gate + Sync>(
     ensures counts { F.faults folders.old ≤ F.faults folders.new }
 {
     let ruled = read_rules(alloc, folders, &names.rules)?;
-    let header = make_header(names, &ruled)?;
-    let notes = read_files(rt, alloc, folders, gate, names, &ruled, workers)?;
-    Ok(Gathered {
-        ruled,
-        header,
-        notes,
-    })
+    let notes = read_files(workers, alloc, folders, names, &ruled)?;
+    Ok(Gathered { ruled, notes })
 }
 
 /// Reads the rules and files of roots.
 pub(crate) fn gather<R: Threads + Sync, F: Folders, G: Gate + Sync>(
-    rt: &R,
+    workers: &Workers<'_, R, G>,
     alloc: Global,
     folders: &mut F,
-    gate: &G,
     names: &Roots,
-    workers: u32,
 ) -> Result<Gathered, Halt>
     requires roots { AreRoots names.now }
-    requires workers { AreWorkers workers }
     ensures told { F.told folders.new ≡ F.told folders.old }
     ensures gathered { IfOk result (HasGathered names.now (F.told folders.old)) }
     ensures err { IfErr result (HaltsGathering (asked_roots names.now) (F.told folders.old) (F.faults folders.old) (F.faults folders.new)) }
     ensures counts { F.faults folders.old ≤ F.faults folders.new }
 {
-    gather_by(rt, alloc, folders, gate, names, workers)
+    gather_by(workers, alloc, folders, names)
 }

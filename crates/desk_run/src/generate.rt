@@ -5,7 +5,6 @@ ghost use Rattle.std.specs.List.{list_all};
 ghost use Rattle.desk_base.specs.Paths.{is_full_path};
 ghost use Rattle.desk_report.specs.declared.status.Status.TheVariants.{Done};
 ghost use Rattle.desk_run.specs.Endings.{HasCauses};
-ghost use Rattle.desk_words.specs.Roots.{AreWorkers};
 ghost use Rattle.desk_run.specs.Generated.{TellsTotals, generated_contents, generated_files, generated_roots, generated_totals, placed};
 ghost use Rattle.desk_run.specs.GeneratedSql.{CompletesGenerated, LeavesSql, StopsGenerated, TellsResult, kept_status, kept_totals};
 
@@ -17,7 +16,7 @@ use desk_ledger::{Keeper, MemoryKeeper};
 use desk_readings::full_path;
 use desk_report::{Sink, Status, Summary, write_summary};
 use desk_words::Roots;
-use desk_workers::Gate;
+use desk_workers::{Gate, Workers};
 use std::alloc::Global;
 use std::thread::Threads;
 
@@ -76,32 +75,20 @@ fn files_in_memory(alloc: Global, roots: &Roots, count: u32) -> Result<Vec<GenFi
 
 /// The totals of the run over a generated application of so many classes, by so many workers.
 fn totals<R: Threads + Sync, G: Gate + Sync>(
-    rt: &R,
+    workers: &Workers<'_, R, G>,
     alloc: Global,
     count: u32,
-    workers: u32,
-    gate: &G,
 ) -> Result<Summary, Memory>
-    requires { AreWorkers workers }
     ensures { IfOk result (λ totals. generated_totals count ≡ Ok totals) }
 {
     let roots = roots_in_memory(alloc)?;
     let files = files_in_memory(alloc, &roots, count)?;
     let mut folders = MemoryFolders::new(alloc, files, Vec::new(alloc))?;
     let mut keeper = MemoryKeeper::new(alloc, Vec::new(alloc))?;
-    match totals_of_run(rt, alloc, &roots, workers, &mut folders, &mut keeper, gate) {
+    match totals_of_run(workers, alloc, &roots, &mut folders, &mut keeper) {
         Ok(totals) => Ok(totals),
         Err(_) => Err(Memory),
     }
-}
-
-/// A generated application: of how many classes, and by how many workers it is migrated.
-#[derive(Clone, Copy, Debug)]
-pub(crate) struct Generation {
-    /// How many classes it has.
-    pub(crate) count: u32,
-    /// How many workers migrate it.
-    pub(crate) workers: u32,
 }
 
 /// The folders of the run: the application below `in`, and its rule file below `rules`.
@@ -138,24 +125,21 @@ fn kept_totals(totals: Result<Summary, Status>) -> Result<Summary, Status>
 
 /// The totals of the run whose rows go into this ledger, or how it ends before them.
 fn totals_kept<R: Threads + Sync, K: Keeper, G: Gate + Sync>(
-    rt: &R,
+    workers: &Workers<'_, R, G>,
     alloc: Global,
-    generation: Generation,
+    count: u32,
     roots: &Roots,
     keeper: &mut K,
-    gate: &G,
 ) -> Result<Summary, Status>
-    requires workers { AreWorkers generation.workers }
     requires roots { roots.now ≡ generated_roots }
-    ensures completes { IfOk result (λ totals. IfSome (K.told keeper.old) (λ l0. CompletesGenerated generation.count l0 (K.told keeper.new) (λ t. totals ≡ t))) }
-    ensures stopped { IfErr result (StopsGenerated generation.count (K.told keeper.old) (K.told keeper.new) (K.faults keeper.old) (K.faults keeper.new)) }
+    ensures completes { IfOk result (λ totals. IfSome (K.told keeper.old) (λ l0. CompletesGenerated count l0 (K.told keeper.new) (λ t. totals ≡ t))) }
+    ensures stopped { IfErr result (StopsGenerated count (K.told keeper.old) (K.told keeper.new) (K.faults keeper.old) (K.faults keeper.new)) }
     ensures counts { K.faults keeper.old ≤ K.faults keeper.new }
 {
-    let Generation { count, workers } = generation;
     match folders_in_memory(alloc, roots, count) {
         Ok(folders) => {
             let mut folders = folders;
-            kept_totals(totals_of_run(rt, alloc, roots, workers, &mut folders, keeper, gate))
+            kept_totals(totals_of_run(workers, alloc, roots, &mut folders, keeper))
         }
         Err(Memory) => Err(Status::Memory),
     }
@@ -181,23 +165,18 @@ fn tell_totals<O: Sink>(out: &mut O, totals: Result<Summary, Status>) -> Status
 /// The statuses: `Done`; `OtherRun` where the ledger belongs to another run; `LedgerFault`; `OutputFault` where the line could not
 /// be written; `Memory`.
 pub(crate) fn run_generated_sql<R: Threads + Sync, K: Keeper, O: Sink, G: Gate + Sync>(
-    rt: &R,
+    workers: &Workers<'_, R, G>,
     alloc: Global,
-    generation: Generation,
+    count: u32,
     keeper: &mut K,
     out: &mut O,
-    gate: &G,
 ) -> Status
-    requires { AreWorkers generation.workers }
-    ensures told { LeavesSql generation.count (K.told keeper.old) (K.told keeper.new) (K.faults keeper.old) (K.faults keeper.new) (O.told out.old) (O.told out.new) (O.faults out.old) (O.faults out.new) result }
+    ensures told { LeavesSql count (K.told keeper.old) (K.told keeper.new) (K.faults keeper.old) (K.faults keeper.new) (O.told out.old) (O.told out.new) (O.faults out.old) (O.faults out.new) result }
     ensures counts_k { K.faults keeper.old ≤ K.faults keeper.new }
     ensures counts { O.faults out.old ≤ O.faults out.new }
 {
     match roots_in_memory(alloc) {
-        Ok(roots) => tell_totals(
-            out,
-            totals_kept(rt, alloc, generation, &roots, keeper, gate),
-        ),
+        Ok(roots) => tell_totals(out, totals_kept(workers, alloc, count, &roots, keeper)),
         Err(Memory) => Status::Memory,
     }
 }
@@ -207,19 +186,16 @@ pub(crate) fn run_generated_sql<R: Threads + Sync, K: Keeper, O: Sink, G: Gate +
 ///
 /// The statuses: `Done`; `OutputFault` where the line could not be written; `Memory`.
 pub(crate) fn run_generated<R: Threads + Sync, O: Sink, G: Gate + Sync>(
-    rt: &R,
+    workers: &Workers<'_, R, G>,
     alloc: Global,
     count: u32,
-    workers: u32,
     out: &mut O,
-    gate: &G,
 ) -> Status
-    requires { AreWorkers workers }
     ensures told { TellsTotals count (O.told out.old) (O.told out.new) result }
     ensures causes { HasCauses (Err (λ m l. Done)) None result 0 0 0 0 (O.faults out.old) (O.faults out.new) }
     ensures counts { O.faults out.old ≤ O.faults out.new }
 {
-    match totals(rt, alloc, count, workers, gate) {
+    match totals(workers, alloc, count) {
         Ok(totals) => match write_summary(&totals, out) {
             Ok(()) => Status::Done,
             Err(_) => Status::OutputFault,

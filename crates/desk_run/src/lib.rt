@@ -4,7 +4,8 @@
 //! let mut folders = DiskFolders::new(&rt);
 //! let mut keeper = SqliteKeeper::new(&rt);
 //! let mut out = StdSink::new(&rt);
-//! let status = desk(&rt, rt.alloc(), &words, &mut folders, &mut keeper, &mut out, &FreeGate);
+//! let request = Request::read(rt.alloc(), &words);
+//! let status = desk(&rt, rt.alloc(), &request, &mut folders, &mut keeper, &mut out, &FreeGate);
 //! ExitCode::from(status.code())
 //! ```
 #![tactic(auto)]
@@ -30,31 +31,31 @@ mod planning;
 mod queries;
 mod report;
 mod stops;
+mod threading;
 
-use desk_base::Text;
 use desk_folders::Folders;
 use desk_ledger::Keeper;
 use desk_report::{Sink, Status, write_fault};
-use desk_words::{Order, read_order};
-pub use desk_words::{Root, Task, WordsFault, read_words};
+use desk_words::Order;
+pub use desk_words::{Request, Root, Task, WordsFault, read_words};
 pub use desk_workers::FreeGate;
 use desk_workers::Gate;
 use finish::run;
-use generate::{Generation, run_generated, run_generated_sql};
+use generate::{run_generated, run_generated_sql};
 use queries::run_query;
 use std::alloc::Global;
 use std::thread::Threads;
 use stops::status_of_words;
+use threading::Threading;
 
 /// Does what words ask for, without the line of a fault.
 fn follow<R: Threads + Sync, F: Folders, K: Keeper, O: Sink, G: Gate + Sync>(
-    rt: &R,
+    threading: &Threading<'_, R, G>,
     alloc: Global,
-    words: &[Text],
+    words: &Request<'_>,
     folders: &mut F,
     keeper: &mut K,
     out: &mut O,
-    gate: &G,
 ) -> Status
     ensures stands { OfRun words.now (WhereTold (F.told folders.old) (K.told keeper.old) (λ m0 l0. Tells (F.told folders.new) (K.told keeper.new) (λ m l. StandsAfter (asked_of words.now) m0 l0 m l result))) }
     ensures first { WhereTold (F.told folders.old) (K.told keeper.old) (λ m l. is_final result ≡ true → result ≡ first_answer (asked_of words.now) m l) }
@@ -72,23 +73,25 @@ fn follow<R: Threads + Sync, F: Folders, K: Keeper, O: Sink, G: Gate + Sync>(
     ensures counts_k { K.faults keeper.old ≤ K.faults keeper.new }
     ensures counts_o { O.faults out.old ≤ O.faults out.new }
 {
-    match read_order(alloc, words) {
+    match words.order() {
         Ok(Order::Run { roots, workers }) => {
-            run(rt, alloc, &roots, workers, folders, keeper, out, gate)
+            let workers = threading.workers(*workers);
+            run(&workers, alloc, roots, folders, keeper, out)
         }
         Ok(Order::Generate { count, workers }) => {
-            run_generated(rt, alloc, count, workers, out, gate)
+            let workers = threading.workers(*workers);
+            run_generated(&workers, alloc, *count, out)
         }
         Ok(Order::GenerateSql { count, workers }) => {
-            let generation = Generation { count, workers };
-            run_generated_sql(rt, alloc, generation, keeper, out, gate)
+            let workers = threading.workers(*workers);
+            run_generated_sql(&workers, alloc, *count, keeper, out)
         }
-        Ok(Order::Query(asked)) => run_query(rt, alloc, &asked, folders, out, gate),
+        Ok(Order::Query(asked)) => run_query(threading, alloc, asked, folders, out),
         Err(fault) => status_of_words(fault),
     }
 }
 
-/// Migrates the application that words name: reads the rules and, for the first time, the files of the source, opens the ledger,
+/// Migrates the application that words name, which were read once: reads the rules and, for the first time, the files of the source, opens the ledger,
 /// reads each file again that isn't kept from an earlier run and writes its image, if it has one, commits the rows, and writes
 /// the report; or the line of what stands against it. Digests, scans and images are made by as many workers as the words ask
 /// for; `gate` is told of each item that a worker begins and ends. Of words with `--verify` it reads the target of each file
@@ -121,7 +124,7 @@ fn follow<R: Threads + Sync, F: Folders, K: Keeper, O: Sink, G: Gate + Sync>(
 pub fn desk<R: Threads + Sync, F: Folders, K: Keeper, O: Sink, G: Gate + Sync>(
     rt: &R,
     alloc: Global,
-    words: &[Text],
+    words: &Request<'_>,
     folders: &mut F,
     keeper: &mut K,
     out: &mut O,
@@ -152,7 +155,8 @@ pub fn desk<R: Threads + Sync, F: Folders, K: Keeper, O: Sink, G: Gate + Sync>(
         (F.faults folders.old) (F.faults folders.new) (O.faults out.old) (O.faults out.new) result) }
     ensures unchanged { OfQuery words.now (λ _. (F.told folders.new ≡ F.told folders.old) × (keeper.new ≡ keeper.old)) }
 {
-    let status = follow(rt, alloc, words, folders, keeper, out, gate);
+    let threading = Threading { rt, gate };
+    let status = follow(&threading, alloc, words, folders, keeper, out);
     let _ = write_fault(&status, out);
     status
 }

@@ -4,12 +4,27 @@ ghost use Rattle.std.specs.Prelude.{◌≡◌, ◌≤◌, None, Some, IfOk, IfSo
 ghost use Rattle.desk_ledger.specs.Ledger.{Ledger, with_header};
 ghost use Rattle.desk_run.specs.Answers.{other_run, same_header};
 ghost use Rattle.desk_run.specs.Halts.{HaltsAtLedger, NamedAtHalt};
+ghost use Rattle.desk_run.specs.Meaning.{header_of};
 ghost use Rattle.desk_run.specs.Truth.{IsOurs};
 
-use desk_base::Text;
-use desk_intake::Halt;
+use desk_base::{Memory, Text};
+use desk_intake::{Halt, DigestedRules};
 use desk_ledger::{Header, Keeper};
 use desk_report::Status;
+use desk_words::Roots;
+
+/// The header that the ledger of a run has.
+pub(crate) fn make_header(names: &Roots, ruled: &DigestedRules) -> Result<Header, Memory>
+    ensures { IfOk result (λ header. header ≡ header_of names.now ruled.now) }
+{
+    let from = names.from.clone()?;
+    let to = names.to.clone()?;
+    Ok(Header {
+        from,
+        to,
+        rules: ruled.digest,
+    })
+}
 
 /// Whether two headers are one.
 fn is_same(a: &Header, b: &Header) -> bool

@@ -12,16 +12,16 @@ ghost use Rattle.desk_run.specs.Endings.{WhereTold};
 ghost use Rattle.desk_run.specs.Halts.{HaltsPlanning};
 ghost use Rattle.desk_run.specs.Meaning.{finds_in};
 ghost use Rattle.desk_intake.specs.Routes.{IsRelativeRoute};
-ghost use Rattle.desk_run.specs.Notes.{measured_in, noted_by, way_by};
+ghost use Rattle.desk_run.specs.Notes.{action_by, measured_in, planned_by};
 ghost use Rattle.desk_run.specs.Runs.{has_output, is_candidate, is_kept};
 ghost use Rattle.desk_words.specs.Roots.{AreRoots, IsPathRoot};
 
 use desk_base::Text;
-use desk_batches::{Noted, Way};
+use desk_batches::{Action, PlannedFile};
 use desk_folders::{FolderFault, Folders};
 use desk_intake::Halt;
 use desk_ledger::{Digest, Keeper, Row};
-use desk_readings::{Measured, digest_of_front, full_path};
+use desk_readings::{MeasuredFile, digest_of_front, full_path};
 use desk_words::Roots;
 use std::alloc::Global;
 
@@ -64,7 +64,7 @@ fn keeps<F: Folders>(
     folders: &mut F,
     roots: &Roots,
     row: &Option<Row>,
-    file: &Measured,
+    file: &MeasuredFile,
 ) -> Result<bool, FolderFault>
     requires roots { AreRoots roots.now }
     requires relative { IsRelativeRoute file.now.route }
@@ -86,16 +86,16 @@ fn keeps<F: Folders>(
 }
 
 /// What is done with a file that is kept or not, where the ledger has a row of its target or not.
-fn way_of(kept: bool, found: bool, file: &Measured) -> Way
-    ensures { result ≡ way_by kept (not (is_copy file.now.route.treatment)) found }
+fn action_of(kept: bool, found: bool, file: &MeasuredFile) -> Action
+    ensures { result ≡ action_by kept (not (is_copy file.now.route.treatment)) found }
 {
     if kept {
-        return Way::Keep;
+        return Action::Keep;
     }
     if file.route.treatment.is_whole() {
-        Way::Migrate { found }
+        Action::Migrate { found }
     } else {
-        Way::Copy { found }
+        Action::Copy { found }
     }
 }
 
@@ -106,17 +106,17 @@ fn plan_file<F: Folders, K: Keeper>(
     folders: &mut F,
     keeper: &mut K,
     roots: &Roots,
-    file: Measured,
-) -> Result<Noted, Halt>
+    file: MeasuredFile,
+) -> Result<PlannedFile, Halt>
     requires attached { IsSome (K.attached keeper.old) }
     requires roots { AreRoots roots.now }
     requires relative { IsRelativeRoute file.route }
     requires within { IsWithin file }
     ensures told_f { F.told folders.new ≡ F.told folders.old }
     ensures told { K.told keeper.new ≡ K.told keeper.old }
-    ensures noted { IfOk result (λ noted. WhereTold (F.told folders.old) (K.told keeper.old) (λ m l. noted ≡ noted_by (finds_in roots.now m) l.rows file)) }
+    ensures planned { IfOk result (λ planned. WhereTold (F.told folders.old) (K.told keeper.old) (λ m l. planned ≡ planned_by (finds_in roots.now m) l.rows file)) }
     ensures sound { IfOk result IsSound }
-    ensures measured { IfOk result (λ noted. measured_in noted ≡ file) }
+    ensures measured { IfOk result (λ planned. measured_in planned ≡ file) }
     ensures attached { K.attached keeper.new ≡ K.attached keeper.old }
     ensures err { IfErr result (HaltsPlanning (F.faults folders.old) (F.faults folders.new) (K.faults keeper.old) (K.faults keeper.new)) }
     ensures counts_f { F.faults folders.old ≤ F.faults folders.new }
@@ -124,18 +124,20 @@ fn plan_file<F: Folders, K: Keeper>(
 {
     let row = keeper.find(&file.route.target)?;
     let kept = keeps(alloc, folders, roots, &row, &file)?;
-    let way = way_of(kept, row.is_some(), &file);
-    let Measured {
+    let action = action_of(kept, row.is_some(), &file);
+    let MeasuredFile {
         route,
         size,
         digest,
+        class,
     } = file;
-    Ok(Noted {
+    Ok(PlannedFile {
         route,
         size,
         digest,
+        class,
         stays: None,
-        way,
+        action,
     })
 }
 
@@ -145,25 +147,25 @@ pub(crate) fn plan_files<F: Folders, K: Keeper>(
     folders: &mut F,
     keeper: &mut K,
     roots: &Roots,
-    files: Vec<Measured>,
-) -> Result<Vec<Noted>, Halt>
+    files: Vec<MeasuredFile>,
+) -> Result<Vec<PlannedFile>, Halt>
     requires attached { IsSome (K.attached keeper.old) }
     requires roots { AreRoots roots.now }
     requires relative { All (λ file. IsRelativeRoute file.route) files.items }
     requires within { All IsWithin files.items }
     ensures told_f { F.told folders.new ≡ F.told folders.old }
     ensures told { K.told keeper.new ≡ K.told keeper.old }
-    ensures noted { IfOk result (λ noted. WhereTold (F.told folders.old) (K.told keeper.old) (λ m l. noted.items ≡ map (noted_by (finds_in roots.now m) l.rows) files.items)) }
-    ensures sound { IfOk result (λ noted. All IsSound noted.items) }
-    ensures measured { IfOk result (λ noted. map measured_in noted.items ≡ files.items) }
+    ensures planned { IfOk result (λ planned. WhereTold (F.told folders.old) (K.told keeper.old) (λ m l. planned.items ≡ map (planned_by (finds_in roots.now m) l.rows) files.items)) }
+    ensures sound { IfOk result (λ planned. All IsSound planned.items) }
+    ensures measured { IfOk result (λ planned. map measured_in planned.items ≡ files.items) }
     ensures attached { K.attached keeper.new ≡ K.attached keeper.old }
     ensures err { IfErr result (HaltsPlanning (F.faults folders.old) (F.faults folders.new) (K.faults keeper.old) (K.faults keeper.new)) }
     ensures counts_f { F.faults folders.old ≤ F.faults folders.new }
     ensures counts { K.faults keeper.old ≤ K.faults keeper.new }
 {
-    let mut noted = Vec::new(alloc);
+    let mut planned = Vec::new(alloc);
     for file in files {
-        noted.push(plan_file(alloc, folders, keeper, roots, file)?)?;
+        planned.push(plan_file(alloc, folders, keeper, roots, file)?)?;
     }
-    Ok(noted)
+    Ok(planned)
 }

@@ -9,11 +9,12 @@ ghost use Rattle.desk_words.specs.Roots.{IsSoundQuery};
 ghost use Rattle.desk_words.specs.declared.roots.Query.TheVariants as query;
 
 use crate::stops::status_of_halt;
+use crate::threading::Threading;
 use desk_base::{Text, TextList};
 use desk_calls::find_calls;
 use desk_comparison::{Comparison, compare_applications};
 use desk_folders::Folders;
-use desk_intake::{Halt, read_rules};
+use desk_intake::{Halt, read_rule_set};
 use desk_invert::{InvertError, invert};
 use desk_report::{Sink, Status};
 use desk_words::Query;
@@ -44,10 +45,9 @@ fn calls_status(refused: bool) -> Status
 
 /// Where the classes below a root use members of a package.
 fn reply_calls<R: Threads + Sync, F: Folders, G: Gate + Sync>(
-    rt: &R,
+    threading: &Threading<'_, R, G>,
     alloc: Global,
     folders: &mut F,
-    gate: &G,
     from: &Text,
     package: &TextList,
 ) -> Result<Reply, Halt>
@@ -58,7 +58,7 @@ fn reply_calls<R: Threads + Sync, F: Folders, G: Gate + Sync>(
     ensures err { IfErr result (HaltsQuery (query.Calls from.now «package».now) (F.told folders.old) (F.faults folders.old) (F.faults folders.new)) }
     ensures counts { F.faults folders.old ≤ F.faults folders.new }
 {
-    let calls = find_calls(rt, alloc, folders, gate, from, package)?;
+    let calls = find_calls(threading.rt, alloc, folders, threading.gate, from, package)?;
     Ok(Reply {
         text: calls.text,
         status: calls_status(calls.refused),
@@ -84,8 +84,8 @@ fn reply_inverse<F: Folders>(alloc: Global, folders: &mut F, rules: &Text) -> Re
     ensures err { IfErr result (HaltsQuery (query.Invert rules.now) (F.told folders.old) (F.faults folders.old) (F.faults folders.new)) }
     ensures counts { F.faults folders.old ≤ F.faults folders.new }
 {
-    let ruled = read_rules(alloc, folders, rules)?;
-    match invert(alloc, &ruled.rules) {
+    let rules = read_rule_set(alloc, folders, rules)?;
+    match invert(alloc, &rules) {
         Ok(text) => Ok(Reply {
             text,
             status: Status::Done,
@@ -115,10 +115,9 @@ fn reply_compare<F: Folders>(
 
 /// The answer of a query, or why there is none.
 fn reply_of<R: Threads + Sync, F: Folders, G: Gate + Sync>(
-    rt: &R,
+    threading: &Threading<'_, R, G>,
     alloc: Global,
     folders: &mut F,
-    gate: &G,
     asked: &Query,
 ) -> Result<Reply, Halt>
     requires { IsSoundQuery asked.now }
@@ -129,7 +128,7 @@ fn reply_of<R: Threads + Sync, F: Folders, G: Gate + Sync>(
     ensures counts { F.faults folders.old ≤ F.faults folders.new }
 {
     match asked {
-        Query::Calls { from, package } => reply_calls(rt, alloc, folders, gate, from, package),
+        Query::Calls { from, package } => reply_calls(threading, alloc, folders, from, package),
         Query::Invert { rules } => reply_inverse(alloc, folders, rules),
         Query::Compare { rules, from, other } => {
             reply_compare(alloc, folders, rules, from, other)
@@ -152,12 +151,11 @@ fn tell_reply<O: Sink>(out: &mut O, reply: Reply) -> Status
 /// Answers a query, without the line of a fault. Its text is written once all is read, so that before a fault of the folders and
 /// before want of memory nothing is.
 pub(crate) fn run_query<R: Threads + Sync, F: Folders, O: Sink, G: Gate + Sync>(
-    rt: &R,
+    threading: &Threading<'_, R, G>,
     alloc: Global,
     asked: &Query,
     folders: &mut F,
     out: &mut O,
-    gate: &G,
 ) -> Status
     requires { IsSoundQuery asked.now }
     ensures told { F.told folders.new ≡ F.told folders.old }
@@ -165,7 +163,7 @@ pub(crate) fn run_query<R: Threads + Sync, F: Folders, O: Sink, G: Gate + Sync>(
     ensures counts_f { F.faults folders.old ≤ F.faults folders.new }
     ensures counts_o { O.faults out.old ≤ O.faults out.new }
 {
-    match reply_of(rt, alloc, folders, gate, asked) {
+    match reply_of(threading, alloc, folders, asked) {
         Ok(reply) => tell_reply(out, reply),
         Err(halt) => status_of_halt(halt),
     }

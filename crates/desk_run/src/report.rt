@@ -8,7 +8,7 @@ ghost use Rattle.desk_report.specs.Texts.{line_text};
 ghost use Rattle.desk_report.specs.Written.{WritesFront, writing};
 ghost use Rattle.desk_run.specs.Reports.{added_texts, is_written, number_in, outcome_line, renamed_uses, report_by, summary_by, was_kept, was_refused};
 
-use desk_batches::{Noted, Outcome};
+use desk_batches::{Outcome, PlannedFile};
 use desk_file::Route;
 use desk_report::{
     Detail, ReportLine, Sink, SinkFault, Summary, WriteBuffer, flush, put_line, put_summary,
@@ -135,34 +135,34 @@ fn line_of(route: Route, outcome: Outcome) -> ReportLine
 fn put_outcome<O: Sink>(
     out: &mut O,
     waiting: &mut WriteBuffer,
-    noted: Noted,
+    file: PlannedFile,
     outcome: Outcome,
 ) -> Result<(), SinkFault>
-    ensures ok { OnOk result (Gathers (outcome_line noted.route.path noted.route.target outcome) waiting.old waiting.new (O.told out.old) (O.told out.new)) }
-    ensures err { OnErr result (WritesFront (waiting.old ++ outcome_line noted.route.path noted.route.target outcome) (O.told out.old) (O.told out.new)) }
+    ensures ok { OnOk result (Gathers (outcome_line file.route.path file.route.target outcome) waiting.old waiting.new (O.told out.old) (O.told out.new)) }
+    ensures err { OnErr result (WritesFront (waiting.old ++ outcome_line file.route.path file.route.target outcome) (O.told out.old) (O.told out.new)) }
     ensures counts { O.faults out.old ≤ O.faults out.new }
     ensures failed { OnErr result (Rose (O.faults out.old) (O.faults out.new)) }
 {
-    put_line(&line_of(noted.route, outcome), out, waiting)
+    put_line(&line_of(file.route, outcome), out, waiting)
 }
 
 /// Writes the report: one line a file, and the totals, as many bytes at once as wait together.
 pub(crate) fn write_report<O: Sink>(
     out: &mut O,
-    noted: Vec<Noted>,
+    planned: Vec<PlannedFile>,
     outcomes: &[Outcome],
 ) -> Result<(), SinkFault>
     requires few { length outcomes.now < 2 ^ 32 }
-    requires same { length noted.items ≡ length outcomes.now }
-    ensures ok { OnOk result (O.told out.new ≡ writing (report_by noted.items outcomes.now) (O.told out.old)) }
-    ensures err { OnErr result (WritesFront (report_by noted.items outcomes.now) (O.told out.old) (O.told out.new)) }
+    requires same { length planned.items ≡ length outcomes.now }
+    ensures ok { OnOk result (O.told out.new ≡ writing (report_by planned.items outcomes.now) (O.told out.old)) }
+    ensures err { OnErr result (WritesFront (report_by planned.items outcomes.now) (O.told out.old) (O.told out.new)) }
     ensures counts { O.faults out.old ≤ O.faults out.new }
     ensures failed { OnErr result (Rose (O.faults out.old) (O.faults out.new)) }
 {
     let summary = summary_of(outcomes);
     let mut waiting = WriteBuffer::new();
     let mut place = 0;
-    for file in noted {
+    for file in planned {
         let outcome = outcomes[place];
         put_outcome(out, &mut waiting, file, outcome)?;
         place += 1;

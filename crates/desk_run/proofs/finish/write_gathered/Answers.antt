@@ -1,4 +1,5 @@
-use Rattle.std.proofs.Common.{sym, subst}
+use Rattle.std.proofs.Common.{ap, sym, subst}
+use Rattle.desk_graph.specs.Graphs.{Graph}
 use Rattle.desk_run.proofs.Finishing.{gathered_notes, gathered_stays, gathered_stopped, gathered_written, is_planned}
 use Rattle.desk_run.proofs.Measures.{all_routed}
 use Rattle.desk_run.proofs.Preparing.{plan_early}
@@ -9,18 +10,18 @@ use Rattle.desk_run.proofs.finish.write_gathered.Goals as goal
 
 pub write_and_commit-requires-clause-routes : goal.write_and_commit-requires-clause-routes
 write_and_commit-requires-clause-routes g c κs within =
-    rw (c.deref-3.ensures.value, c.deref-2.ensures)
-    (all_routed c.args.gathered.ruled.value.rules c.args.gathered.notes.files.items c.in-Ok.prepared.noted.items c.in-Ok.ensures.measured c.requires.gathered.read)
+    rw (c.deref-2.ensures.value, c.of-job.ensures.graph, ap (λ (x : Graph). x.rules) (rw c.deref.ensures at c.in-Ok.ensures.graph))
+    (all_routed c.args.gathered.ruled.value.rules c.args.gathered.notes.files.items c.in-Ok.prepared.planned.items c.in-Ok.ensures.measured c.requires.gathered.read)
 
 pub write_and_commit-requires-clause-notes : goal.write_and_commit-requires-clause-notes
 write_and_commit-requires-clause-notes g c κs within =
-    rw (c.deref-3.ensures.value, c.in-Ok.ensures.told) (gathered_notes c.args.names.now c.args.gathered c.in-Ok.prepared.noted.items (g.F.Folders.told c.args.folders.now) c.requires.gathered c.in-Ok.ensures.measured)
+    rw (c.deref-2.ensures.value, c.in-Ok.ensures.told) (gathered_notes c.args.names.now c.args.gathered c.in-Ok.prepared.planned.items (g.F.Folders.told c.args.folders.now) c.requires.gathered c.in-Ok.ensures.measured)
 
 pub write_and_commit-requires-clause-stays : goal.write_and_commit-requires-clause-stays
 write_and_commit-requires-clause-stays g c κs within =
     let p = c.in-Ok.ensures in
-    rw (c.deref-3.ensures.value, c.deref-2.ensures, p.told)
-    (gathered_stays c.args.names.now c.args.gathered c.in-Ok.prepared.graph c.in-Ok.prepared.noted.items (g.F.Folders.told c.args.folders.now) c.requires.gathered (rw c.deref.ensures at p.graph) p.measured p.stays)
+    rw (c.deref-2.ensures.value, c.of-job.ensures.graph, ap (λ (x : Graph). x.rules) (rw c.deref.ensures at p.graph), p.told)
+    (gathered_stays c.args.names.now c.args.gathered c.in-Ok.prepared.graph c.in-Ok.prepared.planned.items (g.F.Folders.told c.args.folders.now) c.requires.gathered (rw c.deref.ensures at p.graph) p.measured p.stays)
 
 pub returns-in-Err-clause-stopped : goal.returns-in-Err-clause-stopped
 returns-in-Err-clause-stopped g c = λ m l ef ek.
@@ -33,15 +34,17 @@ pub returns-in-Ok-write_and_commit-clause-written : goal.returns-in-Ok-write_and
 returns-in-Ok-write_and_commit-clause-written g c =
     let p = c.in-Ok.ensures in
     let w = c.in-Ok-write_and_commit.ensures in
-    let plan = is_planned c.args.names.now c.args.gathered c.in-Ok.prepared.graph c.in-Ok.prepared.noted.items _ _ _ c.requires.roots c.requires.gathered (rw c.deref.ensures at p.graph) (rw c.deref.ensures at p.clear) p.noted p.ours p.other p.ledger in
-    gathered_written c.args.names.now c.args.gathered c.in-Ok.prepared.graph.defined c.in-Ok.prepared.noted.items c.in-Ok-write_and_commit.outcomes.items _ _ _ _ _ plan
-    (rw (c.deref-3.ensures.value, c.deref-2.ensures, p.told) at w.folders) (rw (c.deref-3.ensures.value, c.deref-2.ensures, p.told) at w.ledger) (rw (c.deref-3.ensures.value, c.deref-2.ensures, p.told) at w.outcomes)
+    let rules = ap (λ (x : Graph). x.rules) (rw c.deref.ensures at p.graph) in
+    let plan = is_planned c.args.names.now c.args.gathered c.in-Ok.prepared.graph c.in-Ok.prepared.planned.items _ _ _ c.requires.roots c.requires.gathered (rw c.deref.ensures at p.graph) (rw c.deref.ensures at p.clear) p.planned (rw c.deref.ensures at p.ours) (rw c.deref.ensures at p.other) (rw c.deref.ensures at p.ledger) in
+    gathered_written c.args.names.now c.args.gathered c.in-Ok.prepared.graph.defined c.in-Ok.prepared.planned.items c.in-Ok-write_and_commit.outcomes.items _ _ _ _ _ plan
+    (rw (c.deref-2.ensures.value, c.of-job.ensures.graph, rules, p.told) at w.folders) (rw (c.deref-2.ensures.value, c.of-job.ensures.graph, rules, p.told) at w.ledger) (rw (c.deref-2.ensures.value, c.of-job.ensures.graph, rules, p.told) at w.outcomes)
 
 pub returns-clause-stopped : goal.returns-clause-stopped
 returns-clause-stopped g c = λ m l ef ek.
     let p = c.in-Ok.ensures in
     let w = c.in-Err-write_and_commit.ensures in
+    let rules = ap (λ (x : Graph). x.rules) (rw c.deref.ensures at p.graph) in
     let stopped = c.in-Err-write_and_commit.stopped in
-    let plan = is_planned c.args.names.now c.args.gathered c.in-Ok.prepared.graph c.in-Ok.prepared.noted.items _ _ _ c.requires.roots c.requires.gathered (rw c.deref.ensures at p.graph) (rw c.deref.ensures at p.clear) p.noted p.ours p.other p.ledger in
-    let t = gathered_stopped c.args.names.now c.args.gathered c.in-Ok.prepared.graph.defined c.in-Ok.prepared.noted.items stopped.why stopped.done _ _ _ _ _ plan (rw (c.deref-3.ensures.value, c.deref-2.ensures, p.told) at w.err) m l ef ek in
+    let plan = is_planned c.args.names.now c.args.gathered c.in-Ok.prepared.graph c.in-Ok.prepared.planned.items _ _ _ c.requires.roots c.requires.gathered (rw c.deref.ensures at p.graph) (rw c.deref.ensures at p.clear) p.planned (rw c.deref.ensures at p.ours) (rw c.deref.ensures at p.other) (rw c.deref.ensures at p.ledger) in
+    let t = gathered_stopped c.args.names.now c.args.gathered c.in-Ok.prepared.graph.defined c.in-Ok.prepared.planned.items stopped.why stopped.done _ _ _ _ _ plan (rw (c.deref-2.ensures.value, c.of-job.ensures.graph, rules, p.told) at w.err) m l ef ek in
     subst (λ s. Tells (g.F.Folders.told c.write_and_commit.new.folders) (g.K.Keeper.told c.write_and_commit.new.keeper) (λ m' l'. StandsAfter (asked_roots c.args.names.now) m l m' l' s)) (sym c.status_of_stop.ensures) t

@@ -1,7 +1,7 @@
 use Rattle.std.proofs.Common.{ap, sym, subst, ◌∙◌}
 use Rattle.std.proofs.lemmas.Result.{err_from_is_err_and}
 use Rattle.desk_intake.proofs.Listed.{all_there}
-use Rattle.desk_run.proofs.FirstReadings.{all_read, halts_large, notes_told}
+use Rattle.desk_run.proofs.FirstReadings.{all_read, halts_large}
 use Rattle.desk_run.proofs.Gathering.{are_read, halts_clash, halts_sizes, says_told}
 use Rattle.desk_intake.specs.Halts.{HaltsClashing}
 use Rattle.desk_run.specs.Halts.{clash_of, paths_in, targets_in}
@@ -47,9 +47,3 @@ returns-clause-notes g c =
 pub returns-clause-read : goal.returns-clause-read
 returns-clause-read g c =
     all_read c.args.ruled.now.rules c.in_ok-routes.routes.items c.in_ok-notes.notes.files.items c.in_ok-notes.ensures.routes c.in_ok-routes.ensures.relative c.in_ok-routes.ensures.routed c.in_ok-notes.ensures.within
-
-pub returns-clause-class_notes : goal.returns-clause-class_notes
-returns-clause-class_notes g c =
-    let routes = c.in_ok-routes.ensures in
-    notes_told c.args.ruled.now.rules c.args.names.now.from (g.F.Folders.told c.args.folders.now) (g.F.Folders.told c.list_routes.new.folders) c.in_ok-routes.routes.items c.in_ok-notes.notes.class_notes.items routes.told routes.routes
-    c.in_ok-notes.ensures.class_notes
