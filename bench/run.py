@@ -2,7 +2,7 @@
 
 import sys
 
-from runs import make, migrated, plain
+from runs import digests, digests_with_instructions, make, migrated, plain
 
 FEW, MANY, ROUNDS = 6000, 26000, 3
 WORKERS = (1, 2, 4)
@@ -20,6 +20,9 @@ def measured(program, place, most):
             runs[workers].append(migrated(program, place, app, workers))
     least = min(beside)
     print(f"{files} classes of {size} bytes: cp -r and sha256sum take {least:.3f} s")
+    print(f"  of these sha256sum takes {digests(app):.3f} s", end="")
+    other = digests_with_instructions(app)
+    print(f", where openssl takes {other:.3f} s" if other else "")
     each = {"cp -r and sha256sum": least / files}
     for workers in WORKERS:
         seconds = min(seconds for seconds, _ in runs[workers])

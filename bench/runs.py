@@ -31,9 +31,21 @@ def make(place, app, most):
 def plain(place, app):
     """The seconds of a copy and of the digests of the same files."""
     seconds = timed(["cp", "-r", app, f"{place}/copy"]).seconds
-    seconds += timed(["sh", "-c", f"find {app} -type f -print0 | xargs -0 sha256sum"]).seconds
+    seconds += digests(app)
     shutil.rmtree(f"{place}/copy")
     return seconds
+
+
+def digests_with_instructions(app):
+    """The seconds of the digests by a library that uses the processor's instructions for them, and none where it isn't installed."""
+    if shutil.which("openssl") is None:
+        return None
+    return timed(["sh", "-c", f"find {app} -type f -print0 | xargs -0 openssl dgst -sha256"]).seconds
+
+
+def digests(app):
+    """The seconds of the digests of the files."""
+    return timed(["sh", "-c", f"find {app} -type f -print0 | xargs -0 sha256sum"]).seconds
 
 
 def migrated(program, place, app, workers):

@@ -6,7 +6,7 @@ use desk_base::Text;
 use desk_disk::DiskFolders;
 use desk_ledger::MemoryKeeper;
 use desk_report::StdSink;
-use desk_run::{FreeGate, desk};
+use desk_run::{FreeGate, Request, desk};
 use std::alloc::Global;
 use std::io;
 use std::thread::Threads;
@@ -41,7 +41,7 @@ fn status_of<R: Threads + Sync>(
     desk(
         threads,
         rt.alloc(),
-        words,
+        &Request::read(rt.alloc(), words),
         &mut folders,
         keeper,
         &mut out,

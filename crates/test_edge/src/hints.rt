@@ -4,7 +4,8 @@ use crate::statuses::{STATUSES, status_of};
 use crate::told;
 use crate::words::{named, number, word};
 use desk_base::{Memory, Text};
-use desk_hints::{HINTS, Listed, hint_behind, hint_of, release_line, release_of, words_hint};
+use desk_hints::{HINTS, Listed, hint_behind, hint_of, release_line, release_of, slip_line};
+use desk_words::find_slip;
 use std::alloc::Global;
 use std::str;
 
@@ -96,8 +97,8 @@ pub fn tell_release_line(alloc: Global, words: &[Text], out: &mut String) -> Res
 
 /// What is said of words that ask for nothing; nothing where it can't be told.
 pub fn said(alloc: Global, words: &[Text]) -> Result<Text, Memory> {
-    match words_hint(alloc, words)? {
-        Some(line) => Ok(line),
+    match find_slip(alloc, words)? {
+        Some(slip) => slip_line(alloc, &slip),
         None => Ok(Text::empty(alloc)),
     }
 }

@@ -2,27 +2,27 @@
 
 use crate::told;
 use desk_base::Memory;
-use desk_notes::{Said, read_line, unshown};
+use desk_notes::{LineRead, read_line, unshown};
 use std::alloc::Global;
 use test_cases::Shown;
 
 /// Tells what a line of a report says.
 pub fn tell_said(line: &[u8], out: &mut String) -> Result<(), Memory> {
     match read_line(line) {
-        Said::Copied(path) => Ok(writeln!(out, "  copied {}", Shown(path))?),
-        Said::Class { path, target } => {
+        LineRead::Copied(path) => Ok(writeln!(out, "  copied {}", Shown(path))?),
+        LineRead::Class { path, target } => {
             Ok(writeln!(out, "  class {} {}", Shown(path), Shown(target))?)
         }
-        Said::Unchanged(path) => Ok(writeln!(out, "  unchanged {}", Shown(path))?),
-        Said::Written => told::text(out, "written"),
-        Said::Kept => told::text(out, "kept"),
-        Said::Refused { path, reason, kind } => {
+        LineRead::Unchanged(path) => Ok(writeln!(out, "  unchanged {}", Shown(path))?),
+        LineRead::Written => told::text(out, "written"),
+        LineRead::Kept => told::text(out, "kept"),
+        LineRead::Refused { path, reason, kind } => {
             let (path, reason, kind) = (Shown(path), Shown(reason), Shown(kind));
             Ok(writeln!(out, "  refused {path} {reason} {kind}")?)
         }
-        Said::Site => told::text(out, "site"),
-        Said::Differs => told::text(out, "differs"),
-        Said::Other => told::text(out, "other"),
+        LineRead::Site => told::text(out, "site"),
+        LineRead::Differs => told::text(out, "differs"),
+        LineRead::Other => told::text(out, "other"),
     }
 }
 

@@ -89,7 +89,7 @@ fn ask_graph(
 ) -> Result<(), Memory> {
     match graphs::graph_of(alloc, rules, classes) {
         Ok(graph) => match command {
-            Command::File => files::tell_file(alloc, rules, &graph, words, out),
+            Command::File => files::tell_file(alloc, &graph, words, out),
             _ => graphs::tell_graph(alloc, &graph, words, out),
         },
         Err(fault) => graphs::tell_fault(&fault, out),

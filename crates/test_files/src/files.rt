@@ -1,6 +1,6 @@
 //! Files under rules.
 
-ghost use Rattle.std.specs.Prelude.{◌≡◌, ◌≤◌, length};
+ghost use Rattle.std.specs.Prelude.{◌≤◌, length};
 ghost use Rattle.desk_base.specs.Limits.{file_size};
 
 use crate::told;
@@ -37,16 +37,14 @@ fn tell_image(target: &[u8], image: &Image, out: &mut String) -> Result<(), Memo
 /// Tells what becomes of a file along its route, in the application of a graph.
 fn tell_routed(
     alloc: Global,
-    rules: &RuleSet,
     graph: &ClassGraph<'_>,
     route: &Route,
     bytes: &[u8],
     out: &mut String,
 ) -> Result<(), Memory>
-    requires size { length bytes.now ≤ file_size }
-    requires graph { graph.now.renames ≡ rules.now.renames }
+    requires { length bytes.now ≤ file_size }
 {
-    match migrate_file(alloc, rules, graph, route, bytes) {
+    match migrate_file(alloc, graph, route, bytes) {
         Ok(image) => tell_image(route.target.as_bytes(), &image, out),
         Err(fault) => told::value(out, &fault),
     }
@@ -55,17 +53,14 @@ fn tell_routed(
 /// Tells what becomes of a file in the application of a graph: the words are its path and its bytes.
 pub fn tell_file(
     alloc: Global,
-    rules: &RuleSet,
     graph: &ClassGraph<'_>,
     words: &[Text],
     out: &mut String,
-) -> Result<(), Memory>
-    requires { graph.now.renames ≡ rules.now.renames }
-{
+) -> Result<(), Memory> {
     let path = word(words, 0);
     if !is_relative(path) {
         return told::text(out, "not a relative path");
     }
-    let route = route_of(alloc, rules, Text::from_bytes(alloc, path)?)?;
-    tell_routed(alloc, rules, graph, &route, content(words, 1), out)
+    let route = route_of(alloc, graph.rules(), Text::from_bytes(alloc, path)?)?;
+    tell_routed(alloc, graph, &route, content(words, 1), out)
 }

@@ -20,7 +20,7 @@ pub fn graph_of(
     rules: &RuleSet,
     classes: Vec<Scanned>,
 ) -> Result<ClassGraph<'_>, GraphFault>
-    ensures { IfOk result (λ graph. graph.renames ≡ rules.entry.now.renames) }
+    ensures { IfOk result (λ graph. graph.rules ≡ rules.entry.now) }
 {
     if classes.len() > MOST {
         return Err(GraphFault::Memory);

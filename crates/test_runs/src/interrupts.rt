@@ -45,18 +45,30 @@ impl Failure {
         }
         None
     }
+}
 
+/// What fails in a run, and where.
+#[derive(Clone, Copy)]
+struct Interrupt {
+    /// What fails.
+    failure: Failure,
+    /// The call that fails, counted from 0; of the output, how many bytes it has room for.
+    call: u32,
+}
+
+impl Interrupt {
     /// How many bytes the output has room for.
-    fn room(self, call: u32) -> u32 {
-        match self {
-            Failure::Output => call,
+    fn room(self) -> u32 {
+        match self.failure {
+            Failure::Output => self.call,
             _ => ROOM,
         }
     }
 
     /// Lets all calls fail from this one on, where they are to.
-    fn stop(self, scene: &mut Scene, call: u64) {
-        match self {
+    fn stop(self, scene: &mut Scene) {
+        let call = u64::from(self.call);
+        match self.failure {
             Failure::AllOfFolders => scene.folders.stop_at(call),
             Failure::AllOfLedger => scene.ledger.stop_at(call),
             _ => {}
@@ -69,11 +81,10 @@ impl Failure {
 fn write_first(
     scene: &Scene,
     kept: &Kept,
-    failure: Failure,
-    call: u32,
+    interrupt: Interrupt,
     out: &mut String,
 ) -> Result<(), Memory> {
-    let room = failure.room(call) as usize;
+    let room = interrupt.room() as usize;
     let text = scene.text();
     if scene.code == 0 {
         write_ended(scene, out)?;
@@ -86,36 +97,35 @@ fn write_first(
 }
 
 impl<'r, R: Threads + Sync> Case<'r, R> {
-    /// What a run goes over of which this call fails.
-    fn failing(&mut self, failure: Failure, call: u64) -> Result<Option<Box<Scene<'r>>>, Memory> {
-        let calls = vec![in self.alloc; call]?;
-        match failure {
+    /// What a run goes over that is interrupted.
+    fn failing(&mut self, interrupt: Interrupt) -> Result<Option<Box<Scene<'r>>>, Memory> {
+        let calls = vec![in self.alloc; u64::from(interrupt.call)]?;
+        match interrupt.failure {
             Failure::OneOfFolders => self.beginning.folders_fail = calls,
             Failure::OneOfLedger => self.beginning.ledger_fails = calls,
             _ => {}
         }
         let mut scene = self.beginning.scene(self.rt)?;
         if let Some(scene) = &mut scene {
-            failure.stop(scene, call);
+            interrupt.stop(scene);
         }
         Ok(scene)
     }
 
-    /// Answers how a run ends in which this call fails, and where it doesn't complete, what it left and how a run ends behind
-    /// it; at last whether they left what was kept. Gives the status of the first.
+    /// Answers how a run ends that is interrupted, and where it doesn't complete, what it left and how a run ends behind it; at
+    /// last whether they left what was kept. Gives the status of the first.
     fn run_twice(
         &self,
         scene: &mut Scene,
         kept: &Kept,
         words: &[Text],
-        failure: Failure,
-        call: u32,
+        interrupt: Interrupt,
         out: &mut String,
     ) -> Result<u8, Memory> {
-        scene.run(self.threads, words, failure.room(call), false)?;
+        scene.run(self.threads, words, interrupt.room(), false)?;
         scene.mend();
         let code = scene.code;
-        write_first(scene, kept, failure, call, out)?;
+        write_first(scene, kept, interrupt, out)?;
         if code != 0 {
             kept.write_marks(scene, out)?;
             scene.run(self.threads, words, ROOM, false)?;
@@ -125,17 +135,16 @@ impl<'r, R: Threads + Sync> Case<'r, R> {
         Ok(code)
     }
 
-    /// Answers how two runs end behind one another, of which this call fails. Gives the status of the first.
+    /// Answers how two runs end behind one another, of which the first is interrupted. Gives its status.
     fn try_call(
         &mut self,
         words: &[Text],
-        failure: Failure,
-        call: u32,
+        interrupt: Interrupt,
         out: &mut String,
     ) -> Result<u8, Memory> {
-        match (self.failing(failure, u64::from(call))?, &self.kept) {
+        match (self.failing(interrupt)?, &self.kept) {
             (Some(mut scene), Some(kept)) => {
-                self.run_twice(&mut scene, kept, words, failure, call, out)
+                self.run_twice(&mut scene, kept, words, interrupt, out)
             }
             _ => {
                 say(out, "nothing to compare")?;
@@ -155,7 +164,7 @@ impl<'r, R: Threads + Sync> Case<'r, R> {
         let mut last = String::new(self.alloc);
         for call in 0..MOST {
             let mut told = String::new(self.alloc);
-            let code = self.try_call(words, failure, call, &mut told)?;
+            let code = self.try_call(words, Interrupt { failure, call }, &mut told)?;
             if told.as_str() != last.as_str() {
                 out.push_str(told.as_str())?;
             }

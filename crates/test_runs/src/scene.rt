@@ -5,7 +5,7 @@ use crate::ledgers::Ledger;
 use crate::places::ChangingFolders;
 use desk_base::{Memory, Text};
 use desk_report::MemorySink;
-use desk_run::desk;
+use desk_run::{Request, desk};
 use std::alloc::Global;
 use std::str;
 use std::thread::Threads;
@@ -68,7 +68,7 @@ impl<'r> Scene<'r> {
         let status = desk(
             threads,
             self.alloc,
-            words,
+            &Request::read(self.alloc, words),
             &mut *self.folders,
             &mut *self.ledger,
             &mut *self.sink,
