@@ -36,7 +36,7 @@ use crate::stops::{status_of_halt, status_of_stop};
 use desk_batches::{Migration, Outcome, PlannedFile, Stopped, with_details, write_all};
 use desk_folders::Folders;
 use desk_graph::ClassGraph;
-use desk_intake::{Halt, DigestedRules, build_graph};
+use desk_intake::{DigestedRules, Halt, build_graph};
 use desk_ledger::Keeper;
 use desk_readings::MeasuredFiles;
 use desk_report::{Sink, Status, Summary};

@@ -13,7 +13,7 @@ ghost use Rattle.desk_second.specs.Second.{AreRules};
 ghost use Rattle.desk_words.specs.Roots.{AreRoots};
 
 use desk_folders::Folders;
-use desk_intake::{Halt, DigestedRules, list_routes, read_rules, refuse_clash};
+use desk_intake::{DigestedRules, Halt, list_routes, read_rules, refuse_clash};
 use desk_readings::{MeasuredFiles, note_all};
 use desk_words::Roots;
 use desk_workers::{Gate, Workers};

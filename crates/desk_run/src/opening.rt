@@ -8,7 +8,7 @@ ghost use Rattle.desk_run.specs.Meaning.{header_of};
 ghost use Rattle.desk_run.specs.Truth.{IsOurs};
 
 use desk_base::{Memory, Text};
-use desk_intake::{Halt, DigestedRules};
+use desk_intake::{DigestedRules, Halt};
 use desk_ledger::{Header, Keeper};
 use desk_report::Status;
 use desk_words::Roots;
