@@ -14,3 +14,4 @@ mod SameClasses
 pub mod Deciding
 pub mod Verdicts
 mod Merge
+pub mod Found

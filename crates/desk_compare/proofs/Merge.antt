@@ -1,5 +1,5 @@
 -- Two lists of files, walked in lock step.
-use Rattle.std.proofs.Common.{◌≡◌, ◌≤◌, All, true, false, List, [], ◌∷◌, length, Option, Some, None, bytes_eq, refl, sym, ap, subst, ◌∙◌, ◌↔◌, ◌⊎◌, inl, inr, Result, Ok, Err, IfOk, arith}
+use Rattle.std.proofs.Common.{◌≡◌, ◌≤◌, All, true, false, List, [], ◌∷◌, length, Option, Some, None, bytes_eq, drop, refl, sym, ap, subst, ◌∙◌, ◌↔◌, ◌⊎◌, inl, inr, Result, Ok, Err, IfOk, arith}
 use Rattle.std.specs.Ordering.{nat_cmp}
 use Rattle.std.specs.Cmp.Lexicographic.{slice_cmp}
 use Rattle.std.specs.declared.cmp.Ordering.TheVariants.{Less, Equal, Greater}
@@ -14,10 +14,11 @@ use Rattle.desk_compare.specs.declared.files.Verdict.TheVariants as verdicts
 use Rattle.desk_base.specs.Limits.{file_size}
 use Rattle.std.specs.List.{AllByRecursion}
 use Rattle.std.specs.List.Sorted.{IsStrictlySortedBy}
-use Rattle.std.proofs.lemmas.List.Elements.{All-head, All-tail}
+use Rattle.std.proofs.lemmas.List.Elements.{All-cons, All-head, All-nil, All-tail}
 use Rattle.desk_compare.specs.Verdicts.{paths_of, IsShort, IsLess, content_at, holds_class, SameContents, SameAt, DifferentContents, FindsDifference, DifferentAt, AreSame, IsLeastDifference, IfDiffers}
+use Rattle.desk_compare.specs.Ahead.{AreFound}
 use Rattle.desk_compare.specs.Deciding.{verdict_of}
-use Rattle.desk_compare.proofs.Verdicts.{not_less, less_on, turned, equal, nothing_differs, IsVerdict, verdict_same, verdict_differs, verdict_only}
+use Rattle.desk_compare.proofs.Verdicts.{between, not_less, less_on, turned, equal, nothing_differs, IsVerdict, verdict_same, verdict_differs, verdict_only}
 
 -- ---- files in order
 
@@ -183,6 +184,14 @@ empty : {A : Type 0} (xs : List A) → length xs ≡ 0 → xs ≡ []
 empty [] h = refl
 empty (x ∷ xs) h = absurd (omega arith)
 
+-- a finding at the head of two lists
+finding : (a b : GenFile) (as' bs : List GenFile) (o : Option What) → AreFound (a ∷ as') (b ∷ bs) (o ∷ []) → FindsDifference (holds_class a.path a.content) a.content b.content o
+finding a b as' bs o d = subst (FindsDifference (holds_class a.path a.content) a.content b.content) (sym d.0) (between (holds_class a.path a.content) a.content b.content)
+
+pub are_short : (fs : List GenFile) → AreFiles fs → All IsShort fs
+are_short [] h = All-nil IsShort
+are_short (f ∷ fs) h = All-cons IsShort f fs h.0 (are_short fs h.2)
+
 -- all clauses on a result
 pub record IsExact (left right : List GenFile) {E : Type 0} (result : Result Verdict E) : Type 0 where
   pub same : IfOk result (λ (v : Verdict). (v ≡ verdicts.Same) ↔ AreSame left right)
@@ -216,15 +225,21 @@ module _ (left right one other : List GenFile) (h : IsAhead left right one other
     pub as_extra : Greater ≡ slice_cmp nat_cmp a.path b.path → IfOk result (λ x. x ≡ verdicts.Differs b.path whats.Extra) → IsExact left right result
     as_extra gt e = told result (verdicts.Differs b.path whats.Extra) left right e (extra left right a b as' bs both_ahead (turned a.path b.path (sym gt)))
 
-    pub as_other : Equal ≡ slice_cmp nat_cmp a.path b.path → (path s t : Text) → path ≡ a.path → s ≡ a.content → t ≡ b.content → (o : Option What) (what : What) → o ≡ Some what → FindsDifference (holds_class path s) s t o
+    -- what was found at the head of both lists
+    at_head_of : (o : Option What) → AreFound one other (o ∷ []) → FindsDifference (holds_class a.path a.content) a.content b.content o
+    at_head_of o d = finding a b as' bs o (subst (λ (x : List GenFile). AreFound x (b ∷ bs) (o ∷ [])) p (subst (λ (x : List GenFile). AreFound one x (o ∷ [])) q d))
+
+    pub as_other : Equal ≡ slice_cmp nat_cmp a.path b.path → (o : Option What) (what : What) → o ≡ Some what → AreFound one other (o ∷ [])
         → IfOk result (λ x. x ≡ verdicts.Differs a.path what) → IsExact left right result
-    as_other same path s t ep es et o what is d e =
-        told result (verdicts.Differs a.path what) left right e (other_content left right a b as' bs both_ahead (equal a.path b.path (sym same)) what (moved ep es et (subst (FindsDifference (holds_class path s) s t) is d))) where
-          moved : path ≡ a.path → s ≡ a.content → t ≡ b.content → DifferentContents (holds_class path s) s t what → DifferentContents (holds_class a.path a.content) a.content b.content what
-          moved ep es et d = subst (λ (x : Text). DifferentContents (holds_class x a.content) a.content b.content what) ep (subst (λ (x : Text). DifferentContents (holds_class path x) x b.content what) es (subst (λ (x : Text). DifferentContents (holds_class path s) s x what) et d))
+    as_other same o what is d e =
+        told result (verdicts.Differs a.path what) left right e
+        (other_content left right a b as' bs both_ahead (equal a.path b.path (sym same)) what (subst (FindsDifference (holds_class a.path a.content) a.content b.content) is (at_head_of o d)))
 
 module _ (left right one other : List GenFile) (h : IsAhead left right one other) (a b : GenFile) (as' bs : List GenFile) (p : one ≡ a ∷ as') (q : other ≡ b ∷ bs) where
-  pub as_step : Equal ≡ slice_cmp nat_cmp a.path b.path → (path s t : Text) → path ≡ a.path → s ≡ a.content → t ≡ b.content → (o : Option What) → o ≡ None → FindsDifference (holds_class path s) s t o → IsAhead left right as' bs
-  as_step same path s t ep es et o is d = step left right a b as' bs (ahead_at left right one other (a ∷ as') (b ∷ bs) h p q) (equal a.path b.path (sym same)) (moved ep es et (subst (FindsDifference (holds_class path s) s t) is d)) where
-    moved : path ≡ a.path → s ≡ a.content → t ≡ b.content → SameContents (holds_class path s) s t → SameContents (holds_class a.path a.content) a.content b.content
-    moved ep es et d = subst (λ (x : Text). SameContents (holds_class x a.content) a.content b.content) ep (subst (λ (x : Text). SameContents (holds_class path x) x b.content) es (subst (λ (x : Text). SameContents (holds_class path s) s x) et d))
+  pub as_step : Equal ≡ slice_cmp nat_cmp a.path b.path → (o : Option What) → o ≡ None → AreFound one other (o ∷ []) → IsAhead left right as' bs
+  as_step same o is d =
+      step left right a b as' bs (ahead_at left right one other (a ∷ as') (b ∷ bs) h p q) (equal a.path b.path (sym same))
+      (subst (FindsDifference (holds_class a.path a.content) a.content b.content) is (finding a b as' bs o (subst (λ (x : List GenFile). AreFound x (b ∷ bs) (o ∷ [])) p (subst (λ (x : List GenFile). AreFound one x (o ∷ [])) q d))))
+
+  pub found_behind : (findings : List (Option What)) → AreFound (drop 1 one) (drop 1 other) findings → AreFound as' bs findings
+  found_behind findings d = subst (λ (x : List GenFile). AreFound x bs findings) (ap (drop 1) p) (subst (λ (x : List GenFile). AreFound (drop 1 one) x findings) (ap (drop 1) q) d)

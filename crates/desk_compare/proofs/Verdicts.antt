@@ -48,7 +48,7 @@ nothing_differs p whats.Bytes h = h
 nothing_differs p whats.Malformed h = h
 nothing_differs p whats.Tree h = h
 
-of_contents : (form : Bool) (a b : Text) (what : What) → DifferentContents form a b what → SameContents form a b → ⊥
+pub of_contents : (form : Bool) (a b : Text) (what : What) → DifferentContents form a b what → SameContents form a b → ⊥
 of_contents true a b whats.Malformed d g = d g.0
 of_contents true a b whats.Tree d g = d.1 g.1
 of_contents true a b whats.Missing d g = d
@@ -75,7 +75,7 @@ apart_at p None (Some b) what d g = g
 apart_at p (Some a) (Some b) what d g = of_contents (holds_class p a) a b what (of_both p a b what d) g
 
 -- they differ in one way
-contents_one : (form : Bool) (a b : Text) (v w : What) → DifferentContents form a b v → DifferentContents form a b w → v ≡ w
+pub contents_one : (form : Bool) (a b : Text) (v w : What) → DifferentContents form a b v → DifferentContents form a b w → v ≡ w
 contents_one true a b whats.Malformed whats.Malformed d e = refl
 contents_one true a b whats.Malformed whats.Tree d e = absurd (d e.0)
 contents_one true a b whats.Malformed _ d e = absurd e
@@ -142,7 +142,7 @@ bytes_found : (a b : Text) (same : Bool) → Decides same (a ≡ b) → FindsDif
 bytes_found a b true d = d.0 refl
 bytes_found a b false d = λ k. false≢true (d.1 k)
 
-between : (form : Bool) (a b : Text) → FindsDifference form a b (what_between form a b)
+pub between : (form : Bool) (a b : Text) → FindsDifference form a b (what_between form a b)
 between true a b = class_found a b _ _ (sound_Decides (class_fault b)) (same_free-Decides (free_in a) (free_in b))
 between false a b = bytes_found a b _ (bytes_eq-Decides a b)
 

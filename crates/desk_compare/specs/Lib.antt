@@ -6,3 +6,4 @@ pub mod Known
 pub mod Agreements
 pub mod Codes
 pub mod Bodies
+pub mod Ahead

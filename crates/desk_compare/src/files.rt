@@ -11,13 +11,16 @@ ghost use Rattle.desk_compare.specs.Verdicts.{paths_of, IsShort, AreSame, IfDiff
 ghost use Rattle.desk_compare.specs.Deciding.{verdict_of};
 ghost use Rattle.desk_paths.specs.Kinds.{kind_of};
 
+use crate::ahead::Ahead;
 use crate::classes::same_class;
 use desk_base::{Memory, ReadFault, Text};
 use desk_class::ClassView;
 use desk_folders::GenFile;
 use desk_paths::{Kind, place};
+use desk_workers::{Gate, Workers};
 use std::alloc::Global;
 use std::cmp::Ordering;
+use std::thread::Threads;
 
 /// How two lists of files differ at a path. At most one of these stands at a path.
 #[derive(Clone, Copy, Debug, PartialEq, Eq)]
@@ -99,7 +102,7 @@ fn compare_class_files(alloc: Global, left: &[u8], right: &[u8]) -> Result<Optio
 }
 
 /// How two contents at a path differ. The same bytes are the same, and aren't read as classes. The only error is want of memory.
-fn compare_contents(
+pub(crate) fn compare_contents(
     alloc: Global,
     path: &[u8],
     left: &[u8],
@@ -129,8 +132,14 @@ fn differs(file: &GenFile, what: What) -> Result<Verdict, Memory>
 
 /// Compares two lists of files, each in byte order of its paths, each path once. Two well-formed classes are the same where
 /// nothing but their constant pools differs and each index leads to the same value, also those in code that reads to its end; any
-/// other content is compared by its bytes. Two classes at a time are in memory beside the lists. The only error is want of memory.
-pub fn compare(alloc: Global, left: &[GenFile], right: &[GenFile]) -> Result<Verdict, Memory>
+/// other content is compared by its bytes. The workers compare the files of a batch, each of them two classes at a time, which are
+/// in memory beside the lists; the verdict is the same for each number of them. The only error is want of memory.
+pub fn compare<R: Threads + Sync, G: Gate + Sync>(
+    workers: &Workers<'_, R, G>,
+    alloc: Global,
+    left: &[GenFile],
+    right: &[GenFile],
+) -> Result<Verdict, Memory>
     requires left_paths { IsStrictlySortedBy (slice_cmp nat_cmp) (paths_of left.now) }
     requires left_sizes { All IsShort left.now }
     requires right_paths { IsStrictlySortedBy (slice_cmp nat_cmp) (paths_of right.now) }
@@ -141,6 +150,7 @@ pub fn compare(alloc: Global, left: &[GenFile], right: &[GenFile]) -> Result<Ver
 {
     let mut one = left;
     let mut other = right;
+    let mut ahead = Ahead::new(alloc);
     while let Some((a, ones)) = one.split_first() {
         let (b, others) = match other.split_first() {
             None => return differs(a, What::Missing),
@@ -151,12 +161,7 @@ pub fn compare(alloc: Global, left: &[GenFile], right: &[GenFile]) -> Result<Ver
             Ordering::Greater => return differs(b, What::Extra),
             Ordering::Equal => {}
         }
-        if let Some(what) = compare_contents(
-            alloc,
-            a.path.as_bytes(),
-            a.content.as_bytes(),
-            b.content.as_bytes(),
-        )? {
+        if let Some(what) = ahead.next(workers, alloc, one, other)? {
             return differs(a, what);
         }
         one = ones;

@@ -22,7 +22,9 @@ use desk_folders::{Folders, GenFile};
 use desk_intake::{Halt, build_graph, read_rule_set};
 use desk_report::Status;
 use desk_rules::RuleSet;
+use desk_workers::{Gate, Workers};
 use std::alloc::Global;
+use std::thread::Threads;
 
 /// What is told of two applications.
 #[derive(Debug, Drop)]
@@ -34,7 +36,12 @@ pub struct Comparison {
 }
 
 /// What is told of the images of an application and the files of another.
-fn comparison_of(alloc: Global, made: Made, others: &[GenFile]) -> Result<Comparison, Memory>
+fn comparison_of<R: Threads + Sync, G: Gate + Sync>(
+    workers: &Workers<'_, R, G>,
+    alloc: Global,
+    made: Made,
+    others: &[GenFile],
+) -> Result<Comparison, Memory>
     requires rising { IsStrictlySortedBy (slice_cmp nat_cmp) (paths_of others.now) }
     requires short { All IsShort others.now }
     ensures told { IfOk result (λ told. (told.text, told.status) ≡ told_of made others.now) }
@@ -47,7 +54,7 @@ fn comparison_of(alloc: Global, made: Made, others: &[GenFile]) -> Result<Compar
         });
     }
     let images = list_images(alloc, made.images)?;
-    let verdict = compare(alloc, &images, others)?;
+    let verdict = compare(workers, alloc, &images, others)?;
     let text = verdict_text(alloc, others.len(), &verdict)?;
     Ok(Comparison {
         text,
@@ -56,7 +63,8 @@ fn comparison_of(alloc: Global, made: Made, others: &[GenFile]) -> Result<Compar
 }
 
 /// What is told of two applications by rules.
-fn compare_under<F: Folders>(
+fn compare_under<R: Threads + Sync, F: Folders, G: Gate + Sync>(
+    workers: &Workers<'_, R, G>,
     alloc: Global,
     folders: &mut F,
     rules: &RuleSet,
@@ -77,7 +85,7 @@ fn compare_under<F: Folders>(
     let graph = build_graph(alloc, rules, noted.classes)?;
     let others = read_other(alloc, folders, other, &mut room)?;
     let made = make_images(alloc, &graph, noted.files)?;
-    Ok(comparison_of(alloc, made, &others)?)
+    Ok(comparison_of(workers, alloc, made, &others)?)
 }
 
 /// Whether the application below one root is what the rules in a folder make of the application below another: the line
@@ -89,7 +97,8 @@ fn compare_under<F: Folders>(
 /// first file whose image has more than 67,108,864 bytes. The other halts are a fault of the folders and want of memory.
 ///
 /// Both applications are in memory: a file has at most 67,108,864 bytes, and all files of both at most 1,073,741,824 together.
-pub fn compare_applications<F: Folders>(
+pub fn compare_applications<R: Threads + Sync, F: Folders, G: Gate + Sync>(
+    workers: &Workers<'_, R, G>,
     alloc: Global,
     folders: &mut F,
     rules: &Text,
@@ -106,5 +115,5 @@ pub fn compare_applications<F: Folders>(
     ensures counts { F.faults folders.old ≤ F.faults folders.new }
 {
     let rules = read_rule_set(alloc, folders, rules)?;
-    compare_under(alloc, folders, &rules, from, other)
+    compare_under(workers, alloc, folders, &rules, from, other)
 }

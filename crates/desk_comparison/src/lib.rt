@@ -2,7 +2,7 @@
 //! images are compared with the files of the other.
 //!
 //! ```text
-//! let found = compare_applications(alloc, &mut folders, &rules, &from, &other)?;
+//! let found = compare_applications(&workers, alloc, &mut folders, &rules, &from, &other)?;
 //! found.text      // differs WEB-INF/classes/web/Hello.class tree
 //! found.status    // Status::Differs { path } of this path
 //! ```
@@ -19,3 +19,6 @@ pub use comparing::{Comparison, compare_applications};
 
 /// How many bytes two applications that are compared have together at most.
 const MAX_BOTH: u64 = 1_073_741_824;
+
+/// How many workers compare two applications. What is told is the same for every number.
+pub const WORKERS: u32 = 4;

@@ -12,7 +12,7 @@ use crate::stops::status_of_halt;
 use crate::threading::Threading;
 use desk_base::{Text, TextList};
 use desk_calls::find_calls;
-use desk_comparison::{Comparison, compare_applications};
+use desk_comparison::{Comparison, WORKERS, compare_applications};
 use desk_folders::Folders;
 use desk_intake::{Halt, read_rule_set};
 use desk_invert::{InvertError, invert};
@@ -95,7 +95,8 @@ fn reply_inverse<F: Folders>(alloc: Global, folders: &mut F, rules: &Text) -> Re
 }
 
 /// Whether the application below one root is what the rules in a folder make of the application below another.
-fn reply_compare<F: Folders>(
+fn reply_compare<R: Threads + Sync, F: Folders, G: Gate + Sync>(
+    threading: &Threading<'_, R, G>,
     alloc: Global,
     folders: &mut F,
     rules: &Text,
@@ -109,7 +110,10 @@ fn reply_compare<F: Folders>(
     ensures err { IfErr result (HaltsQuery (query.Compare rules.now from.now other.now) (F.told folders.old) (F.faults folders.old) (F.faults folders.new)) }
     ensures counts { F.faults folders.old ≤ F.faults folders.new }
 {
-    let Comparison { text, status } = compare_applications(alloc, folders, rules, from, other)?;
+    let workers = threading.workers(WORKERS);
+    let Comparison { text, status } = compare_applications(
+        &workers, alloc, folders, rules, from, other,
+    )?;
     Ok(Reply { text, status })
 }
 
@@ -131,7 +135,7 @@ fn reply_of<R: Threads + Sync, F: Folders, G: Gate + Sync>(
         Query::Calls { from, package } => reply_calls(threading, alloc, folders, from, package),
         Query::Invert { rules } => reply_inverse(alloc, folders, rules),
         Query::Compare { rules, from, other } => {
-            reply_compare(alloc, folders, rules, from, other)
+            reply_compare(threading, alloc, folders, rules, from, other)
         }
     }
 }
