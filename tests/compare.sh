@@ -1,8 +1,8 @@
 #!/usr/bin/env bash
 # Asks `compare` whether another application is what the rules make of one. First of the small example and of made-up folders: files
 # that are missing, more or changed, classes that are cut, changed or written with another constant pool, which of two differences is
-# told, odd paths, refused files, other words, limits. The lines are written by hand. Then of real libraries, each migrated by the
-# ready rules:
+# told, more files than the workers are handed at once, odd paths, refused files, other words, limits. The lines are written by hand.
+# Then of real libraries, each migrated by the ready rules:
 #
 # - beside what the run wrote: the same;
 # - beside what Apache Tomcat's migration tool for Jakarta EE writes, where that is here;
@@ -145,6 +145,29 @@ differs 'a manifest before a file that is missing' META-INF/MANIFEST.MF bytes
 
 tree new >after
 same 'nothing was written' before after
+
+# ---- more files than the workers are handed at once
+
+mkdir many && for n in $(seq -w 0 2049); do echo "$n" >"many/f$n"; done
+cp -r many others
+equal '2,050 files' "$first/rules" many others 2050
+for n in 0000 1022 1023 1024 1025 2047 2048 2049; do
+  printf ' ' >>"others/f$n"
+  compares "$first/rules" many others
+  ends "2,050 files, a byte more in f$n" 3 "differs f$n bytes"
+  rm "others/f$n"
+  compares "$first/rules" many others
+  ends "2,050 files without f$n" 3 "differs f$n missing"
+  cp "many/f$n" others/
+  : >"others/f${n}a"
+  compares "$first/rules" many others
+  ends "2,050 files, one more behind f$n" 3 "differs f${n}a extra"
+  rm "others/f${n}a"
+done
+printf ' ' >>others/f1024 && rm others/f1023
+compares "$first/rules" many others
+ends '2,050 files, one missing before one that is changed' 3 'differs f1023 missing'
+rm -r many others
 
 # ---- paths in the order of the targets, and odd ones
 
