@@ -194,13 +194,15 @@ impl<'k> FolderWalk<'k> {
 fn path_of_entry(alloc: Global, folder: &Text, name: &str) -> Result<Text, Memory>
     ensures { IfOk result (λ path. path ≡ entry_path folder.now name.now) }
 {
-    if folder.as_bytes().is_empty() {
-        return Text::from_bytes(alloc, name.as_bytes());
+    let (folder, name) = (folder.as_bytes(), name.as_bytes());
+    if folder.is_empty() {
+        return Text::from_bytes(alloc, name);
     }
-    let mut path = folder.clone()?;
+    let mut path = Vec::with_capacity(alloc, folder.len() + 1 + name.len())?;
+    path.extend_from_slice(folder)?;
     path.push(b'/')?;
-    path.append(name.as_bytes())?;
-    Ok(path)
+    path.extend_from_slice(name)?;
+    Ok(Text::from(path))
 }
 
 /// What stands before the paths below a root.

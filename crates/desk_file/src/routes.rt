@@ -32,6 +32,8 @@ pub fn route_of(alloc: Global, rules: &RuleSet, path: Text) -> Result<Route, Mem
     let cut = CutPath::of(path.as_bytes());
     let target = cut.target(alloc, rules, selected)?;
     let treatment = treatment_by(rules, selected, cut.kind(), &path, &target);
+    // A copy has no room to spare, and is kept to the end of the run.
+    let target = target.clone()?;
     Ok(Route {
         path,
         target,

@@ -53,8 +53,8 @@ returns c = λ im d e h.
     let us : uses_in c.args.view.now ≡ class_uses d = ap (list_in class_uses) e in
     let at : body_at_in c.args.view.now ≡ d.body_at = ap body_at_of e in
     let first : length c.uses-first.result.now ≡ length (pool_uses entries_at d.pool) = ap length (c.uses-first.ensures ∙ c.pool-pool.ensures.uses ∙ ap (pool_uses entries_at) pool) in
-    printed im c.args.view.now d c.args.new.now h c.in_ok-out.out c.append_pool.new.out c.append_body.new.out c.split_at-2.result.1.now c.pool-pool.result.now.entries (length c.uses-first.result.now) c.body_at-2.result c.split_at.result.1.now c.split_at-5.result.1.now
-    (c.in_ok-out.ensures ∙ c.split_at-3.ensures.front ∙ ap (take 8) c.bytes_of-bytes.ensures.bytes)
+    printed im c.args.view.now d c.args.new.now h c.append.new.self c.append_pool.new.out c.append_body.new.out c.split_at-2.result.1.now c.pool-pool.result.now.entries (length c.uses-first.result.now) c.body_at-2.result c.split_at.result.1.now c.split_at-5.result.1.now
+    (c.in_ok-append.ensures.ok ∙ ap (λ (t : List ℕ). t ++ c.split_at-3.result.0.now) c.in_ok-out.ensures ∙ c.split_at-3.ensures.front ∙ ap (take 8) c.bytes_of-bytes.ensures.bytes)
     (c.pool-pool.ensures.entries ∙ pool) c.in_ok-append_pool.ensures (c.body_at-2.ensures ∙ at)
     (c.split_at.ensures.back ∙ ap₂ (λ (n : ℕ) (l : List Used). drop n l) first (c.uses.ensures ∙ us) ∙ body_uses d)
     (c.split_at-5.ensures.back ∙ ap₂ (λ (n : ℕ) (l : List ℕ). drop n l) (c.body_at.ensures ∙ at) c.bytes_of-bytes.ensures.bytes)
