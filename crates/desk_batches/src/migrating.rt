@@ -127,7 +127,8 @@ fn image_read(
             let bytes = input.into_text();
             Ok(Ok(DigestedImage::unchanged(bytes, detail, file.digest)))
         }
-        SecondReading::Same(image) => Ok(image),
+        SecondReading::Same(Ok(image)) => Ok(Ok(image.copied()?)),
+        SecondReading::Same(Err(reason)) => Ok(Err(reason)),
         SecondReading::Other(second) => Err(moved(
             job.alloc,
             &file.route.path,

@@ -31,9 +31,9 @@ pub fn route_of(alloc: Global, rules: &RuleSet, path: Text) -> Result<Route, Mem
     let selected = rules.selected(path.as_bytes());
     let cut = CutPath::of(path.as_bytes());
     let target = cut.target(alloc, rules, selected)?;
-    let treatment = treatment_by(rules, selected, cut.kind(), &path, &target);
     // A copy has no room to spare, and is kept to the end of the run.
-    let target = target.clone()?;
+    let target = Text::from_bytes(alloc, target.as_bytes())?;
+    let treatment = treatment_by(rules, selected, cut.kind(), &path, &target);
     Ok(Route {
         path,
         target,

@@ -43,6 +43,31 @@ pub fn scan(
     })
 }
 
+/// Names, copied. The only error is want of memory.
+fn copied_names(alloc: Global, held: &HeldNames) -> Result<HeldNames, Memory>
+    ensures { IfOk result (λ copy. copy ≡ held.now) }
+{
+    let mut names = Vec::with_capacity(alloc, held.len())?;
+    for place in 0..held.len() {
+        names.push(held.get(place))?;
+    }
+    HeldNames::of(alloc, &names)
+}
+
+impl Scanned {
+    /// A copy in memory that the calling thread takes, whichever took that of the class. The only error is want of memory.
+    pub fn copied(&self, alloc: Global) -> Result<Scanned, Memory>
+        ensures { IfOk result (λ copy. copy ≡ self.now) }
+    {
+        Ok(Scanned {
+            path: self.path.clone()?,
+            selected: self.selected,
+            name: self.name.clone()?,
+            held: copied_names(alloc, &self.held)?,
+        })
+    }
+}
+
 /// Classes without the paths of those that are selected, of which nothing is told. Their memory is free then.
 pub fn without_paths(alloc: Global, classes: Vec<Scanned>) -> Vec<Scanned>
     ensures { AreAlike result.items classes.items }

@@ -42,7 +42,12 @@ impl MeasuredFiles {
     }
 
     /// Adds the files of a slice, as the workers measured them.
-    fn add(&mut self, slice: Vec<PendingFile>, found: Vec<Measurement>) -> Result<(), Memory>
+    fn add(
+        &mut self,
+        alloc: Global,
+        slice: Vec<PendingFile>,
+        found: Vec<Measurement>,
+    ) -> Result<(), Memory>
         requires count { length found.items ≡ length slice.items }
         requires classes { all_scanned found.items ≡ scans_of slice.items }
         ensures files { (rules : Rules) → found.items ≡ map (measures_of rules) slice.items → OnOk result (self.new.files.items ≡ self.old.files.items ++ map (measured_by rules) slice.items) }
@@ -50,7 +55,7 @@ impl MeasuredFiles {
         ensures few { OnOk result (length self.new.scanned.items ≤ length self.old.scanned.items + length slice.items) }
     {
         add_files(&mut self.files, slice, &found)?;
-        add_scanned(&mut self.scanned, found)
+        add_scanned(alloc, &mut self.scanned, found)
     }
 
     /// Adds the files of a slice, which so many workers measure while this thread reads the next one.
@@ -92,7 +97,7 @@ impl MeasuredFiles {
             { read_slice(reading, folders, unread) },
         );
         let next = next?;
-        self.add(slice, found?)?;
+        self.add(reading.alloc, slice, found?)?;
         Ok(next)
     }
 }

@@ -126,15 +126,19 @@ pub(crate) fn add_files(
     Ok(())
 }
 
-/// Adds what is kept of classes.
+/// Adds what is kept of classes, copied: it is kept long, and what workers took for it is free for the next classes then.
 #[tactic(auto, using(crate::proofs::Scans::added_none))]
-pub(crate) fn add_scanned(scanned: &mut Vec<Scanned>, found: Vec<Measurement>) -> Result<(), Memory>
+pub(crate) fn add_scanned(
+    alloc: Global,
+    scanned: &mut Vec<Scanned>,
+    found: Vec<Measurement>,
+) -> Result<(), Memory>
     ensures classes { OnOk result (scanned.new.items ≡ scanned.old.items ++ all_scanned found.items) }
     ensures few { OnOk result (length scanned.new.items ≤ length scanned.old.items + length found.items) }
 {
     for one in found {
         if let Some(class) = one.class {
-            scanned.push(class.scanned)?;
+            scanned.push(class.scanned.copied(alloc)?)?;
         }
     }
     Ok(())
