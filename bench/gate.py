@@ -1,11 +1,12 @@
 """Runs the gate, `rt ci`, from the top of the repository, and prints the processor seconds of each crate by what they went into.
 
 Four times a second it reads from /proc what each process of the gate has taken so far, so that up to a quarter of a second of each
-is missing. A crate's wrong bodies are checked one after another over what was proved before: the first proves the whole crate,
+is missing. Told to stop (SIGTERM), it stops the gate and prints what was read so far. A crate's wrong bodies are checked one after another over what was proved before: the first proves the whole crate,
 and where there are two or more, a last check is of the crate itself.
 """
 
 import os
+import signal
 import subprocess
 import sys
 import time
@@ -97,6 +98,7 @@ def told(taken):
 def main():
     start, taken = time.monotonic(), {}
     gate = subprocess.Popen(sys.argv[1:] or ["rt", "ci"])
+    signal.signal(signal.SIGTERM, lambda *_: gate.terminate())
     while gate.poll() is None:
         take(gate.pid, taken)
         time.sleep(PAUSE)

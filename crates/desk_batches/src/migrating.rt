@@ -127,7 +127,7 @@ fn image_read(
             let bytes = input.into_text();
             Ok(Ok(DigestedImage::unchanged(bytes, detail, file.digest)))
         }
-        SecondReading::Same(Ok(image)) => Ok(Ok(image.copied()?)),
+        SecondReading::Same(Ok(image)) => Ok(Ok(image.taken_over()?)),
         SecondReading::Same(Err(reason)) => Ok(Err(reason)),
         SecondReading::Other(second) => Err(moved(
             job.alloc,
