@@ -1,8 +1,9 @@
 """Runs the gate, `rt ci`, from the top of the repository, and prints the processor seconds of each crate by what they went into.
 
 Four times a second it reads from /proc what each process of the gate has taken so far, so that up to a quarter of a second of each
-is missing. Told to stop (SIGTERM), it stops the gate and prints what was read so far. A crate's wrong bodies are checked one after another over what was proved before: the first proves the whole crate,
-and where there are two or more, a last check is of the crate itself.
+is missing. A crate's wrong bodies are checked one after another over what was proved before: the first proves the whole crate,
+and where there are two or more, a last check is of the crate itself. Told to stop (SIGTERM), it stops the gate, and prints what was
+read so far.
 """
 
 import os
