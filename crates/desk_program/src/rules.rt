@@ -103,12 +103,13 @@ fn take_files(rt: &HostRuntime, rules: &Text, looked: &mut Looked) -> Result<(),
 }
 
 /// What a second look at a rule folder finds.
-fn look_at(rt: &HostRuntime, rules: &Text) -> Result<Looked, Memory> {
-    let mut looked = Looked {
+fn look_at(rt: &HostRuntime, rules: &Text) -> Result<Box<Looked>, Memory> {
+    let looked = Looked {
         notes: RuleNotes::new(rt.alloc()),
         source: Sought::new(rt.alloc()),
         target: Sought::new(rt.alloc()),
     };
+    let mut looked = Box::new(rt.alloc(), looked)?;
     take_files(rt, rules, &mut looked)?;
     Ok(looked)
 }
