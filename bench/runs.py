@@ -9,13 +9,19 @@ from timing import timed
 RULES = "java.util.*=renamed.util\njava.util=java.util\njavax.*=jakarta\njavax=javax\n"
 
 
-def make(place, app, most):
-    """Copies so many of the classes below `classes`, evenly in the order of their paths, each below its own module: how many
-    there are, and their bytes. Writes the rules beside them."""
+def classes_below(place):
+    """The paths of the classes below `classes`, in order."""
     found = []
     for folder, _, names in os.walk(f"{place}/classes"):
         found += [os.path.join(folder, name) for name in names if name.endswith(".class") and name != "module-info.class"]
-    chosen = sorted(found)[:: max(1, len(found) // most)][:most]
+    return sorted(found)
+
+
+def make(place, app, most):
+    """Copies so many of the classes below `classes`, evenly in the order of their paths, each below its own module: how many
+    there are, and their bytes. Writes the rules beside them."""
+    found = classes_below(place)
+    chosen = found[:: max(1, len(found) // most)][:most]
     size = 0
     for path in chosen:
         target = f"{app}/{os.path.relpath(path, place + '/classes').replace('/', '.jar/', 1)}"

@@ -38,7 +38,7 @@ pub const PART: u32 = 1_048_576;
 pub const WHOLE: u64 = MAX_FILE_SIZE as u64;
 
 /// How many bytes the files that are held whole have together, with which a slice ends.
-pub const SLICE: u64 = 4_194_304;
+pub const SLICE: u64 = 8_388_608;
 
 /// How many bytes a file may have that is copied in parts.
 pub const LARGE: u64 = 1_099_511_627_776;

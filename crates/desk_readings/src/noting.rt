@@ -139,7 +139,7 @@ pub(crate) fn note_one<F: Folders>(
 /// Reads all files in their order: how many bytes each has and their digest, whether it is a class in which the rules change nothing,
 /// and what is kept of the classes among them for the graph. A file that is read whole has at most 67,108,864 bytes, any other at most
 /// 1,099,511,627,776: the answer is `TooLarge` with the first that has more. The classes are gathered into slices, which end with the
-/// class with which they have 4,194,304 bytes or more, and have at most 67,108,864; those of each are measured by these workers, while
+/// class with which they have 8,388,608 bytes or more, and have at most 67,108,864; those of each are measured by these workers, while
 /// this thread reads the next slice, and then dropped. No other file is kept. The other errors are a fault of the folders and want of
 /// memory.
 pub fn note_all<R: Threads + Sync, F: Folders, G: Gate + Sync>(

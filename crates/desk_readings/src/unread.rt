@@ -56,7 +56,7 @@ impl Unread {
     }
 }
 
-/// Reads the next slice: files as they come, until those of them that are held whole have 4,194,304 bytes together. The one that
+/// Reads the next slice: files as they come, until those of them that are held whole have 8,388,608 bytes together. The one that
 /// would bring them above 67,108,864 bytes is the first of the next slice. There are none only where none was left.
 pub(crate) fn read_slice<F: Folders>(
     reading: &FirstReading<'_>,
