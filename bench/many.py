@@ -12,7 +12,8 @@ WORKERS = (1, 4)
 
 
 def make_many(place, app, most):
-    """Copies the classes below `classes` so often that there are so many, each time below a folder of its own: their bytes."""
+    """Copies the classes below `classes` so often that there are so many, each time below a folder of its own: how
+    many there are, and their bytes."""
     found, size = classes_below(place), 0
     for number, path in enumerate(itertools.islice(itertools.cycle(found), most)):
         inside = os.path.relpath(path, place + "/classes").replace("/", ".jar/", 1)
