@@ -9,20 +9,14 @@
 //! ```
 #![tactic(auto)]
 
-mod closing;
 mod keys;
 mod lines;
-mod names;
 mod notes;
-mod noting_sink;
 mod patterns;
 mod rules;
 
-pub use closing::{Closing, closing_line, count_notes};
 pub use keys::{Slip, slip_of};
 pub use lines::{LineRead, is_archive_file, is_jsr305, is_signature, is_utf16, read_line, unshown};
-pub use names::Names;
 pub use notes::{Notes, Refusals};
-pub use noting_sink::NotingSink;
 pub use patterns::{PatternLine, special_patterns};
 pub use rules::{RuleNotes, place_text};

@@ -11,10 +11,11 @@ use std::alloc::Global;
 pub enum LineRead<'a> {
     /// The file was copied.
     Copied(&'a [u8]),
-    /// The image of a class was written.
+    /// The image of a class was written, and whether a name in it is another one now.
     Class {
         path: &'a [u8],
         target: &'a [u8],
+        is_renamed: bool,
     },
     /// A text with text rules was written, none of which fits anything in it.
     Unchanged(&'a [u8]),
@@ -45,7 +46,11 @@ fn written<'a>(
 ) -> LineRead<'a> {
     match (kind, count) {
         (b"copy", _) => LineRead::Copied(path),
-        (b"class", _) => LineRead::Class { path, target },
+        (b"class", count) => LineRead::Class {
+            path,
+            target,
+            is_renamed: count != Some(b"renamed=0"),
+        },
         (b"text", Some(b"changed=0")) => LineRead::Unchanged(path),
         _ => LineRead::Written,
     }

@@ -1,14 +1,16 @@
 //! What is noted of a report.
 
-use crate::closing::Closing;
 use crate::lines::{LineRead, is_archive_file, is_jsr305, is_signature, read_line};
-use crate::names::Names;
 use desk_base::{Memory, Text, TextList};
+use desk_choices::{Closing, Names, Noting};
 use itoa::Buffer;
 use std::alloc::Global;
 
 /// How long a line is at most that is read: two paths of 1,024 bytes, each byte shown by three, and some words.
 const LINE: usize = 8192;
+
+/// How many classes are kept in which a name was renamed.
+const MOST_RENAMED: usize = 16;
 
 /// How many files were refused, by their reason.
 #[derive(Clone, Copy, Debug, PartialEq, Eq)]
@@ -104,6 +106,8 @@ pub struct Notes {
     pub moved: Names,
     /// Classes of JSR 305 that stayed.
     pub stayed: Names,
+    /// The first classes in which a name was renamed, sixteen at most, by their paths as they are shown.
+    pub renamed: TextList,
     /// Texts in which no text rule fits anything, by their paths as they are shown.
     pub unchanged: TextList,
     /// How many files were refused, by their reason.
@@ -129,6 +133,7 @@ impl Notes {
             versions: Names::new(alloc),
             moved: Names::new(alloc),
             stayed: Names::new(alloc),
+            renamed: TextList::empty(alloc),
             unchanged: TextList::empty(alloc),
             refusals: Refusals::none(),
             written: 0,
@@ -155,9 +160,20 @@ impl Notes {
         }
     }
 
+    /// Keeps a class in which a name was renamed, where fewer than sixteen are.
+    fn keep_renamed(&mut self, path: &[u8]) -> Result<(), Memory> {
+        if self.renamed.len() < MOST_RENAMED {
+            self.renamed.push(Text::from_bytes(self.alloc, path)?)?;
+        }
+        Ok(())
+    }
+
     /// Counts a class that was written, and notes it where it is one of JSR 305.
-    fn class(&mut self, path: &[u8], target: &[u8]) -> Result<(), Memory> {
+    fn class(&mut self, path: &[u8], target: &[u8], is_renamed: bool) -> Result<(), Memory> {
         self.count_written();
+        if is_renamed {
+            self.keep_renamed(path)?;
+        }
         if !is_jsr305(path) {
             Ok(())
         } else if path == target {
@@ -194,7 +210,11 @@ impl Notes {
     fn take_line(&mut self, line: &[u8]) {
         let _ = match read_line(line) {
             LineRead::Copied(path) => self.copied(path),
-            LineRead::Class { path, target } => self.class(path, target),
+            LineRead::Class {
+                path,
+                target,
+                is_renamed,
+            } => self.class(path, target, is_renamed),
             LineRead::Unchanged(path) => self.unchanged(path),
             LineRead::Written => {
                 self.count_written();
@@ -214,21 +234,16 @@ impl Notes {
         };
     }
 
-    /// Takes a byte of the report: it ends a line, which is read, or is kept for it.
-    fn take_byte(&mut self, byte: u8) {
-        if byte == b'\n' {
-            let line = std::mem::replace(&mut self.line, Text::empty(self.alloc));
-            self.take_line(line.as_bytes());
-        } else if self.line.as_bytes().len() < LINE {
-            let _ = self.line.push(byte);
-        }
+    /// Reads the line that was kept, and keeps none.
+    fn end_line(&mut self) {
+        let line = std::mem::replace(&mut self.line, Text::empty(self.alloc));
+        self.take_line(line.as_bytes());
     }
 
-    /// Takes bytes of the report, behind those that were taken.
-    pub fn take(&mut self, bytes: &[u8]) {
-        for byte in bytes {
-            self.take_byte(*byte);
-        }
+    /// Keeps bytes of a line, as many as one has that is read.
+    fn keep(&mut self, bytes: &[u8]) {
+        let room = LINE.saturating_sub(self.line.as_bytes().len());
+        let _ = self.line.append(&bytes[..room.min(bytes.len())]);
     }
 
     /// Adds a line with the counts of refused files by their reasons, where there are some.
@@ -300,3 +315,15 @@ const MOVED: &[u8] =
 
 const SITES: &[u8] =
     b" instructions use members of the package; migrate the application by rules that rename it, and look again in the target\n";
+
+impl Noting for Notes {
+    /// Takes bytes of the report, behind those that were taken: each line is read as it ends.
+    fn take(&mut self, bytes: &[u8]) {
+        for (ended, part) in bytes.split(|byte| *byte == b'\n').enumerate() {
+            if ended > 0 {
+                self.end_line();
+            }
+            self.keep(part);
+        }
+    }
+}

@@ -1,9 +1,9 @@
 //! What is noted of rules.
 
 use crate::keys::{MARK, Slip, slip_of};
-use crate::names::Names;
 use crate::patterns::PatternLine;
 use desk_base::{Memory, Text, show_byte};
+use desk_choices::Names;
 use desk_unmet::{KeyLine, RuleKind, Sought, SoughtRule};
 use itoa::Buffer;
 use std::alloc::Global;

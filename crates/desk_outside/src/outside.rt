@@ -2,11 +2,12 @@
 
 use crate::ledger::AnyLedger;
 use desk_base::{Memory, Text};
+use desk_choices::{NotingSink, unread};
 use desk_disk::DiskFolders;
 use desk_faults::Fault;
-use desk_notes::NotingSink;
+use desk_notes::Notes;
 use desk_program::{
-    Asked, Ending, Stopped, asked_of, ended_by_streams, guarded, tell_end, tell_unread, unread,
+    Asked, Ending, Stopped, asked_of, ended_by_streams, guarded, tell_end, tell_unread,
 };
 use desk_report::{Sink, Status, write_fault};
 use desk_run::{FreeGate, desk};
@@ -20,7 +21,7 @@ struct Outside<'r, O> {
     rt: &'r HostRuntime,
     folders: DiskFolders<'r>,
     ledger: Box<AnyLedger<'r>>,
-    out: NotingSink<'r, O>,
+    out: NotingSink<'r, O, Notes>,
     before: Option<Fault>,
 }
 
@@ -30,7 +31,7 @@ impl<'r, O: Sink> Outside<'r, O> {
             rt,
             folders: DiskFolders::new(rt),
             ledger,
-            out: NotingSink::new(rt, out),
+            out: NotingSink::new(rt, out, Notes::new(rt.alloc())),
             before: None,
         }
     }

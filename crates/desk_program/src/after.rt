@@ -5,9 +5,10 @@ use crate::rules::{folder_notes, places_of, renames_below, run_notes};
 use crate::telling::{Told, tell, tell_again, tell_hint, tell_status, tell_text};
 use crate::words::rules_of;
 use desk_base::{Memory, Text};
+use desk_choices::{Names, closing_line};
 use desk_faults::{Fault, fault_line};
 use desk_hints::{Listed, listed_by, release_line, slip_line};
-use desk_notes::{Names, Notes, closing_line, is_utf16, unshown};
+use desk_notes::{Notes, is_utf16, unshown};
 use desk_report::Status;
 use desk_rules::RuleFault;
 use desk_words::{Request, Roots, find_slip};
@@ -109,7 +110,7 @@ fn tell_run(rt: &HostRuntime, roots: &Roots, notes: &Notes) {
     tell_kept(roots, notes, &mut told);
     told.note_text(&stayed_notes(rt, &roots.rules, notes));
     told.note_text(&utf16_notes(rt, &roots.from, notes));
-    told.note_text(&run_notes(rt, roots));
+    told.note_text(&run_notes(rt, roots, &notes.renamed));
     tell_text(rt, &closing_line(rt.alloc(), &notes.closing(told.notes)));
 }
 

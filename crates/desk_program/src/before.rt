@@ -1,9 +1,8 @@
 //! What is done before a run: the roots that are written apart are looked at, whether they are one on the disk, and the
 //! target is guarded against links, and against folders that are mounted in one another.
 
-ghost use Rattle.std.specs.Prelude.{◌≡◌, ◌≢◌};
-
 use desk_base::{Memory, Text};
+use desk_choices::unplaced;
 use desk_disk::DiskFolders;
 use desk_faults::{Cause, Fault, Tried};
 use desk_places::{Apart, Obstacle, Pair, Place, Places, RootName, first_obstacle, place_of};
@@ -63,17 +62,6 @@ fn root_of<'a>(
         RootName::From => (&roots.from, &places.from),
         RootName::To => (&roots.to, &places.to),
         RootName::Ledger => (&roots.ledger, &places.ledger),
-    }
-}
-
-/// The status of a root whose place isn't told.
-fn unplaced(name: RootName) -> Status
-    ensures ledger { name ≡ RootName.Ledger → result ≡ Status.LedgerFault 0 }
-    ensures folder { name ≢ RootName.Ledger → result ≡ Status.FolderFault 0 }
-{
-    match name {
-        RootName::Ledger => Status::LedgerFault { done: 0 },
-        _ => Status::FolderFault { done: 0 },
     }
 }
 

@@ -1,6 +1,5 @@
-//! What the program does around the desk: it takes the stack that it needs, reads its words, holds the places of standard streams
-//! that it is started without, sees that standard streams don't lead into the ledger, looks at the roots on the disk before a run,
-//! tells people on standard error what stands behind the end of one, and exits with the status that the desk answered.
+//! What the program does around the desk: it takes the stack that it needs, reads its words, sees that standard streams don't lead into
+//! the ledger, looks at the roots on the disk before a run, and tells people on standard error what stands behind the end of one.
 //!
 //! ```text
 //! let words = read_words(&rt)?;                            // what stands behind the program's name
@@ -8,7 +7,7 @@
 //! let asked = asked_of(&request);                          // the roots, where the words ask for a run
 //! ended_by_streams(&rt, &roots)?                           // the status of a run whose ledger standard output is written into
 //! guarded(&rt, &roots, &mut folders)                       // how a run ends before it begins, if it does
-//! exit_of(&status)
+//! tell_end(&rt, &ending)                                   // what stands behind its end, on standard error
 //! ```
 #![tactic(auto)]
 
@@ -19,7 +18,6 @@ mod outputs;
 mod rules;
 mod search;
 mod stack;
-mod streams;
 mod telling;
 mod words;
 
@@ -27,6 +25,5 @@ pub use after::{Ending, tell_end};
 pub use before::{Stopped, guarded};
 pub use outputs::ended_by_streams;
 pub use stack::take_stack;
-pub use streams::Streams;
 pub use telling::tell_unread;
-pub use words::{Asked, asked_of, exit_of, read_words, unread};
+pub use words::{Asked, asked_of, read_words};

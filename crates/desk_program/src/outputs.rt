@@ -1,9 +1,8 @@
 //! Standard streams that are written into the ledger of a run, which would be no ledger any more.
 
-ghost use Rattle.std.specs.Prelude.{◌≡◌, ◌≢◌, ◌↔◌, IsTrue, None};
-
 use crate::telling::{tell_hint, tell_status, tell_text};
 use desk_base::{Memory, Text};
+use desk_choices::is_into;
 use desk_faults::{Cause, Fault, Tried, fault_line};
 use desk_hints::Listed;
 use desk_places::Node;
@@ -21,16 +20,6 @@ fn node_at(rt: &HostRuntime, path: &str) -> Option<Node> {
 fn node_of(rt: &HostRuntime, path: &Text) -> Option<Node> {
     let path = str::from_utf8(path.as_bytes()).ok()?;
     node_at(rt, path)
-}
-
-/// Whether a stream that leads to a file is written into another file.
-fn is_into(stream: Option<Node>, file: Option<Node>) -> bool
-    ensures { IsTrue result ↔ ((stream ≢ None) × (file ≡ stream)) }
-{
-    match (stream, file) {
-        (Some(stream), Some(file)) => stream == file,
-        _ => false,
-    }
 }
 
 /// Which standard streams are written into a file. Where the system doesn't tell what a stream leads to, it is none.

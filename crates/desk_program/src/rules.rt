@@ -1,14 +1,12 @@
 //! A second look at the rule folder: in which lines something stands, and what has no effect.
 
-ghost use Rattle.std.specs.Prelude.{◌≡◌};
-ghost use Rattle.desk_program.specs.ChainFiles.{first_file, second_file};
-
 use crate::looks::{MOST_PATHS, front_of, paths_below};
 use crate::search::look_through;
-use desk_base::{MAX_RULE_FILE_SIZE, Memory, Text};
-use desk_notes::{PatternLine, RuleNotes, place_text, special_patterns};
+use desk_base::{MAX_RULE_FILE_SIZE, Memory, Text, TextList};
+use desk_choices::{first_file, second_file};
+use desk_notes::{PatternLine, RuleNotes, place_text, special_patterns, unshown};
 use desk_properties::PropFault;
-use desk_rules::{ChainKind, RuleFault};
+use desk_rules::RuleFault;
 use desk_unmet::{
     KeyLine, RuleKind, Sought, is_for_any, key_lines, line_of_byte, line_of_key, without_blanks,
 };
@@ -145,23 +143,43 @@ fn note_patterns(rt: &HostRuntime, roots: &Roots, notes: &mut RuleNotes) -> Resu
     notes.take_patterns(TEXT, &texts, &[paths.as_slice(), targets.as_slice()])
 }
 
-/// Notes the rules that nothing in the source meets, or in the target. Of an application that can't be looked through nothing is noted.
-fn note_unmet(rt: &HostRuntime, roots: &Roots, looked: &mut Looked) -> Result<(), Memory> {
-    if let Some(()) = look_through(rt, &roots.from, &mut looked.source) {
+/// The paths of files that are shown so.
+fn unshown_paths(alloc: Global, shown: &TextList) -> Result<TextList, Memory> {
+    let mut paths = TextList::empty(alloc);
+    for path in shown.as_slice() {
+        paths.push(unshown(alloc, path.as_bytes())?)?;
+    }
+    Ok(paths)
+}
+
+/// Notes the rules that nothing in the source meets, or in the target. Classes in which a name was renamed, by their paths as they
+/// are shown, are looked at first: they meet what renamed it. Of an application that can't be looked through nothing is noted.
+fn note_unmet(
+    rt: &HostRuntime,
+    roots: &Roots,
+    renamed: &TextList,
+    looked: &mut Looked,
+) -> Result<(), Memory> {
+    let renamed = unshown_paths(rt.alloc(), renamed)?;
+    if let Some(()) = look_through(rt, &roots.from, renamed.as_slice(), &mut looked.source) {
         looked.notes.take_sought(&looked.source)?;
     }
-    if let Some(()) = look_through(rt, &roots.to, &mut looked.target) {
+    if let Some(()) = look_through(rt, &roots.to, &[], &mut looked.target) {
         looked.notes.take_sought(&looked.target)?;
     }
     Ok(())
 }
 
-/// What is noted of the rules of a run that completed.
-pub(crate) fn run_notes(rt: &HostRuntime, roots: &Roots) -> Result<Text, Memory> {
+/// What is noted of the rules of a run that completed, in which these are the first classes with a name that was renamed.
+pub(crate) fn run_notes(
+    rt: &HostRuntime,
+    roots: &Roots,
+    renamed: &TextList,
+) -> Result<Text, Memory> {
     let mut text = Text::empty(rt.alloc());
     let mut looked = look_at(rt, &roots.rules)?;
     note_patterns(rt, roots, &mut looked.notes)?;
-    note_unmet(rt, roots, &mut looked)?;
+    note_unmet(rt, roots, renamed, &mut looked)?;
     looked.notes.append_to(&mut text)?;
     Ok(text)
 }
@@ -175,38 +193,6 @@ pub(crate) fn renames_below(rt: &HostRuntime, rules: &Text, front: &[u8]) -> Res
             .iter()
             .any(|entry| entry.key.as_bytes().starts_with(front)),
     )
-}
-
-/// The rule file of the first rule of a chain.
-fn first_file(kind: ChainKind) -> &'static [u8]
-    ensures { result.now ≡ first_file kind }
-{
-    match kind {
-        ChainKind::RenameThenRename
-        | ChainKind::RenameThenDirect
-        | ChainKind::PackageThenName
-        | ChainKind::NameThenPackage
-        | ChainKind::PackageThenDirect => RENAMES,
-        ChainKind::DirectThenDirect | ChainKind::DirectThenRename | ChainKind::DirectThenPackage =>
-            DIRECT,
-        ChainKind::BundleThenBundle => BUNDLES,
-    }
-}
-
-/// The rule file of the second rule of a chain.
-fn second_file(kind: ChainKind) -> &'static [u8]
-    ensures { result.now ≡ second_file kind }
-{
-    match kind {
-        ChainKind::RenameThenRename
-        | ChainKind::DirectThenRename
-        | ChainKind::PackageThenName
-        | ChainKind::NameThenPackage
-        | ChainKind::DirectThenPackage => RENAMES,
-        ChainKind::RenameThenDirect | ChainKind::DirectThenDirect | ChainKind::PackageThenDirect =>
-            DIRECT,
-        ChainKind::BundleThenBundle => BUNDLES,
-    }
 }
 
 /// Where in a rule file something stands.

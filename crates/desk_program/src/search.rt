@@ -1,7 +1,7 @@
 //! A look through the files of an application, for rules that nothing in them meets.
 
 use crate::looks::{MOST_PATHS, listing_of, path_below};
-use desk_base::{MAX_FILE_SIZE, Text, TextList};
+use desk_base::{MAX_FILE_SIZE, Text};
 use desk_disk::DiskFolders;
 use desk_folders::Folders;
 use desk_unmet::Sought;
@@ -21,7 +21,16 @@ struct Files<'r, 'a> {
     left: u64,
 }
 
-impl Files<'_, '_> {
+impl<'r, 'a> Files<'r, 'a> {
+    /// The files below a root, of which none was looked at.
+    fn below(rt: &'r HostRuntime, root: &'a Text) -> Files<'r, 'a> {
+        Files {
+            folders: DiskFolders::new(rt),
+            root,
+            left: MOST_BYTES,
+        }
+    }
+
     /// The next part of a file, which is empty at its end; none where it can't be read, or where more bytes were read than may be.
     fn part(&mut self, path: &Text, at: u64) -> Option<Text> {
         let part = self.folders.read_part(path, at, PART).ok()?;
@@ -49,8 +58,8 @@ impl Files<'_, '_> {
     }
 
     /// Looks at files until no rule is left. None where one can't be looked at.
-    fn look_at_all(&mut self, names: &TextList, sought: &mut Sought) -> Option<()> {
-        for name in names.as_slice() {
+    fn look_at_all(&mut self, names: &[Text], sought: &mut Sought) -> Option<()> {
+        for name in names {
             if sought.is_done() {
                 return Some(());
             }
@@ -60,9 +69,20 @@ impl Files<'_, '_> {
     }
 }
 
-/// Looks for rules in the files below a root until none is left, or all are looked at. None where they can't be looked at: one can't
-/// be read, there are more than 200,000, they have more than 1,073,741,824 bytes together, or memory doesn't suffice.
-pub(crate) fn look_through(rt: &HostRuntime, root: &Text, sought: &mut Sought) -> Option<()> {
+/// Looks for rules in files below a root until none is left: first in these, so that the root isn't listed where they meet each rule,
+/// and then in all. None where they can't be looked at: one can't be read, there are more than 200,000, they have more than
+/// 1,073,741,824 bytes together, or memory doesn't suffice.
+pub(crate) fn look_through(
+    rt: &HostRuntime,
+    root: &Text,
+    first: &[Text],
+    sought: &mut Sought,
+) -> Option<()> {
+    if sought.is_done() {
+        return Some(());
+    }
+    sought.settle().ok()?;
+    Files::below(rt, root).look_at_all(first, sought)?;
     if sought.is_done() {
         return Some(());
     }
@@ -70,11 +90,5 @@ pub(crate) fn look_through(rt: &HostRuntime, root: &Text, sought: &mut Sought) -
     if names.len() > MOST_PATHS as usize {
         return None;
     }
-    sought.settle().ok()?;
-    let mut files = Files {
-        folders: DiskFolders::new(rt),
-        root,
-        left: MOST_BYTES,
-    };
-    files.look_at_all(&names, sought)
+    Files::below(rt, root).look_at_all(names.as_slice(), sought)
 }

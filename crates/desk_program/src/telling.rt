@@ -3,8 +3,8 @@
 ghost use Rattle.std.specs.Prelude.{None};
 
 use desk_base::{Memory, Text};
+use desk_choices::count_notes;
 use desk_hints::{Listed, hint_behind};
-use desk_notes::count_notes;
 use desk_report::{Sink, SinkFault, Status, write_fault};
 use std::io::{IsTerminal, Write};
 

@@ -1,37 +1,10 @@
-//! The words that the program was given, and the status that it exits with.
-
-ghost use Rattle.std.specs.Prelude.{◌≡◌, ◌≢◌, IfOk, drop, map, string_bytes};
-ghost use Rattle.std.specs.Process.{exit_status};
-ghost use Rattle.desk_report.specs.Texts.{code_of};
+//! The words that the program was given, and what they ask for.
 
 use desk_base::{Memory, Text};
-use desk_report::Status;
+use desk_choices::words_behind;
 use desk_words::{Order, Query, Request, Roots, RootsFault};
-use std::alloc::Global;
 use std::io::ErrorKind;
-use std::process::ExitCode;
 use std::{env, io};
-
-/// Words as texts, as they were given.
-fn texts_of(alloc: Global, given: &[String]) -> Result<Vec<Text>, Memory>
-    ensures { IfOk result (λ words. words.items ≡ map string_bytes given.now) }
-{
-    let mut words = Vec::new(alloc);
-    for word in given {
-        words.push(Text::from_bytes(alloc, word.as_bytes())?)?;
-    }
-    Ok(words)
-}
-
-/// The words behind the program's name, as they were given.
-fn words_behind(alloc: Global, args: &[String]) -> Result<Vec<Text>, Memory>
-    ensures { IfOk result (λ words. words.items ≡ map string_bytes (drop 1 args.now)) }
-{
-    match args.split_first() {
-        Some((_, given)) => texts_of(alloc, given),
-        None => Ok(Vec::new(alloc)),
-    }
-}
 
 /// The words behind the program's name, as they were given. Errors are want of memory, and a word that isn't in UTF-8.
 pub fn read_words(rt: &HostRuntime) -> io::Result<Vec<Text>> {
@@ -42,17 +15,6 @@ pub fn read_words(rt: &HostRuntime) -> io::Result<Vec<Text>> {
     match words_behind(rt.alloc(), &args) {
         Ok(words) => Ok(words),
         Err(Memory) => Err(io::Error::from(ErrorKind::OutOfMemory)),
-    }
-}
-
-/// How a program ends whose words can't be read: for want of memory, or as words that mean no task.
-pub fn unread(kind: ErrorKind) -> Status
-    ensures memory { kind ≡ ErrorKind.OutOfMemory → result ≡ Status.Memory }
-    ensures other { kind ≢ ErrorKind.OutOfMemory → result ≡ Status.Usage }
-{
-    match kind {
-        ErrorKind::OutOfMemory => Status::Memory,
-        _ => Status::Usage,
     }
 }
 
@@ -95,11 +57,4 @@ pub(crate) fn rules_of<'q>(request: &'q Request<'_>) -> Option<&'q Text> {
         Ok(order) => rules_in(order),
         Err(_) => None,
     }
-}
-
-/// The exit status that tells a status.
-pub fn exit_of(status: &Status) -> ExitCode
-    ensures { exit_status result ≡ code_of status.now }
-{
-    ExitCode::from(status.code())
 }

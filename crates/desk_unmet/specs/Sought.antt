@@ -1,5 +1,5 @@
 -- Rules that are looked for.
-use Rattle.std.specs.Prelude.{ℕ, codes, ◌==◌, if◌then◌else◌}
+use Rattle.std.specs.Prelude.{codes}
 use Rattle.desk_base.specs.Names.{Text}
 use Rattle.desk_unmet.specs.declared.sought.RuleKind.{RuleKind}
 use Rattle.desk_unmet.specs.declared.sought.RuleKind.TheVariants as kind
@@ -10,7 +10,3 @@ file_of kind.Rename = codes "renames.properties"
 file_of kind.Direct = codes "direct.properties"
 file_of kind.Version = codes "versions.properties"
 file_of kind.Bundle = codes "bundles.properties"
-
--- a byte with `/` for `.`
-abbrev pub slashed_byte : ℕ → ℕ
-slashed_byte b = if b == 46 then 47 else b

@@ -15,12 +15,13 @@
 //! sought.is_done()                              // true
 //! ```
 
-ghost use Rattle.std.specs.Prelude.{◌≡◌, IfOk, map};
-ghost use Rattle.desk_unmet.specs.Sought.{file_of, slashed_byte};
+ghost use Rattle.std.specs.Prelude.{◌≡◌};
+ghost use Rattle.desk_unmet.specs.Sought.{file_of};
 
 use crate::entries::KeyLine;
 use crate::forms::Forms;
 use desk_base::{Memory, Text, TextList};
+use desk_choices::slashed;
 use memchr::memmem;
 use std::alloc::Global;
 
@@ -132,24 +133,6 @@ fn front_of(text: &[u8]) -> &[u8] {
         Some(end) => &text[..end + 1],
         None => text,
     }
-}
-
-/// A byte of a package, with `/` for `.`.
-fn slashed_byte(byte: u8) -> u8
-    ensures { result ≡ slashed_byte byte }
-{
-    if byte == b'.' { b'/' } else { byte }
-}
-
-/// A package written with `/`.
-fn slashed(alloc: Global, name: &[u8]) -> Result<Text, Memory>
-    ensures { IfOk result (λ text. text ≡ map slashed_byte name.now) }
-{
-    let mut text = Text::empty(alloc);
-    for byte in name {
-        text.push(slashed_byte(*byte))?;
-    }
-    Ok(text)
 }
 
 /// Whether a path is that of a manifest of an archive.

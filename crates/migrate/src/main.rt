@@ -1,8 +1,9 @@
 //! The program: it follows its words over the real folders, a ledger and standard output, and exits with the status of that.
 #![tactic(auto)]
 
+use desk_choices::{Streams, exit_of};
 use desk_outside::{end_unread, follow_words};
-use desk_program::{Streams, exit_of, read_words, take_stack};
+use desk_program::{read_words, take_stack};
 use desk_report::{Status, StdSink};
 use std::process::ExitCode;
 use std::thread::Threads;

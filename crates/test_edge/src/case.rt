@@ -4,7 +4,8 @@ use crate::commands::{COMMANDS, Command};
 use crate::words::{named, word};
 use crate::{disk, faults, hints, names, places, reports, rules, told};
 use desk_base::{Memory, Text};
-use desk_notes::{count_notes, is_archive_file, is_signature, slip_of};
+use desk_choices::count_notes;
+use desk_notes::{is_archive_file, is_signature, slip_of};
 use desk_report::ReportLine;
 use test_cases::Answers;
 

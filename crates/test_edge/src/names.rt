@@ -10,8 +10,14 @@ use test_cases::Shown;
 pub fn tell_said(line: &[u8], out: &mut String) -> Result<(), Memory> {
     match read_line(line) {
         LineRead::Copied(path) => Ok(writeln!(out, "  copied {}", Shown(path))?),
-        LineRead::Class { path, target } => {
-            Ok(writeln!(out, "  class {} {}", Shown(path), Shown(target))?)
+        LineRead::Class {
+            path,
+            target,
+            is_renamed,
+        } => {
+            let what = if is_renamed { "renamed" } else { "as it was" };
+            let (path, target) = (Shown(path), Shown(target));
+            Ok(writeln!(out, "  class {path} {target} {what}")?)
         }
         LineRead::Unchanged(path) => Ok(writeln!(out, "  unchanged {}", Shown(path))?),
         LineRead::Written => told::text(out, "written"),

@@ -3,7 +3,8 @@
 use crate::told;
 use crate::words::{number, word};
 use desk_base::{Memory, Text};
-use desk_notes::{Closing, Notes, NotingSink, closing_line};
+use desk_choices::{Closing, Noting, NotingSink, closing_line};
+use desk_notes::Notes;
 use desk_report::{Detail, MemorySink, Reason, ReportLine, Sink, write_line};
 use std::alloc::Global;
 
@@ -109,7 +110,7 @@ pub fn overhear(rt: &HostRuntime, lines: &[ReportLine], out: &mut String) -> Res
     let alloc = rt.alloc();
     let plain = unheard(alloc, lines)?;
     let sink = MemorySink::with_room(alloc, ROOM)?;
-    let mut heard = Box::new(alloc, NotingSink::new(rt, sink))?;
+    let mut heard = Box::new(alloc, NotingSink::new(rt, sink, Notes::new(alloc)))?;
     let written = write_lines(lines, &mut *heard);
     let is_same = heard.out.written() == plain.written();
     let bytes = if is_same { "the same" } else { "other" };

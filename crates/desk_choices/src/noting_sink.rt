@@ -2,20 +2,25 @@
 
 ghost use Rattle.std.specs.Prelude.{◌≡◌};
 
-use crate::notes::Notes;
 use desk_report::{Sink, SinkFault};
 use std::io::{IsTerminal, Write};
+
+/// Who notes what bytes say that go on to a sink.
+pub trait Noting {
+    /// Notes the next bytes.
+    fn take(&mut self, bytes: &[u8]);
+}
 
 /// A sink whose bytes are noted on their way. It tells what the sink tells. Before the first of them the line that
 /// stands on standard error is taken away, where that is a terminal, so that the report doesn't begin within it.
 #[derive(Drop)]
-pub struct NotingSink<'r, O> {
+pub struct NotingSink<'r, O, N> {
     rt: &'r HostRuntime,
     is_begun: bool,
     /// The sink that the bytes go on to.
     pub out: O,
     /// What is noted of them.
-    pub notes: Notes,
+    pub notes: N,
 }
 
 /// Takes the line away that stands on a terminal.
@@ -25,21 +30,21 @@ fn clear_line(rt: &HostRuntime) {
     }
 }
 
-impl<'r, O: Sink> NotingSink<'r, O> {
-    /// The sink, of which nothing is noted yet. It takes no memory.
-    pub fn new(rt: &'r HostRuntime, out: O) -> NotingSink<'r, O>
+impl<'r, O: Sink, N: Noting> NotingSink<'r, O, N> {
+    /// The sink, and who notes its bytes. It takes no memory.
+    pub fn new(rt: &'r HostRuntime, out: O, notes: N) -> NotingSink<'r, O, N>
         ensures { result.out ≡ out }
     {
         NotingSink {
             rt,
             is_begun: false,
             out,
-            notes: Notes::new(rt.alloc()),
+            notes,
         }
     }
 }
 
-impl<O: Sink> Sink for NotingSink<'_, O> {
+impl<O: Sink, N: Noting> Sink for NotingSink<'_, O, N> {
     ghost told = { λ s. O.told s.out };
 
     ghost faults = { λ s. O.faults s.out };

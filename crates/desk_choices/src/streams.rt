@@ -1,8 +1,9 @@
-//! The standard streams, where the program is started without them.
+//! The standard streams: what stands in their places where the program is started without them, and whether one leads into a file.
 
-ghost use Rattle.std.specs.Prelude.{◌≤ℤ◌, IfSome, pos};
+ghost use Rattle.std.specs.Prelude.{◌≡◌, ◌≢◌, ◌↔◌, ◌≤ℤ◌, IfSome, IsTrue, None, pos};
 ghost use Rattle.std.specs.Fd.{file_raw_fd};
 
+use desk_places::Node;
 use std::fs::File;
 use std::os::fd::AsRawFd;
 
@@ -39,5 +40,15 @@ impl Streams {
             second: in_place_of_stream(rt),
             third: in_place_of_stream(rt),
         }
+    }
+}
+
+/// Whether a stream that leads to a file is written into another file.
+pub fn is_into(stream: Option<Node>, file: Option<Node>) -> bool
+    ensures { IsTrue result ↔ ((stream ≢ None) × (file ≡ stream)) }
+{
+    match (stream, file) {
+        (Some(stream), Some(file)) => stream == file,
+        _ => false,
     }
 }

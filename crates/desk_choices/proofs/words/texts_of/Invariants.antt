@@ -1,6 +1,6 @@
 use Rattle.std.proofs.Common.{◌≡◌, take, map}
 use Rattle.std.specs.Prelude.{string_bytes}
-use Rattle.desk_program.proofs.words.texts_of.Given as goal
+use Rattle.desk_choices.proofs.words.texts_of.Given as goal
 
 abbrev pub invariant-loop-word : goal.invariant-loop-word
 invariant-loop-word l = l.words.items ≡ map string_bytes (take l.word-index l.given)

@@ -2,7 +2,7 @@
 use Rattle.std.specs.Prelude.{ℕ, Bool, [], ◌++◌, ◌==◌, ◌&&◌, not, codes, decimal, if◌then◌else◌}
 use Rattle.std.specs.List.{starts_with}
 use Rattle.desk_base.specs.Names.{Text}
-use Rattle.desk_notes.specs.declared.closing.Closing.{Closing}
+use Rattle.desk_choices.specs.declared.closing.Closing.{Closing}
 
 -- a line that is a note: it names the program, is none of the names below a note, and tells no refused files
 abbrev pub is_note : Text → Bool

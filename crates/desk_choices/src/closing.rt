@@ -1,7 +1,7 @@
 //! The last line of what is told of a run.
 
 ghost use Rattle.std.specs.Prelude.{◌≡◌, ◌++◌, IfOk, OnOk, decimal};
-ghost use Rattle.desk_notes.specs.Closing.{closing_text, counted, is_note, looked_at, refused_text, notes_text};
+ghost use Rattle.desk_choices.specs.Closing.{closing_text, counted, is_note, looked_at, refused_text, notes_text};
 
 use desk_base::{Memory, Text};
 use itoa::Buffer;

@@ -1,0 +1,3 @@
+pub mod ChainFiles
+pub mod Closing
+pub mod Packages
