@@ -8,8 +8,6 @@
 //! ```
 #![tactic(auto)]
 
-mod database;
-mod files;
 mod formats;
 mod keeper;
 mod opened;

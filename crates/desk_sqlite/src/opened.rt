@@ -6,8 +6,6 @@ ghost use Rattle.desk_ledger.specs.Ledger.{row_at, with_header, without_row};
 ghost use Rattle.desk_sqlite.specs.OverFile.{all_written, nothing, with_put, with_room};
 ghost use Rattle.desk_sqlite.specs.WorkingFolder.{has_relative_root, is_relative};
 
-use crate::database::Database;
-use crate::files::{Log, fault_of, file_path, has_room_beside};
 use crate::formats::Format;
 use crate::tables::{
     Pending, find_tables, pending_of, read_contents, read_folder, settle, write_folder,
@@ -15,7 +13,8 @@ use crate::tables::{
 };
 use crate::waiting::UnwrittenRows;
 use desk_base::{Memory, Text};
-use desk_faults::{Cause, Fault, Refusal, Tried};
+use desk_database::{Database, Log, file_path, has_room_beside};
+use desk_faults::{Cause, Fault, Refusal, Tried, refusal_of};
 use desk_ledger::{Contents, Header, Row};
 use desk_long_names::{Shortened, is_long, may_be_database, real_path, short_path};
 use std::alloc::Global;
@@ -157,8 +156,10 @@ fn has_relative_root(header: &Header) -> bool
 
 /// The path of the folder that the program runs in, which relative roots are relative to.
 fn working_folder(rt: &HostRuntime) -> Result<Text, Refusal> {
-    let folder = env::current_dir(rt).map_err(fault_of)?;
-    Ok(Text::from_bytes(rt.alloc(), folder.as_str().as_bytes())?)
+    match env::current_dir(rt) {
+        Ok(folder) => Ok(Text::from_bytes(rt.alloc(), folder.as_str().as_bytes())?),
+        Err(error) => Err(refusal_of(error)),
+    }
 }
 
 /// The working folder where it is to be noted, since none is. A ledger of another one is refused.

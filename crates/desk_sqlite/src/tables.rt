@@ -9,10 +9,10 @@ ghost use Rattle.desk_ledger_tables.specs.Rows.{shown_row};
 ghost use Rattle.desk_sqlite.specs.Found.{header_in, ledger_in, with_shown_rows};
 ghost use Rattle.desk_sqlite.specs.Statements.{insertion, values_in, verb};
 
-use crate::database::Database;
 use crate::formats::{FOLDER, Format, format_of};
 use crate::waiting::UnwrittenRows;
 use desk_base::Text;
+use desk_database::Database;
 use desk_faults::{Cause, Refusal};
 use desk_ledger::{Contents, Header, Row};
 use desk_ledger_tables::{Statement, Unread, header_values, read_header, read_row, row_values};

@@ -12,7 +12,7 @@ use std::marker::Model;
 
 /// A database file that is open, and locked against other programs. Contracts see how many statements it
 /// refused; the count stands still at 18,446,744,073,709,551,615.
-pub(crate) struct Database {
+pub struct Database {
     connection: Connection<FileStore<File>>,
     refused: u64,
 }
@@ -77,8 +77,9 @@ impl Database {
     }
 
     /// Opens the database file at a path, and makes an empty one where there is no file. A file that holds
-    /// no sound database is left as it was.
-    pub(crate) fn open(rt: &HostRuntime, path: &str, log: &Log) -> Result<Database, Refusal> {
+    /// no sound database is left as it was. Errors are want of memory, what the file holds, another program that has it open, and what
+    /// the system says.
+    pub fn open(rt: &HostRuntime, path: &str, log: &Log) -> Result<Database, Refusal> {
         match Connection::open(rt, path) {
             Ok(connection) => Ok(Database {
                 connection,
@@ -93,8 +94,8 @@ impl Database {
         }
     }
 
-    /// Runs one statement that is no query, with these values for its parameters.
-    pub(crate) fn run(&mut self, statement: &str, values: &[ValueRef<'_>]) -> Result<(), Refusal>
+    /// Runs one statement that is no query, with these values for its parameters. A statement that is refused is counted.
+    pub fn run(&mut self, statement: &str, values: &[ValueRef<'_>]) -> Result<(), Refusal>
         ensures ok { OnOk result (self.new ≡ self.old) }
         ensures err { OnErr result (self.new ≡ counted self.old) }
     {
@@ -104,8 +105,8 @@ impl Database {
         }
     }
 
-    /// All rows that a query gives.
-    pub(crate) fn query(&mut self, query: &str) -> Result<Vec<Row>, Refusal>
+    /// All rows that a query gives. A query that is refused is counted.
+    pub fn query(&mut self, query: &str) -> Result<Vec<Row>, Refusal>
         ensures ok { OnOk result (self.new ≡ self.old) }
         ensures err { OnErr result (self.new ≡ counted self.old) }
     {
@@ -115,8 +116,8 @@ impl Database {
         }
     }
 
-    /// Ends a transaction in which this was done: what it wrote stays, or nothing of it where it failed.
-    pub(crate) fn end(&mut self, done: Result<(), Refusal>) -> Result<(), Refusal>
+    /// Ends a transaction in which this was done: what it wrote stays, or nothing of it where it failed, which is then the error.
+    pub fn end(&mut self, done: Result<(), Refusal>) -> Result<(), Refusal>
         ensures done { IsErr done → IsErr result }
         ensures ok { OnOk result (self.new ≡ self.old) }
     {
