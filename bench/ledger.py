@@ -1,10 +1,11 @@
-"""Times the program, whose ledger is a file, beside the desk with its ledger in memory, and the rows of a ledger in memory as an
+"""Times the program, whose ledger is a file, beside runs with the ledger in memory, and the rows of a ledger in memory as an
 SQL database beside those of a table, and prints ratios."""
 
 import os
 import shutil
 import subprocess
 import sys
+import tempfile
 
 from timing import timed
 
@@ -47,10 +48,20 @@ def in_file(program, place):
     return [run([program] + words_of(place))[0] for _ in range(2)]
 
 
-def in_memory(program, place):
-    """The same two runs in one process, which tells the microseconds of each."""
+def tried(program, place, runs):
+    """The seconds of so many runs in one process over one ledger in memory, by the program of the tests of runs."""
     clear(place)
-    return [int(word) / 1e6 for word in run([program, "ledger", "2"] + words_of(place))[1].split()]
+    words = ["desk"] + words_of(place)
+    with tempfile.TemporaryFile() as cases:
+        cases.write("\n".join(["real-folders", "room 100000000", *[" ".join(words)] * runs, ""]).encode())
+        cases.seek(0)
+        return timed([program], stdin=cases).seconds
+
+
+def in_memory(program, place):
+    """The same two runs with the ledger in memory: the second is what two of them take beyond one."""
+    once = tried(program, place, 1)
+    return [once, tried(program, place, 2) - once]
 
 
 def sums(place):
@@ -94,13 +105,13 @@ def in_sql(program):
 
 
 def main():
-    migrate, bench, disk, memory, *others = sys.argv[1:]
+    migrate, bench, tests, disk, memory, *others = sys.argv[1:]
     in_sql(bench)
     for name, place in (("on disk", disk), ("in /dev/shm", memory)):
         make(place)
         file, held = [], []
         for _ in range(ROUNDS):
-            held.append(in_memory(bench, place))
+            held.append(in_memory(tests, place))
             file.append(in_file(migrate, place))
         for i, what, aim in ((0, "a first run", 1.3), (1, "a run that keeps every file", 1.2)):
             least, beside = min(f[i] for f in file), min(h[i] for h in held)

@@ -7,14 +7,15 @@
 #
 # Usage: bench/ledger.sh [PROGRAM]
 #
-# It needs python3 and the two programs built: `rt run` in crates/migrate, and `rt run -- scan <stdin` in
-# crates/bench.
+# It needs python3 and three programs built: `rt run` in crates/migrate, `rt run -- scan <stdin` in crates/bench, and
+# `rt run <stdin` in crates/test_runs, which runs the desk over real folders with its ledger in memory.
 set -eu
 here=$(cd "$(dirname "$0")/.." && pwd)
-for name in migrate bench; do
+for name in migrate bench test_runs; do
     [ -x "$here/crates/$name/out/$name" ] || { echo "build crates/$name first" >&2; exit 1; }
 done
 disk=$(mktemp -d)
 memory=$(mktemp -d -p /dev/shm)
 trap 'rm -rf "$disk" "$memory"' EXIT
-python3 "$here/bench/ledger.py" "$here/crates/migrate/out/migrate" "$here/crates/bench/out/bench" "$disk" "$memory" "$@"
+python3 "$here/bench/ledger.py" "$here/crates/migrate/out/migrate" "$here/crates/bench/out/bench" \
+    "$here/crates/test_runs/out/test_runs" "$disk" "$memory" "$@"

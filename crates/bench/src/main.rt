@@ -6,7 +6,6 @@
 //! bench scan [LIST]                     class files that a list or standard input names
 //! bench texts RULES TEXT TIMES          a text by text rules
 //! bench graph MODE COUNT|LIST           classes that are made up, or that a list names
-//! bench ledger TIMES WORD..             runs of the desk by these words with its ledger in memory
 //! bench rows memory|sql COUNT           rows of a ledger in memory: a table, or an SQL database
 //! ```
 #![tactic(auto)]
@@ -14,7 +13,6 @@
 mod counts;
 mod graph;
 mod kinds;
-mod ledger;
 mod made;
 mod names;
 mod reading;
@@ -24,23 +22,16 @@ mod scan;
 mod texts;
 
 use reading::bad_words;
-use std::thread::Threads;
 use std::{env, io};
 
 /// Does what the first word says, by the words behind it.
-fn measure<R: Threads + Sync>(
-    rt: &HostRuntime,
-    threads: &R,
-    what: &str,
-    words: &[String],
-) -> io::Result<()> {
+fn measure(rt: &HostRuntime, what: &str, words: &[String]) -> io::Result<()> {
     match what {
         "names" => names::run(rt, words),
         "rules" => rules::run(rt, words),
         "scan" => scan::run(rt, words),
         "texts" => texts::run(rt, words),
         "graph" => graph::run(rt, words),
-        "ledger" => ledger::run(rt, threads, words),
         "rows" => rows::run(rt, words),
         _ => Err(bad_words()),
     }
@@ -49,7 +40,7 @@ fn measure<R: Threads + Sync>(
 fn main(rt: HostRuntime) -> io::Result<()> {
     let words: Vec<String> = env::args(&rt)?.skip(1).collect(rt.alloc())?;
     match words.as_slice() {
-        [what, behind @ ..] => measure(&rt, &rt, what.as_str(), behind),
+        [what, behind @ ..] => measure(&rt, what.as_str(), behind),
         [] => Err(bad_words()),
     }
 }

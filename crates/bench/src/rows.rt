@@ -4,10 +4,9 @@
 
 ghost use Rattle.std.specs.Prelude.{IsSome};
 
-use crate::ledger::empty_ledger;
 use crate::reading::{bad_words, undone};
 use desk_base::{Memory, Text};
-use desk_ledger::{Digest, Keeper, KeeperFault, Row};
+use desk_ledger::{Digest, Keeper, KeeperFault, MemoryKeeper, Row};
 use desk_ledger_sql::SqlKeeper;
 use std::alloc::Global;
 use std::io;
@@ -115,6 +114,12 @@ fn measure<K: Keeper + Drop>(rt: &HostRuntime, keeper: Box<K>, count: u32) -> io
     time_puts(rt, &mut ledger, rows)?;
     time_finds(rt, &mut ledger, &others)?;
     time_puts(rt, &mut ledger, others)
+}
+
+/// An empty ledger in memory.
+fn empty_ledger(alloc: Global) -> Option<Box<MemoryKeeper>> {
+    let keeper = MemoryKeeper::new(alloc, Vec::new(alloc)).ok()?;
+    Box::new(alloc, keeper).ok()
 }
 
 /// Times so many rows of the ledger that a word names.
