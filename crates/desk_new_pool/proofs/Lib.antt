@@ -1,6 +1,7 @@
 pub mod Wanted
 pub mod Texts
 pub mod Least
+pub mod Images
 pub mod Missed
 pub mod Long
 pub mod Made

@@ -2,6 +2,7 @@ pub mod Wants
 pub mod Keeps
 pub mod Places
 pub mod Refusals
+pub mod Sought
 pub mod NewTexts
 pub mod Twins
 pub mod Printing

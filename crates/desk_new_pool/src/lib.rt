@@ -16,6 +16,7 @@ mod new_texts;
 mod overlong;
 mod places;
 mod printing;
+mod sought;
 mod twins;
 mod wants;
 

@@ -7,18 +7,19 @@ ghost use Rattle.desk_format.specs.Split.{split, chosen};
 ghost use Rattle.desk_format.specs.NewClass.{full_at};
 ghost use Rattle.desk_new_pool.specs.Keeps.{TextsAre};
 ghost use Rattle.desk_new_pool.specs.Wants.{IsWanted, wants_of};
-ghost use Rattle.desk_new_pool.specs.Places.{least, place_in, not_kept, missing_among, in_set, index_by};
+ghost use Rattle.desk_new_pool.specs.Places.{place_in, not_kept, missing_among, index_by};
 ghost use Rattle.desk_new_pool.specs.NewTexts.{Adds, Splits};
 ghost use Rattle.desk_new_pool.specs.Refusals.{Refuses, pool_refusal};
 ghost use Rattle.desk_new_pool.specs.declared.wants.WantedText.{WantedText};
 
 use crate::keeps::kept_texts;
 use crate::overlong::{greatest_length, least_long};
-use crate::places::{missing_texts, new_index, not_kept, places};
+use crate::places::{new_index, places};
+use crate::sought::{SoughtImages, not_kept};
 use crate::wants::WantedTexts;
 use desk_base::{Memory, PoolView};
 use std::alloc::Global;
-use std::collections::{BTreeMap, BTreeSet};
+use std::collections::BTreeMap;
 
 /// The greatest count of a constant pool (JVMS 4.1).
 const GREATEST_COUNT: usize = 65535;
@@ -107,11 +108,8 @@ fn new_indices<'a>(
 }
 
 /// Adds texts behind others.
-fn add_texts<'a>(
-    texts: &mut Vec<Option<&'a [u8]>>,
-    missing: &BTreeSet<&'a [u8]>,
-) -> Result<(), Memory>
-    ensures { OnOk result (Adds texts.old.items (in_set missing.now) texts.new.items) }
+fn add_texts<'a>(texts: &mut Vec<Option<&'a [u8]>>, missing: &[&'a [u8]]) -> Result<(), Memory>
+    ensures { OnOk result (Adds texts.old.items (map (λ t. t.now) missing.now) texts.new.items) }
 {
     for text in missing {
         texts.push(Some(*text))?;
@@ -149,8 +147,9 @@ fn with_missing<'a>(
     ensures refused { IfErr result (λ fault. Refuses fault (full_at (length texts.entry.items) (length (missing_among texts.entry.items wants.now)))) }
 {
     let count = texts.len();
-    let kept = places(alloc, &texts, 0)?;
-    let missing = missing_texts(alloc, &texts, &kept, wants)?;
+    let sought = SoughtImages::of(alloc, &texts, wants)?;
+    let kept = places(alloc, &texts, 0, &sought)?;
+    let missing = sought.without_place(alloc, &kept)?;
     if count + missing.len() > GREATEST_COUNT {
         return Err(NewPoolFault::PoolFull {
             count: count as u16,
@@ -159,7 +158,7 @@ fn with_missing<'a>(
     }
     add_texts(&mut texts, &missing)?;
     let (_, behind) = texts.split_at(count);
-    let added = places(alloc, behind, count as u16)?;
+    let added = places(alloc, behind, count as u16, &sought)?;
     let indices = new_indices(alloc, &texts, &kept, &added, wants)?;
     Ok(NewTexts { texts, indices })
 }
