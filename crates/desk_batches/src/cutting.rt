@@ -7,10 +7,7 @@ ghost use Rattle.desk_batches.specs.Notes.{IsSound};
 ghost use Rattle.desk_batches.specs.Turns.{fitting, slice_length, weight_of};
 
 use crate::planned::PlannedFile;
-use desk_readings::WHOLE;
-
-/// How many bytes the whole files of a slice have together, where it has more than one file.
-const SLICE: u64 = 4_194_304;
+use desk_readings::{SLICE, WHOLE};
 
 /// How many bytes of a batch a file takes: none where it is not read whole.
 fn weight_of(file: &PlannedFile) -> u64

@@ -110,11 +110,12 @@ impl<'r> Job for Migration<'r> {
 }
 
 /// The image of a file, by what a worker made of it, where it has the digest that was noted. A file that is known to stay as it is gives
-/// its bytes.
+/// its bytes; any other is taken over from the threads, where they made it.
 fn image_read(
     job: &Migration<'_>,
     input: Input<'_>,
     reading: SecondReading,
+    is_of_thread: bool,
 ) -> Result<Result<DigestedImage, Reason>, Stop>
     requires { reading ≡ reading_by job.now.graph.now.rules job.now.graph.now.defined input }
     ensures image { IfOk result (λ image. image ≡ image_of_input job.now.graph.now.rules job.now.graph.now.defined input.entry) }
@@ -127,7 +128,7 @@ fn image_read(
             let bytes = input.into_text();
             Ok(Ok(DigestedImage::unchanged(bytes, detail, file.digest)))
         }
-        SecondReading::Same(Ok(image)) => Ok(Ok(image.taken_over()?)),
+        SecondReading::Same(Ok(image)) => Ok(Ok(image.taken_over(is_of_thread)?)),
         SecondReading::Same(Err(reason)) => Ok(Err(reason)),
         SecondReading::Other(second) => Err(moved(
             job.alloc,
@@ -138,11 +139,13 @@ fn image_read(
     }
 }
 
-/// The images of files, by what the workers made of them, where each file has the digest that was noted.
+/// The images of files, by what the workers made of them, each on a thread of its own where there are several; where each file has
+/// the digest that was noted.
 fn images_in(
     job: &Migration<'_>,
     inputs: Vec<Input<'_>>,
     made: Vec<SecondReading>,
+    workers: u32,
 ) -> Result<Vec<Result<DigestedImage, Reason>>, Stop>
     requires { made.items ≡ map (reading_by job.now.graph.now.rules job.now.graph.now.defined) inputs.items }
     ensures images { IfOk result (λ images. images.items ≡ map (image_of_input job.now.graph.now.rules job.now.graph.now.defined) inputs.entry.items) }
@@ -151,7 +154,7 @@ fn images_in(
 {
     let mut images = Vec::new(job.alloc);
     for (input, reading) in inputs.into_iter().zip(made) {
-        images.push(image_read(job, input, reading)?)?;
+        images.push(image_read(job, input, reading, workers > 1)?)?;
     }
     Ok(images)
 }
@@ -169,7 +172,7 @@ pub(crate) fn migrate_batch<'r, R: Threads + Sync, G: Gate + Sync>(
     ensures err { IfErr result (MovedIn inputs.entry.items) }
 {
     let made = map_batch(workers, job.alloc, &inputs, job)?;
-    images_in(job, inputs, made)
+    images_in(job, inputs, made, workers.count)
 }
 
 /// What `migrate_batch` gives for files that were read whole, and what `read_batch` gives for the next, which this thread reads
@@ -214,7 +217,7 @@ pub(crate) fn migrate_and_read<'r, R: Threads + Sync, F: Folders, G: Gate + Sync
         { read_batch(alloc, folders, from, next) },
     );
     let images = match made {
-        Ok(made) => images_in(job, inputs, made),
+        Ok(made) => images_in(job, inputs, made, workers.count),
         Err(Memory) => Err(Stop::Memory),
     };
     (images, read)

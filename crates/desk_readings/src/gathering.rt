@@ -55,7 +55,7 @@ impl MeasuredFiles {
         ensures few { OnOk result (length self.new.scanned.items ≤ length self.old.scanned.items + length slice.items) }
     {
         add_files(&mut self.files, slice, &found)?;
-        add_scanned(alloc, &mut self.scanned, found)
+        add_scanned(alloc, &mut self.scanned, &found)
     }
 
     /// Adds the files of a slice, which so many workers measure while this thread reads the next one.

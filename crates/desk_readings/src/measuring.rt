@@ -126,18 +126,18 @@ pub(crate) fn add_files(
     Ok(())
 }
 
-/// Adds what is kept of classes, copied: it is kept long, and what workers took for it is free for the next classes then.
-#[tactic(auto, using(crate::proofs::Scans::added_none))]
+/// Adds what is kept of classes, copied: it is kept long, and what workers took for it is free for the next classes once all of it
+/// is let go. (Where one were let go before the next is copied, the copy would take its memory.)
 pub(crate) fn add_scanned(
     alloc: Global,
     scanned: &mut Vec<Scanned>,
-    found: Vec<Measurement>,
+    found: &[Measurement],
 ) -> Result<(), Memory>
-    ensures classes { OnOk result (scanned.new.items ≡ scanned.old.items ++ all_scanned found.items) }
-    ensures few { OnOk result (length scanned.new.items ≤ length scanned.old.items + length found.items) }
+    ensures classes { OnOk result (scanned.new.items ≡ scanned.old.items ++ all_scanned found.now) }
+    ensures few { OnOk result (length scanned.new.items ≤ length scanned.old.items + length found.now) }
 {
     for one in found {
-        if let Some(class) = one.class {
+        if let Some(class) = &one.class {
             scanned.push(class.scanned.copied(alloc)?)?;
         }
     }
