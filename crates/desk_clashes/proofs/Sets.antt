@@ -1,20 +1,19 @@
 -- What sets of texts hold as they are filled and asked.
 use mathlib.Core.Bool.{or-true, or-false, and-false}
-use Rattle.std.proofs.Common.{◌≡◌, ℕ, zero, suc, ◌+◌, ◌<◌, ◌≤◌, Bool, true, false, cond, ◌||◌, ◌&&◌, eqb, List, [], ◌∷◌, ◌++◌, length, take, get_or, map, refl, sym, ap, ◌∙◌, arith}
+use Rattle.std.proofs.Common.{◌≡◌, ℕ, zero, suc, ◌+◌, ◌<◌, ◌≤◌, Bool, true, false, cond, ◌||◌, ◌&&◌, eqb, List, [], ◌∷◌, ◌++◌, length, take, get_or, map, Result, Ok, Err, OnOk, refl, sym, ap, ◌∙◌, arith}
 use Rattle.std.specs.List.{list_any}
 use Rattle.std.specs.Str.{bytes_eq}
-use Rattle.std.specs.Ordering.{nat_cmp}
-use Rattle.std.specs.Cmp.Lexicographic.{slice_cmp}
 use Rattle.std.specs.BTreeSet.{BTreeSet, Updates}
 use Rattle.std.proofs.lemmas.List.{take_more}
 use Rattle.std.proofs.lemmas.List.Folds.{list_any-append}
-use Rattle.std.proofs.lemmas.Map.Text.{is_eq-slice_cmp}
 use Rattle.std.proofs.lemmas.Bool.Decides.{nat_tests}
 use Rattle.std.proofs.lemmas.Cmp.{nat_list_eq_equiv}
 use Rattle.desk_base.specs.Names.{Text, slash}
 use Rattle.desk_base.proofs.Bools.{cond_or}
+use Rattle.desk_class.specs.Marks.{marked_cmp}
+use Rattle.desk_class.specs.MarkOrder.{marked_tie}
 use Rattle.desk_clashes.specs.Clashes.{clashes, is_folder}
-use Rattle.desk_clashes.specs.Known.{TextRef, holds, folders_of, Knows}
+use Rattle.desk_clashes.specs.Known.{holds, folders_of, Knows}
 use Rattle.desk_clashes.proofs.Folders.{folders_of-push, folder_long, any_swapped, any_clash, list_any-same}
 
 eqb_at : (x : ℕ) → x ≡ slash → eqb x slash ≡ true
@@ -31,11 +30,21 @@ pub folder_not_at : (a b : Text) → length a < length b → (get_or b (length a
 folder_not_at a b h n = eqb_not (get_or b (length a) 0) n ∙ sym (ap (λ v. v && bytes_eq (take (length a) b) a) (eqb_not (get_or b (length a) 0) n)) ∙ sym (folder_long a b h)
 
 -- a text was put into a set
-pub put_holds : (old new : BTreeSet TextRef) (t : TextRef) (q : Text) → Updates (λ (x y : TextRef). slice_cmp nat_cmp x.now y.now) old new t true → holds new q ≡ (bytes_eq q t.now || holds old q)
-put_holds old new t q u =
-    u.0 (record { ref_ptr = (0, 0); now = q })
-    ∙ ap (λ b. cond b true (holds old q)) (is_eq-slice_cmp t.now q ∙ nat_list_eq_equiv.symm t.now q)
-    ∙ cond_or (bytes_eq q t.now) (holds old q)
+pub put_holds : (old new : BTreeSet Text) (t q : Text) → Updates marked_cmp old new t true → holds new q ≡ (bytes_eq q t || holds old q)
+put_holds old new t q u = u.0 q ∙ ap (λ b. cond b true (holds old q)) (marked_tie t q ∙ nat_list_eq_equiv.symm t q) ∙ cond_or (bytes_eq q t) (holds old q)
+
+-- what follows of an answer holds where it was given
+pub on_ok : {X E : Type 0} (r : Result X E) {P Q : Type 0} → (P → Q) → OnOk r P → OnOk r Q
+on_ok (Ok x) f p = f p
+on_ok (Err e) f p = tt
+
+-- one target more was seen
+pub seen_more : (names folders more nested : BTreeSet Text) (t : Text) → ((q : Text) → holds more q ≡ (bytes_eq q t || holds names q)) → ((q : Text) → holds nested q ≡ (is_folder q t || holds folders q))
+    → (seen : List Text) → Knows names folders seen → Knows more nested (t ∷ seen)
+seen_more names folders more nested t put put_folders seen known = record {
+  named = λ q. put q ∙ ap (λ b. bytes_eq q t || b) (known.named q);
+  nested = λ q. put_folders q ∙ ap (λ b. is_folder q t || b) (known.nested q);
+}
 
 folders_more : (t : Text) (i : ℕ) → i < length t → folders_of (take (i + 1) t) ≡ folders_of (take i t) ++ cond (eqb (get_or t i 0) slash) (take i t ∷ []) []
 folders_more t i h = ap folders_of (take_more t i 0 h) ∙ folders_of-push (take i t) (get_or t i 0)
@@ -90,7 +99,7 @@ any_front p (b ∷ bs) (suc i) h e f =
     ∙ or-true (list_any p (cond (eqb b slash) ([] ∷ []) []))
 
 -- what is looked up of a target says whether it clashes with one that was seen
-pub meets_all : (names folders : BTreeSet TextRef) (t : Text) (seen : List Text) → Knows names folders seen → (holds names t || (holds folders t || list_any (holds names) (folders_of t))) ≡ list_any (clashes t) seen
+pub meets_all : (names folders : BTreeSet Text) (t : Text) (seen : List Text) → Knows names folders seen → (holds names t || (holds folders t || list_any (holds names) (folders_of t))) ≡ list_any (clashes t) seen
 meets_all names folders t seen k =
     ap (λ v. v || (holds folders t || list_any (holds names) (folders_of t))) (k.named t)
     ∙ ap (λ v. list_any (bytes_eq t) seen || (v || list_any (holds names) (folders_of t))) (k.nested t)
@@ -98,14 +107,14 @@ meets_all names folders t seen k =
     ∙ any_clash t seen
 
 -- an answer that is known before all is looked up
-pub meets_name : (names folders : BTreeSet TextRef) (t : Text) (seen : List Text) → Knows names folders seen → holds names t ≡ true → true ≡ list_any (clashes t) seen
+pub meets_name : (names folders : BTreeSet Text) (t : Text) (seen : List Text) → Knows names folders seen → holds names t ≡ true → true ≡ list_any (clashes t) seen
 meets_name names folders t seen k e = sym (ap (λ v. v || (holds folders t || list_any (holds names) (folders_of t))) e) ∙ meets_all names folders t seen k
 
-pub meets_folder : (names folders : BTreeSet TextRef) (t : Text) (seen : List Text) → Knows names folders seen → holds names t ≡ false → holds folders t ≡ true → true ≡ list_any (clashes t) seen
+pub meets_folder : (names folders : BTreeSet Text) (t : Text) (seen : List Text) → Knows names folders seen → holds names t ≡ false → holds folders t ≡ true → true ≡ list_any (clashes t) seen
 meets_folder names folders t seen k e f =
     sym (ap (λ v. v || (holds folders t || list_any (holds names) (folders_of t))) e ∙ ap (λ v. v || list_any (holds names) (folders_of t)) f) ∙ meets_all names folders t seen k
 
-pub meets_below : (names folders : BTreeSet TextRef) (t : Text) (seen : List Text) → Knows names folders seen → holds names t ≡ false → holds folders t ≡ false → list_any (holds names) (folders_of t) ≡ list_any (clashes t) seen
+pub meets_below : (names folders : BTreeSet Text) (t : Text) (seen : List Text) → Knows names folders seen → holds names t ≡ false → holds folders t ≡ false → list_any (holds names) (folders_of t) ≡ list_any (clashes t) seen
 meets_below names folders t seen k e f =
     sym (ap (λ v. v || (holds folders t || list_any (holds names) (folders_of t))) e ∙ ap (λ v. v || list_any (holds names) (folders_of t)) f) ∙ meets_all names folders t seen k
 

@@ -2,11 +2,10 @@
 use Rattle.std.specs.Prelude.{◌≡◌, ℕ, Bool, ◌+◌, ◌==◌, List, [], ◌∷◌, ◌++◌, Option, Some, None, cond, map, slice_index_or}
 use Rattle.std.specs.List.{list_any}
 use Rattle.std.specs.Str.{bytes_eq}
-use Rattle.std.specs.Ordering.{nat_cmp}
-use Rattle.std.specs.Cmp.Lexicographic.{slice_cmp}
-use Rattle.std.specs.BTreeSet.{BTreeSet, contains_by}
+use Rattle.std.specs.BTreeSet.{BTreeSet, contains}
 use denote.Ref.{Bor}
 use Rattle.desk_base.specs.Names.{Text, slash}
+use Rattle.desk_class.specs.Marks.{marked_cmp}
 use Rattle.desk_clashes.specs.Clashes.{clashes, is_folder}
 
 -- a reference to a text
@@ -22,8 +21,8 @@ abbrev pub name_at : List TextRef → ℕ → Text
 name_at targets place = slice_index_or (names_of targets) place []
 
 -- whether a set holds a text
-abbrev pub holds : BTreeSet TextRef → Text → Bool
-holds set text = contains_by (λ k. slice_cmp nat_cmp text k.now) set
+abbrev pub holds : BTreeSet Text → Text → Bool
+holds = contains marked_cmp
 
 -- the folders of a text, shortest first
 abbrev pub folders_of : Text → List Text
@@ -31,7 +30,7 @@ folders_of [] = []
 folders_of (b ∷ bs) = cond (b == slash) ([] ∷ []) [] ++ map (λ folder. b ∷ folder) (folders_of bs)
 
 -- one set holds these targets, and one their folders
-pub record Knows (names folders : BTreeSet TextRef) (targets : List Text) : Type 0 where
+pub record Knows (names folders : BTreeSet Text) (targets : List Text) : Type 0 where
   pub named : (q : Text) → holds names q ≡ list_any (bytes_eq q) targets
   pub nested : (q : Text) → holds folders q ≡ list_any (is_folder q) targets
 

@@ -7,26 +7,27 @@ ghost use Rattle.desk_clashes.specs.Clashes.{clashes, is_folder};
 ghost use Rattle.desk_clashes.specs.Known.{holds, folders_of, Knows};
 
 use desk_base::Memory;
+use desk_class::Marked;
 use std::alloc::Global;
 use std::collections::BTreeSet;
 
 /// Whether a set holds a text.
-fn holds<'a>(set: &BTreeSet<&'a [u8]>, text: &'a [u8]) -> bool
+fn holds<'a>(set: &BTreeSet<Marked<'a>>, text: &'a [u8]) -> bool
     ensures { result ≡ holds set.now text.now }
 {
-    set.contains(&text)
+    set.contains(&Marked::new(text))
 }
 
 /// Puts a text into a set.
-fn put<'a>(set: &mut BTreeSet<&'a [u8]>, text: &'a [u8]) -> Result<(), Memory>
+fn put<'a>(set: &mut BTreeSet<Marked<'a>>, text: &'a [u8]) -> Result<(), Memory>
     ensures { OnOk result ((q : List ℕ) → holds set.new q ≡ (bytes_eq q text.now || holds set.old q)) }
 {
-    set.insert(text)?;
+    set.insert(Marked::new(text))?;
     Ok(())
 }
 
 /// Puts the folders of a text into a set.
-fn put_folders<'a>(set: &mut BTreeSet<&'a [u8]>, text: &'a [u8]) -> Result<(), Memory>
+fn put_folders<'a>(set: &mut BTreeSet<Marked<'a>>, text: &'a [u8]) -> Result<(), Memory>
     ensures { OnOk result ((q : List ℕ) → holds set.new q ≡ (is_folder q text.now || holds set.old q)) }
 {
     for (place, byte) in text.iter().enumerate() {
@@ -38,7 +39,7 @@ fn put_folders<'a>(set: &mut BTreeSet<&'a [u8]>, text: &'a [u8]) -> Result<(), M
 }
 
 /// Whether a set holds a folder of a text.
-fn holds_folder<'a>(set: &BTreeSet<&'a [u8]>, text: &'a [u8]) -> bool
+fn holds_folder<'a>(set: &BTreeSet<Marked<'a>>, text: &'a [u8]) -> bool
     ensures { result ≡ list_any (holds set.now) (folders_of text.now) }
 {
     for (place, byte) in text.iter().enumerate() {
@@ -49,11 +50,11 @@ fn holds_folder<'a>(set: &BTreeSet<&'a [u8]>, text: &'a [u8]) -> bool
     false
 }
 
-/// Targets that were seen, and the folders of each.
+/// Targets that were seen, and the folders of each. They are told apart by their marks, since targets of one folder begin alike.
 #[derive(Drop)]
 pub(crate) struct SeenTargets<'a> {
-    names: BTreeSet<&'a [u8]>,
-    folders: BTreeSet<&'a [u8]>,
+    names: BTreeSet<Marked<'a>>,
+    folders: BTreeSet<Marked<'a>>,
 }
 
 impl<'a> SeenTargets<'a> {
