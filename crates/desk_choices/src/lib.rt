@@ -1,6 +1,6 @@
 //! What the program around the desk chooses by values alone, each exact: what ends in which status, which rule file a rule stands in,
-//! whether a stream leads into a file, and the lines of what is told behind a run. So little is asked of the system here (the
-//! descriptor that a folder gets, bytes that go on to a sink), and what is read and written is the work of the crates above.
+//! whether a stream leads into a file, and the lines of what is told behind a run. Little is asked of the system here (the
+//! descriptor that a folder gets, bytes that go on to a sink); what is read and written is the work of the crates above.
 //!
 //! ```text
 //! exit_of(&status)                                         // the exit status that tells a status
