@@ -1,6 +1,6 @@
 -- The run over a generated application: its files, its roots and its totals.
 use Rattle.std.proofs.Common.{◌≡◌, ℕ, true, List, [], ◌∷◌, ◌++◌, Option, Some, None, refl, sym, ap, ◌∙◌, subst, map, Result, Ok, Err}
-use Rattle.std.specs.Prelude.{IfOk, IsOkAnd, codes}
+use Rattle.std.specs.Prelude.{IfSome, IsOkAnd, codes}
 use Rattle.std.specs.List.{list_all}
 use Rattle.std.specs.FinMap as fin
 use Rattle.std.proofs.lemmas.Bool.{and_parts, and_from, or_left}
@@ -12,12 +12,12 @@ use Rattle.desk_folders.specs.InMemory.{filled}
 use Rattle.desk_gen.specs.Application.{generated, rule_file}
 use Rattle.desk_ledger.specs.Ledger.{Ledger}
 use Rattle.desk_report.specs.declared.lines.Summary.{Summary}
-use Rattle.desk_words.specs.declared.roots.Roots.{Roots}
 use Rattle.desk_run.specs.Asked.{asked_roots}
 use Rattle.desk_run.specs.Meaning.{Meant, run_of_asked}
 use Rattle.desk_run.specs.Reports.{summary_of}
-use Rattle.desk_run.specs.Endings.{WhereTold}
 use Rattle.desk_run.specs.Generated.{placed, generated_roots, generated_files, generated_contents, generated_totals, totals_by}
+use Rattle.desk_run.specs.GeneratedSql.{CompletesGenerated}
+use Rattle.desk_run.proofs.Promised.{ok_map}
 
 -- paths below `in` and below `rules`
 below_in : (path : Text) → is_relative_path path ≡ true → is_full_path (full (codes "in") path) ≡ true
@@ -44,21 +44,10 @@ ok_totals : (m : Contents) (r : Meant) (totals : Summary) → IsOkAnd r (λ run.
 ok_totals m (Ok run) totals e = ap Ok (sym e)
 ok_totals m (Err answer) totals e = absurd e
 
--- the totals of the run over what the folders hold
-pub totals_told : (n : ℕ) (files : List GenFile) (roots : Roots) (totals : Summary) → files ≡ generated_files n → roots ≡ generated_roots
-    → WhereTold (Some (filled files fin.empty)) (Some (record { header = None; rows = fin.empty })) (λ m l. IsOkAnd (run_of_asked (asked_roots roots) m) (λ run. totals ≡ summary_of run l.rows (files_below run.from m)))
-    → generated_totals n ≡ Ok totals
-totals_told n files roots totals e f w =
-    let P : Contents → Roots → Type 0 = λ m r. IsOkAnd (run_of_asked (asked_roots r) m) (λ run. totals ≡ summary_of run fin.empty (files_below run.from m)) in
-    let h : P (filled files fin.empty) roots = w (filled files fin.empty) (record { header = None; rows = fin.empty }) refl refl in
-    let g : P (generated_contents n) generated_roots = subst (λ r. P (generated_contents n) r) f (subst (λ m. P m roots) (ap (λ xs. filled xs fin.empty) e ∙ contents_are n) h) in
-    ok_totals (generated_contents n) (run_of_asked (asked_roots generated_roots) (generated_contents n)) totals g
-
-pub totals_found : {E : Type 0} (n : ℕ) (files : List GenFile) (roots : Roots) (f : Option Contents) (k : Option Ledger) (r : Result Summary E) → files ≡ generated_files n → roots ≡ generated_roots
-    → f ≡ Some (filled files fin.empty) → k ≡ Some (record { header = None; rows = fin.empty })
-    → IfOk r (λ totals. WhereTold f k (λ m l. IsOkAnd (run_of_asked (asked_roots roots) m) (λ run. totals ≡ summary_of run l.rows (files_below run.from m))))
-    → IfOk r (λ totals. generated_totals n ≡ Ok totals)
-totals_found n files roots f k (Ok totals) e s ef ek w =
-    let P : Option Contents → Option Ledger → Type 0 = λ f k. WhereTold f k (λ m l. IsOkAnd (run_of_asked (asked_roots roots) m) (λ run. totals ≡ summary_of run l.rows (files_below run.from m))) in
-    totals_told n files roots totals e s (subst (λ f. P f (Some (record { header = None; rows = fin.empty }))) ef (subst (λ k. P f k) ek w))
-totals_found n files roots f k (Err stop) e s ef ek w = tt
+-- the totals of the run whose rows go into an empty ledger
+pub totals_told : (n : ℕ) (k0 k : Option Ledger) (totals : Summary) → k0 ≡ Some (record { header = None; rows = fin.empty })
+    → IfSome k0 (λ l0. CompletesGenerated n l0 k (λ t. totals ≡ t)) → generated_totals n ≡ Ok totals
+totals_told n k0 k totals e w =
+    let h : CompletesGenerated n (record { header = None; rows = fin.empty }) k (λ t. totals ≡ t) = subst (λ k0. IfSome k0 (λ l0. CompletesGenerated n l0 k (λ t. totals ≡ t))) e w in
+    let r : Meant = run_of_asked (asked_roots generated_roots) (generated_contents n) in
+    ok_totals (generated_contents n) r totals (ok_map r _ _ (λ run done. done.1) h.holds.run)

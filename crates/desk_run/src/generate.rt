@@ -73,24 +73,6 @@ fn files_in_memory(alloc: Global, roots: &Roots, count: u32) -> Result<Vec<GenFi
     }
 }
 
-/// The totals of the run over a generated application of so many classes, by so many workers.
-fn totals<R: Threads + Sync, G: Gate + Sync>(
-    workers: &Workers<'_, R, G>,
-    alloc: Global,
-    count: u32,
-) -> Result<Summary, Memory>
-    ensures { IfOk result (λ totals. generated_totals count ≡ Ok totals) }
-{
-    let roots = roots_in_memory(alloc)?;
-    let files = files_in_memory(alloc, &roots, count)?;
-    let mut folders = MemoryFolders::new(alloc, files, Vec::new(alloc))?;
-    let mut keeper = MemoryKeeper::new(alloc, Vec::new(alloc))?;
-    match totals_of_run(workers, alloc, &roots, &mut folders, &mut keeper) {
-        Ok(totals) => Ok(totals),
-        Err(_) => Err(Memory),
-    }
-}
-
 /// The folders of the run: the application below `in`, and its rule file below `rules`.
 fn folders_in_memory(alloc: Global, roots: &Roots, count: u32) -> Result<MemoryFolders, Memory>
     requires { roots.now ≡ generated_roots }
@@ -142,6 +124,22 @@ fn totals_kept<R: Threads + Sync, K: Keeper, G: Gate + Sync>(
             kept_totals(totals_of_run(workers, alloc, roots, &mut folders, keeper))
         }
         Err(Memory) => Err(Status::Memory),
+    }
+}
+
+/// The totals of the run over a generated application of so many classes, by so many workers.
+fn totals<R: Threads + Sync, G: Gate + Sync>(
+    workers: &Workers<'_, R, G>,
+    alloc: Global,
+    count: u32,
+) -> Result<Summary, Memory>
+    ensures { IfOk result (λ totals. generated_totals count ≡ Ok totals) }
+{
+    let roots = roots_in_memory(alloc)?;
+    let mut keeper = MemoryKeeper::new(alloc, Vec::new(alloc))?;
+    match totals_kept(workers, alloc, count, &roots, &mut keeper) {
+        Ok(totals) => Ok(totals),
+        Err(_) => Err(Memory),
     }
 }
 
