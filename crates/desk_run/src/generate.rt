@@ -132,12 +132,13 @@ fn totals<R: Threads + Sync, G: Gate + Sync>(
     workers: &Workers<'_, R, G>,
     alloc: Global,
     count: u32,
+    roots: &Roots,
 ) -> Result<Summary, Memory>
+    requires { roots.now ≡ generated_roots }
     ensures { IfOk result (λ totals. generated_totals count ≡ Ok totals) }
 {
-    let roots = roots_in_memory(alloc)?;
-    let mut keeper = MemoryKeeper::new(alloc, Vec::new(alloc))?;
-    match totals_kept(workers, alloc, count, &roots, &mut keeper) {
+    let mut keeper = Box::new(alloc, MemoryKeeper::new(alloc, Vec::new(alloc))?)?;
+    match totals_kept(workers, alloc, count, roots, &mut *keeper) {
         Ok(totals) => Ok(totals),
         Err(_) => Err(Memory),
     }
@@ -193,10 +194,13 @@ pub(crate) fn run_generated<R: Threads + Sync, O: Sink, G: Gate + Sync>(
     ensures causes { HasCauses (Err (λ m l. Done)) None result 0 0 0 0 (O.faults out.old) (O.faults out.new) }
     ensures counts { O.faults out.old ≤ O.faults out.new }
 {
-    match totals(workers, alloc, count) {
-        Ok(totals) => match write_summary(&totals, out) {
-            Ok(()) => Status::Done,
-            Err(_) => Status::OutputFault,
+    match roots_in_memory(alloc) {
+        Ok(roots) => match totals(workers, alloc, count, &roots) {
+            Ok(totals) => match write_summary(&totals, out) {
+                Ok(()) => Status::Done,
+                Err(_) => Status::OutputFault,
+            },
+            Err(Memory) => Status::Memory,
         },
         Err(Memory) => Status::Memory,
     }
