@@ -4,14 +4,13 @@ ghost use Rattle.std.specs.Prelude.{◌≡◌};
 ghost use Rattle.std.specs.List.{list_all};
 ghost use Rattle.desk_base.specs.Paths.{is_full_path};
 
-use crate::ledgers::Ledger;
-use crate::places::{Change, ChangingFolders};
 use crate::scene::Scene;
 use crate::words::{number_of, numbers_of, text_of};
 use crate::written::{class_of, say};
 use desk_base::{Memory, Text};
 use desk_folders::{GenFile, MemoryFolders, is_full};
 use std::alloc::Global;
+use test_doubles::{Change, ChangingFolders, Ledger};
 
 /// How many bytes an output has room for, where nothing else is said.
 pub const ROOM: u32 = 10_000;

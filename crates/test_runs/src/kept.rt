@@ -1,7 +1,7 @@
 //! What a run left, kept to be compared with what others leave.
 
 use crate::scene::{RESULTS, Scene};
-use crate::written::{say, write_content};
+use crate::written::{say, write_content, write_header, write_row};
 use desk_base::{Memory, Text};
 use desk_ledger::{Digest, digest_of};
 use test_cases::Shown;
@@ -59,11 +59,27 @@ impl Scene<'_> {
             writeln!(out, "{}", Shown(path.as_bytes()))?;
             write_content(self.folders.content(path.as_bytes()), out)?;
         }
-        self.ledger.write_header(self.alloc, out)?;
+        self.write_header(out)?;
         for target in self.targets()?.as_slice() {
-            self.ledger.write_row(self.alloc, target, out)?;
+            self.write_row(target, out)?;
         }
         Ok(())
+    }
+
+    /// Answers the header of the ledger.
+    fn write_header(&mut self, out: &mut String) -> Result<(), Memory> {
+        match self.ledger.header_of(self.alloc)? {
+            Some(header) => write_header(&header, out),
+            None => say(out, "no header"),
+        }
+    }
+
+    /// Answers the row of a target.
+    pub fn write_row(&mut self, target: &Text, out: &mut String) -> Result<(), Memory> {
+        match self.ledger.row_of(self.alloc, target)? {
+            Some(row) => write_row(&row, out),
+            None => say(out, "no row"),
+        }
     }
 
     /// What runs left, written out.

@@ -40,7 +40,7 @@ impl Scene<'_> {
         match (look, words) {
             (Look::Content, [path]) => write_content(self.folders.content(path.as_bytes()), out),
             (Look::Targets, []) => self.write_targets(out),
-            (Look::Row, [target]) => self.ledger.write_row(self.alloc, target, out),
+            (Look::Row, [target]) => self.write_row(target, out),
             (Look::AtOnce, []) => Ok(writeln!(out, "  {}", self.at_once)?),
             (Look::FirstFormat, targets) => self.take_over(targets),
             _ => say(out, "other words are wanted"),

@@ -21,12 +21,9 @@
 mod beginning;
 mod case;
 mod commands;
-mod gates;
 mod interrupts;
 mod kept;
-mod ledgers;
 mod looks;
-mod places;
 mod scene;
 mod tasks;
 mod words;

@@ -1,14 +1,12 @@
 //! Folders and a ledger, and how the last run over them ended.
 
-use crate::gates::Pairs;
-use crate::ledgers::Ledger;
-use crate::places::ChangingFolders;
 use desk_base::{Memory, Text};
 use desk_report::MemorySink;
 use desk_run::{Request, desk};
 use std::alloc::Global;
 use std::str;
 use std::thread::Threads;
+use test_doubles::{ChangingFolders, Ledger, Pairs};
 
 /// The folder for results, with the `/` behind it.
 pub const RESULTS: &[u8] = b"out/";

@@ -1,6 +1,5 @@
 //! A ledger in memory, whose commits may fail.
 
-use crate::written::{say, write_header, write_row};
 use desk_base::{Memory, Text};
 use desk_ledger::{Header, Keeper, KeeperFault, MemoryKeeper, OldRow, Row};
 use std::alloc::Global;
@@ -25,7 +24,8 @@ impl Ledger {
         Ok(Box::new(alloc, ledger)?)
     }
 
-    /// A ledger without rows, of which these calls fail, and each commit where that is asked.
+    /// A ledger without rows, of which the calls of these numbers fail, counted from 0, and each commit where that is asked. The only
+    /// error is want of memory.
     pub fn new(
         alloc: Global,
         failing: Vec<u64>,
@@ -44,19 +44,20 @@ impl Ledger {
         self.keeper.mend();
     }
 
-    /// The header, if there is one; none where the ledger fails.
-    fn header_of(&mut self, alloc: Global) -> Result<Option<Header>, Memory> {
+    /// The header, if there is one; none where the ledger fails. The only error is want of memory.
+    pub fn header_of(&mut self, alloc: Global) -> Result<Option<Box<Header>>, Memory> {
         let name = Text::from_bytes(alloc, b"l")?;
         if let Err(fault) = self.attach(&name) {
             return none_of(fault);
         }
         match self.header() {
-            Ok(header) => Ok(header),
+            Ok(Some(header)) => Ok(Some(Box::new(alloc, header)?)),
+            Ok(None) => Ok(None),
             Err(fault) => none_of(fault),
         }
     }
 
-    /// The row of a target, if there is one; none where the ledger fails.
+    /// The row of a target, if there is one; none where the ledger fails. The only error is want of memory.
     pub fn row_of(&mut self, alloc: Global, target: &Text) -> Result<Option<Box<Row>>, Memory> {
         let name = Text::from_bytes(alloc, b"l")?;
         if let Err(fault) = self.attach(&name) {
@@ -69,7 +70,7 @@ impl Ledger {
         }
     }
 
-    /// The ledger with the rows of these targets, taken over from the first format.
+    /// A ledger with the rows of these targets, as the first format had them, and this one's header. The only error is want of memory.
     pub fn first_format(&mut self, alloc: Global, targets: &[Text]) -> Result<Box<Ledger>, Memory> {
         let mut rows = Vec::new(alloc);
         for target in targets {
@@ -77,33 +78,15 @@ impl Ledger {
                 rows.push(old_row(Box::into_inner(row)))?;
             }
         }
-        let header = self.header_of(alloc)?;
+        let header = match self.header_of(alloc)? {
+            Some(header) => Some(Box::into_inner(header)),
+            None => None,
+        };
         Ledger::of(
             alloc,
             MemoryKeeper::from_format_1(alloc, header, rows)?,
             false,
         )
-    }
-
-    /// Answers the header.
-    pub fn write_header(&mut self, alloc: Global, out: &mut String) -> Result<(), Memory> {
-        match self.header_of(alloc)? {
-            Some(header) => write_header(&header, out),
-            None => say(out, "no header"),
-        }
-    }
-
-    /// Answers the row of a target.
-    pub fn write_row(
-        &mut self,
-        alloc: Global,
-        target: &Text,
-        out: &mut String,
-    ) -> Result<(), Memory> {
-        match self.row_of(alloc, target)? {
-            Some(row) => write_row(&row, out),
-            None => say(out, "no row"),
-        }
     }
 }
 
