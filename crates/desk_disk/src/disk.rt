@@ -8,8 +8,8 @@ ghost use Rattle.std.specs.Cmp.Lexicographic.{slice_cmp};
 ghost use Rattle.desk_base.specs.Paths.{is_relative_path};
 ghost use Rattle.desk_base.specs.Counts.{Rose};
 
-use crate::guard::{known_end, last_folder};
-use crate::open::{Reading, Writing, size_of, text_of};
+use crate::guard::{known_end, last_folder, start_of};
+use crate::open::{Reading, Writing, make_parents, size_of, text_of};
 use crate::progress::Progress;
 use crate::walk::{Below, Stopped, files_below, first_of};
 use desk_base::{Text, TextList};
@@ -198,23 +198,33 @@ impl<'r> DiskFolders<'r> {
         Writing::open(self.rt, path)
     }
 
-    /// Looks for a link in place of a folder between the target and a path, and for one that is read. A folder on the way to the one that
-    /// was found last isn't looked at again.
-    fn look(&mut self, path: &Text) -> Result<(), Refusal>
+    /// Keeps the folder that ends at a byte of a path as the one that was found last.
+    fn note_found(&mut self, path: &Text, end: usize) -> Result<(), Refusal>
         ensures { self.new ≡ self.old }
     {
-        let Some(target) = &self.target else {
-            return Ok(());
-        };
-        let known = known_end(self.found.as_bytes(), path.as_bytes());
-        if folder_of(path.as_bytes()).len() < known {
-            return Ok(());
-        }
-        let read = &self.apart.read;
-        let end = last_folder(self.rt, text_of(target)?, text_of(path)?, known, read)?;
         let folder = path.as_bytes().get(..end).unwrap_or_default();
         self.found = Text::from_bytes(self.rt.alloc(), folder)?;
         Ok(())
+    }
+
+    /// Looks for a link in place of a folder between the target and a path, and for one that is read. A folder on the way to the one that
+    /// was found last isn't looked at again. The answer is whether a folder on the way was missing.
+    fn look(&mut self, path: &Text) -> Result<bool, Refusal>
+        ensures { self.new ≡ self.old }
+    {
+        let Some(target) = &self.target else {
+            return Ok(false);
+        };
+        let folder = folder_of(path.as_bytes()).len();
+        let known = known_end(self.found.as_bytes(), path.as_bytes());
+        if folder < known {
+            return Ok(false);
+        }
+        let root = text_of(target)?;
+        let is_below = start_of(root) < folder;
+        let end = last_folder(self.rt, root, text_of(path)?, known, &self.apart.read)?;
+        self.note_found(path, end)?;
+        Ok(is_below && end < folder)
     }
 
     /// How many bytes the file at a path has.
@@ -231,7 +241,10 @@ impl<'r> DiskFolders<'r> {
     {
         self.reading = None;
         self.writing = None;
-        self.look(path)?;
+        if self.look(path)? {
+            make_parents(self.rt, text_of(path)?)?;
+            self.note_found(path, folder_of(path.as_bytes()).len())?;
+        }
         let file = Writing::create(self.rt, &self.target, path)?;
         self.progress.note_made(self.rt);
         self.writing = Some(file);

@@ -212,9 +212,9 @@ impl Reading {
 }
 
 /// Makes the folders on the way to a path.
-fn make_parents(rt: &HostRuntime, path: &str) -> io::Result<()> {
+pub(crate) fn make_parents(rt: &HostRuntime, path: &str) -> Result<(), Refusal> {
     match Path::new(path).parent() {
-        Some(parent) => fs::create_dir_all(rt, parent),
+        Some(parent) => fs::create_dir_all(rt, parent).map_err(fault_of),
         None => Ok(()),
     }
 }
@@ -232,9 +232,7 @@ fn create_anew(rt: &HostRuntime, root: Option<&str>, path: &str) -> Result<File,
     match File::create_new(rt, path) {
         Ok(file) => return Ok(file),
         Err(error) if error.kind() == ErrorKind::AlreadyExists => take_away(rt, root, path)?,
-        Err(error) if error.kind() == ErrorKind::NotFound => {
-            make_parents(rt, path).map_err(fault_of)?;
-        }
+        Err(error) if error.kind() == ErrorKind::NotFound => make_parents(rt, path)?,
         Err(error) => return Err(fault_of(error)),
     }
     File::create_new(rt, path).map_err(fault_of)
