@@ -1,11 +1,15 @@
 -- Folders of texts.
-use mathlib.Core.Bool.{and-false}
-use Rattle.std.proofs.Common.{◌≡◌, ℕ, ◌<◌, Bool, true, false, cond, ◌||◌, ◌&&◌, eqb, List, [], ◌∷◌, ◌++◌, length, take, get_or, map, refl, sym, ap, ◌∙◌, append_assoc, arith}
+use mathlib.Core.Bool.{and-false, true≢false}
+use Rattle.std.proofs.Common.{◌≡◌, ℕ, ◌<◌, Bool, true, false, cond, ◌||◌, ◌&&◌, eqb, List, [], ◌∷◌, ◌++◌, length, take, drop, get_or, map, refl, sym, ap, ◌∙◌, append_assoc, length-append, arith}
 use Rattle.std.specs.List.{list_any}
 use Rattle.std.specs.Str.{bytes_eq}
-use Rattle.std.proofs.lemmas.List.{append-nil, map-append}
-use Rattle.std.proofs.lemmas.List.Folds.{list_any-append}
+use Rattle.std.proofs.lemmas.Bool.{false_from_ne_true}
+use Rattle.std.proofs.lemmas.Bool.Decides.{Decides-eqb}
 use Rattle.std.proofs.lemmas.Cmp.{nat_list_eq_equiv, nat_eq_equiv}
+use Rattle.std.proofs.lemmas.List.{append-nil, map-append}
+use Rattle.std.proofs.lemmas.List.Folds.{list_any-append, list_any_none}
+use Rattle.std.proofs.lemmas.Map.Views.{All-from_any}
+use Rattle.std.proofs.lemmas.Slice.Eq.{bytes_eq-Decides, starts_is}
 use Rattle.desk_base.specs.Names.{Text, slash}
 use Rattle.desk_clashes.specs.Clashes.{clashes, is_folder}
 use Rattle.desk_clashes.specs.Known.{folders_of}
@@ -105,3 +109,44 @@ pub any_clash : (t : Text) (ts : List Text) → (list_any (bytes_eq t) ts || (li
 any_clash t ts =
     ap (λ v. list_any (bytes_eq t) ts || v) (sym (list_any-or (is_folder t) (λ u. is_folder u t) ts))
     ∙ sym (list_any-or (bytes_eq t) (λ u. is_folder t u || is_folder u t) ts)
+
+-- what stands behind a folder
+folder_split : (folder path : Text) → is_folder folder path ≡ true → (rest : Text) × (path ≡ folder ++ slash ∷ rest)
+folder_split folder path e =
+    let rest : Text = drop (length (folder ++ slash ∷ [])) path in
+    (rest, (starts_is Decides-eqb path (folder ++ slash ∷ []) (is_folder folder path) refl).0 e ∙ append_assoc folder (slash ∷ []) rest)
+
+folder_joined : (folder rest : Text) → is_folder folder (folder ++ slash ∷ rest) ≡ true
+folder_joined folder rest =
+    (starts_is Decides-eqb (folder ++ slash ∷ rest) (folder ++ slash ∷ []) (is_folder folder (folder ++ slash ∷ rest)) refl).1 rest (sym (append_assoc folder (slash ∷ []) rest))
+
+pub folder_shorter : (folder path : Text) → is_folder folder path ≡ true → length folder < length path
+folder_shorter folder path e =
+    let split : (rest : Text) × (path ≡ folder ++ slash ∷ rest) = folder_split folder path e in
+    omega (arith, ap length split.1, length-append folder (slash ∷ split.0))
+
+-- a folder of a folder is one
+pub folder_of_folder : (outer folder path : Text) → is_folder outer folder ≡ true → is_folder folder path ≡ true → is_folder outer path ≡ true
+folder_of_folder outer folder path e f =
+    let above : (rest : Text) × (folder ≡ outer ++ slash ∷ rest) = folder_split outer folder e in
+    let below : (rest : Text) × (path ≡ folder ++ slash ∷ rest) = folder_split folder path f in
+    ap (is_folder outer) (below.1 ∙ ap (λ (t : Text). t ++ slash ∷ below.0) above.1 ∙ append_assoc outer (slash ∷ above.0) (slash ∷ below.0))
+    ∙ folder_joined outer (above.0 ++ slash ∷ below.0)
+
+-- what passes a test passes a weaker one
+pub any_weaker : {X : Type 0} (p q : X → Bool) (xs : List X) → ((x : X) → p x ≡ true → q x ≡ true) → list_any p xs ≡ true → list_any q xs ≡ true
+any_weaker p q [] f e = e
+any_weaker p q (x ∷ xs) f e = by (p x) (q x) (f x) (any_weaker p q xs f) e where
+  by : (a b : Bool) → (a ≡ true → b ≡ true) → (list_any p xs ≡ true → list_any q xs ≡ true) → (a || list_any p xs) ≡ true → (b || list_any q xs) ≡ true
+  by true b g ih h = ap (λ v. v || list_any q xs) (g refl)
+  by false true g ih h = refl
+  by false false g ih h = ih h
+
+-- where each folder of a text fails a test, none passes it
+pub no_folder : (p : Text → Bool) (t : Text) → ((q : Text) → is_folder q t ≡ true → p q ≡ false) → list_any p (folders_of t) ≡ false
+no_folder p t f = list_any_none p (folders_of t) (All-from_any nat_list_eq_equiv (λ q. p q ≡ false) (folders_of t) (λ q e. f q (sym (any_folder q t) ∙ e)))
+
+-- where none passes a test, each folder fails it
+pub folder_fails : (p : Text → Bool) (t q : Text) → list_any p (folders_of t) ≡ false → is_folder q t ≡ true → p q ≡ false
+folder_fails p t q none inside =
+    false_from_ne_true (p q) (λ e. true≢false (sym (any_weaker (bytes_eq q) p (folders_of t) (λ folder same. ap p (sym ((bytes_eq-Decides q folder).0 same)) ∙ e) (any_folder q t ∙ inside)) ∙ none))

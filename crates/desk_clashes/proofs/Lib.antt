@@ -1,3 +1,4 @@
 pub mod Folders
 pub mod Sets
+pub mod Seen
 pub mod Places

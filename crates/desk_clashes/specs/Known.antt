@@ -1,5 +1,5 @@
 -- Sets of references to texts, and how they are read.
-use Rattle.std.specs.Prelude.{◌≡◌, ℕ, Bool, ◌+◌, ◌==◌, List, [], ◌∷◌, ◌++◌, Option, Some, None, cond, map, slice_index_or}
+use Rattle.std.specs.Prelude.{◌≡◌, ℕ, Bool, true, false, ◌+◌, ◌==◌, List, [], ◌∷◌, ◌++◌, Option, Some, None, cond, map, slice_index_or}
 use Rattle.std.specs.List.{list_any}
 use Rattle.std.specs.Str.{bytes_eq}
 use Rattle.std.specs.BTreeSet.{BTreeSet, contains}
@@ -29,10 +29,15 @@ abbrev pub folders_of : Text → List Text
 folders_of [] = []
 folders_of (b ∷ bs) = cond (b == slash) ([] ∷ []) [] ++ map (λ folder. b ∷ folder) (folders_of bs)
 
--- one set holds these targets, and one their folders
-pub record Knows (names folders : BTreeSet Text) (targets : List Text) : Type 0 where
+-- a set holds the folders of each of its texts
+abbrev pub HoldsFolders : BTreeSet Text → Type 0
+HoldsFolders set = (text folder : Text) → holds set text ≡ true → is_folder folder text ≡ true → holds set folder ≡ true
+
+-- one set holds these targets, and one their folders; where they are known to be apart, no target is a folder of another
+pub record Knows (names folders : BTreeSet Text) (are_apart : Bool) (targets : List Text) : Type 0 where
   pub named : (q : Text) → holds names q ≡ list_any (bytes_eq q) targets
   pub nested : (q : Text) → holds folders q ≡ list_any (is_folder q) targets
+  pub apart : are_apart ≡ true → (q : Text) → holds folders q ≡ true → holds names q ≡ false
 
 -- of targets from a place on, the first that clashes with a later one
 abbrev pub first_place : ℕ → List Text → Option ℕ

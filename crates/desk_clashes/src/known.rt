@@ -1,10 +1,10 @@
 //! The targets that were seen, and their folders.
 
-ghost use Rattle.std.specs.Prelude.{◌≡◌, ◌||◌, ◌∷◌, [], ℕ, List, OnOk};
+ghost use Rattle.std.specs.Prelude.{◌≡◌, ◌||◌, ◌∷◌, [], ℕ, List, not, OnOk, IfOk};
 ghost use Rattle.std.specs.List.{list_any};
 ghost use Rattle.std.specs.Str.{bytes_eq};
 ghost use Rattle.desk_clashes.specs.Clashes.{clashes, is_folder};
-ghost use Rattle.desk_clashes.specs.Known.{holds, folders_of, Knows};
+ghost use Rattle.desk_clashes.specs.Known.{holds, folders_of, HoldsFolders, Knows};
 
 use desk_base::Memory;
 use desk_class::Marked;
@@ -18,36 +18,29 @@ fn holds<'a>(set: &BTreeSet<Marked<'a>>, text: &'a [u8]) -> bool
     set.contains(&Marked::new(text))
 }
 
-/// Puts a text into a set.
-fn put<'a>(set: &mut BTreeSet<Marked<'a>>, text: &'a [u8]) -> Result<(), Memory>
-    ensures { OnOk result ((q : List ℕ) → holds set.new q ≡ (bytes_eq q text.now || holds set.old q)) }
+/// Puts a text into a set, and answers whether it is new there.
+fn put<'a>(set: &mut BTreeSet<Marked<'a>>, text: &'a [u8]) -> Result<bool, Memory>
+    ensures is_new { IfOk result (λ is_new. is_new ≡ not (holds set.old text.now)) }
+    ensures added { OnOk result ((q : List ℕ) → holds set.new q ≡ (bytes_eq q text.now || holds set.old q)) }
 {
-    set.insert(Marked::new(text))?;
-    Ok(())
+    let is_new = set.insert(Marked::new(text))?;
+    Ok(is_new)
 }
 
-/// Puts the folders of a text into a set.
+/// Puts the folders of a text into a set that holds the folders of each of its texts. The longest comes first, and the first
+/// that the set holds ends the walk, since the set holds the folders of that one, too.
 fn put_folders<'a>(set: &mut BTreeSet<Marked<'a>>, text: &'a [u8]) -> Result<(), Memory>
-    ensures { OnOk result ((q : List ℕ) → holds set.new q ≡ (is_folder q text.now || holds set.old q)) }
+    ensures { OnOk result (HoldsFolders set.old → (q : List ℕ) → holds set.new q ≡ (is_folder q text.now || holds set.old q)) }
 {
-    for (place, byte) in text.iter().enumerate() {
-        if *byte == b'/' {
-            put(set, &text[..place])?;
+    for place in (0..text.len()).rev() {
+        if text[place] == b'/' {
+            let is_new = put(set, &text[..place])?;
+            if !is_new {
+                return Ok(());
+            }
         }
     }
     Ok(())
-}
-
-/// Whether a set holds a folder of a text.
-fn holds_folder<'a>(set: &BTreeSet<Marked<'a>>, text: &'a [u8]) -> bool
-    ensures { result ≡ list_any (holds set.now) (folders_of text.now) }
-{
-    for (place, byte) in text.iter().enumerate() {
-        if *byte == b'/' && holds(set, &text[..place]) {
-            return true;
-        }
-    }
-    false
 }
 
 /// Targets that were seen, and the folders of each. They are told apart by their marks, since targets of one folder begin alike.
@@ -55,22 +48,44 @@ fn holds_folder<'a>(set: &BTreeSet<Marked<'a>>, text: &'a [u8]) -> bool
 pub(crate) struct SeenTargets<'a> {
     names: BTreeSet<Marked<'a>>,
     folders: BTreeSet<Marked<'a>>,
+    /// No two of the targets clash.
+    apart: bool,
 }
 
 impl<'a> SeenTargets<'a> {
     /// A set to begin with: no target was seen, so that none clashes.
     pub(crate) fn new(alloc: Global) -> SeenTargets<'a>
-        ensures { Knows result.names result.folders [] }
+        ensures { Knows result.names result.folders result.apart [] }
     {
         SeenTargets {
             names: BTreeSet::new(alloc),
             folders: BTreeSet::new(alloc),
+            apart: true,
         }
     }
 
+    /// Whether a target that was seen is a folder of this one. The longest folder comes first. As long as no two of the targets
+    /// clash, the first that is a folder of one of them, too, ends the walk: neither it nor a folder of it is a target.
+    fn has_folder_of(&self, target: &'a [u8]) -> bool
+        ensures { (seen : List (List ℕ)) → Knows self.now.names self.now.folders self.now.apart seen → result ≡ list_any (holds self.now.names) (folders_of target.now) }
+    {
+        for place in (0..target.len()).rev() {
+            if target[place] == b'/' {
+                let folder = &target[..place];
+                if self.apart && holds(&self.folders, folder) {
+                    return false;
+                }
+                if holds(&self.names, folder) {
+                    return true;
+                }
+            }
+        }
+        false
+    }
+
     /// Whether a target clashes with one of those that were seen.
-    pub(crate) fn meets(&self, target: &'a [u8]) -> bool
-        ensures { (seen : List (List ℕ)) → Knows self.now.names self.now.folders seen → result ≡ list_any (clashes target.now) seen }
+    fn meets(&self, target: &'a [u8]) -> bool
+        ensures { (seen : List (List ℕ)) → Knows self.now.names self.now.folders self.now.apart seen → result ≡ list_any (clashes target.now) seen }
     {
         if holds(&self.names, target) {
             return true;
@@ -78,14 +93,18 @@ impl<'a> SeenTargets<'a> {
         if holds(&self.folders, target) {
             return true;
         }
-        holds_folder(&self.names, target)
+        self.has_folder_of(target)
     }
 
-    /// Adds a target.
-    pub(crate) fn add(&mut self, target: &'a [u8]) -> Result<(), Memory>
-        ensures { OnOk result ((seen : List (List ℕ)) → Knows self.old.names self.old.folders seen → Knows self.new.names self.new.folders (target.now ∷ seen)) }
+    /// Adds a target, and answers whether it clashes with one of those that were seen before.
+    pub(crate) fn add(&mut self, target: &'a [u8]) -> Result<bool, Memory>
+        ensures answer { IfOk result (λ meets. (seen : List (List ℕ)) → Knows self.old.names self.old.folders self.old.apart seen → meets ≡ list_any (clashes target.now) seen) }
+        ensures seen { OnOk result ((seen : List (List ℕ)) → Knows self.old.names self.old.folders self.old.apart seen → Knows self.new.names self.new.folders self.new.apart (target.now ∷ seen)) }
     {
+        let meets = self.meets(target);
+        self.apart = self.apart && !meets;
         put(&mut self.names, target)?;
-        put_folders(&mut self.folders, target)
+        put_folders(&mut self.folders, target)?;
+        Ok(meets)
     }
 }

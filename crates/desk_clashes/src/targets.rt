@@ -34,11 +34,10 @@ fn first_place(alloc: Global, targets: &[&[u8]]) -> Result<Option<usize>, Memory
     let mut known = SeenTargets::new(alloc);
     let mut first = None;
     for place in (0..targets.len()).rev() {
-        let target = targets[place];
-        if known.meets(target) {
+        let meets_a_later_one = known.add(targets[place])?;
+        if meets_a_later_one {
             first = Some(place);
         }
-        known.add(target)?;
     }
     Ok(first)
 }
@@ -79,7 +78,8 @@ impl<'a> Targets<'a> {
 
     /// The two places whose targets clash, with the least first and then the least second; none exactly where no two clash.
     /// Two targets clash where they are equal, or where one with `/` behind it is a front of the other. The only error is
-    /// want of memory. Takes the time of a look-up for each target and each folder of one.
+    /// want of memory. Takes the time of a few look-ups for each target and each different folder, as long as no two clash, and
+    /// from then on of one for each folder of each target.
     pub fn first_clash(&self, alloc: Global) -> Result<Option<Clash>, Memory>
         ensures exact { IfOk result (λ clash. clash ≡ first_clash self.now) }
         ensures within { IfOk result (λ clash. IfSome clash (λ c. (c.first < c.second) × (c.second < length self.now))) }

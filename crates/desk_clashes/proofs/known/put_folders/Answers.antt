@@ -1,26 +1,22 @@
-use Rattle.std.proofs.Common.{◌||◌, ap, sym, ◌∙◌}
-use Rattle.std.specs.List.{list_any}
-use Rattle.std.specs.Str.{bytes_eq}
-use Rattle.desk_base.specs.Names.{Text}
-use Rattle.desk_clashes.specs.Known.{holds, folders_of}
-use Rattle.desk_clashes.proofs.Folders.{any_folder}
-use Rattle.desk_clashes.proofs.Sets.{put_step, skip_step, taken_text}
+use mathlib.Core.Bool.{not-not}
+use Rattle.std.proofs.Common.{◌-◌, not, take, sym, ap, ◌∙◌, arith}
+use Rattle.desk_clashes.specs.Known.{holds}
+use Rattle.desk_clashes.proofs.Sets.{none_put, none_here, folder_put, rest_held}
 use Rattle.desk_clashes.proofs.known.put_folders.Goals as goal
-use Rattle.desk_clashes.proofs.known.put_folders.Goals.{then-byte-eq47+in_ok-put, else-byte-eq47}
+
+pub loop-place-init : goal.loop-place-init
+loop-place-init c = none_put c.args.set.now c.args.text.now _ (omega arith)
+
+pub returns-then-not-is_new : goal.returns-then-not-is_new
+returns-then-not-is_new c = λ closed.
+    rest_held c.args.set.now c.loop-place.set c.put.new.set c.args.text.now (c.loop-place.place - 1) c.loop-place.place (omega arith) (omega arith) c.if-text-place-eq47.true c.in_ok-is_new.ensures.added
+    c.loop-place.invariant closed (sym (not-not (holds c.loop-place.set (take (c.loop-place.place - 1) c.args.text.now))) ∙ ap not (sym c.in_ok-is_new.ensures.is_new ∙ c.if-not-is_new.true))
+
+pub loop-place-preserved-else-not-is_new : goal.loop-place-preserved-else-not-is_new
+loop-place-preserved-else-not-is_new c =
+    folder_put c.args.set.now c.loop-place.set c.put.new.set c.args.text.now (c.loop-place.place - 1) c.loop-place.place (omega arith) (omega arith) c.if-text-place-eq47.true c.in_ok-is_new.ensures.added
+    c.loop-place.invariant
 
 pub loop-place-preserved : goal.loop-place-preserved
-loop-place-preserved c = λ q.
-    elim c.if-byte-eq47.branch [
-      | then-byte-eq47+in_ok-put w ↦
-          ap (λ s. holds s q) w.set-is
-          ∙ put_step q c.args.text.now c.loop-place.place (holds c.loop-place.set q) (holds w.put.new.set q) (holds c.args.set.now q) c.loop-place-test.true w.if-byte-eq47.true (w.in_ok-put.ensures q) (c.loop-place.invariant q)
-      | else-byte-eq47 w ↦
-          ap (λ s. holds s q) w.set-is ∙ c.loop-place.invariant q
-          ∙ ap (λ b. b || holds c.args.set.now q) (sym (skip_step (bytes_eq q) c.args.text.now c.loop-place.place c.loop-place-test.true w.if-byte-eq47.false))
-    ]
-
-pub returns : goal.returns
-returns c = λ q.
-    c.loop-place.invariant q
-    ∙ ap (λ (t : Text). list_any (bytes_eq q) (folders_of t) || holds c.args.set.now q) (taken_text c.args.text.now c.loop-place.place c.loop-place-test.false)
-    ∙ ap (λ b. b || holds c.args.set.now q) (any_folder q c.args.text.now)
+loop-place-preserved c =
+    none_here c.args.set.now c.loop-place.set c.args.text.now (c.loop-place.place - 1) c.loop-place.place (omega arith) (omega arith) c.if-text-place-eq47.false c.loop-place.invariant
