@@ -1,3 +1,4 @@
+pub mod Answering
 mod Apart
 mod Bare
 mod Scans

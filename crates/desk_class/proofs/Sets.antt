@@ -1,6 +1,6 @@
 -- Names that are added, one after the other.
 use mathlib.Core.Bool.{or_assoc}
-use Rattle.std.proofs.Common.{◌≡◌, ℕ, ◌+◌, ◌<◌, ◌≤◌, length, take, drop, get_or, Option, arith, drop-cons, add-one, Bool, ◌||◌, List, [], ◌∷◌, ◌++◌, refl, sym, ap, ap₂, subst, ◌∙◌, ◌⊎◌, inl, inr, Some, slice_get}
+use Rattle.std.proofs.Common.{◌≡◌, ℕ, ◌+◌, ◌<◌, ◌≤◌, length, take, drop, get_or, Option, arith, drop-cons, add-one, Bool, ◌||◌, List, [], ◌∷◌, ◌++◌, refl, sym, ap, ap₂, subst, ◌∙◌, ◌⊎◌, inl, inr, Some, true}
 use Rattle.std.specs.Ordering.{nat_cmp, eq_by_cmp}
 use Rattle.std.specs.Cmp.Lexicographic.{slice_cmp}
 use Rattle.std.proofs.lemmas.List.{length-append, take-append-le}
@@ -13,6 +13,7 @@ use Rattle.desk_base.specs.Entries.{Pool, text_at}
 use Rattle.desk_names.specs.ClassNames.{class_name}
 use Rattle.desk_names.specs.Pieces.{Piece, names_in, joined}
 use Rattle.desk_packages.proofs.Picks.{In}
+use Rattle.desk_class.specs.Answers.{answer_at}
 use Rattle.desk_class.specs.Held.{is_held, found_all, each_once, names_of, held_by}
 use Rattle.desk_class.specs.Noted.{Notes, HoldsNone}
 use Rattle.desk_class.proofs.Once.{found_append, found_old, found_in, absorbed}
@@ -86,11 +87,11 @@ holding_more pool us i d n n' lt more h =
 -- ---- texts that were looked at
 
 -- the names of each entry in the role that is noted are there
-abbrev pub AreHeld : Pool → List (Option Role) → List Text → Type 0
-AreHeld pool noted s = (i : ℕ) (r : Role) → slice_get noted i ≡ Some (Some r) → (q : Text) → In (names_of r (text_at pool i)) q → In s q
+abbrev pub AreHeld : Pool → List (Option Bool) → List Text → Type 0
+AreHeld pool noted s = (i : ℕ) (r : Role) → answer_at noted i r ≡ Some true → (q : Text) → In (names_of r (text_at pool i)) q → In s q
 
 -- one more use is noted, whose names are added
-held_more : (pool : Pool) (noted noted' : List (Option Role)) (s n : List Text) (used : Used) → Notes noted' noted used → n ≡ found_all s (names_of used.role (text_at pool used.index)) → AreHeld pool noted s → AreHeld pool noted' n
+held_more : (pool : Pool) (noted noted' : List (Option Bool)) (s n : List Text) (used : Used) → Notes noted' noted used → n ≡ found_all s (names_of used.role (text_at pool used.index)) → AreHeld pool noted s → AreHeld pool noted' n
 held_more pool noted noted' s n used is more h i r e q held =
     let names : List Text = names_of used.role (text_at pool used.index) in
     subst (λ (xs : List Text). In xs q) (sym more)
@@ -100,12 +101,12 @@ held_more pool noted noted' s n used is more h i r e q held =
     ])
 
 -- the names of a use that isn't looked at are there
-held_again : (pool : Pool) (noted : List (Option Role)) (s : List Text) (used : Used) → (slice_get noted used.index ≡ Some (Some used.role)) ⊎ HoldsNone used.role → AreHeld pool noted s → s ≡ found_all s (names_of used.role (text_at pool used.index))
+held_again : (pool : Pool) (noted : List (Option Bool)) (s : List Text) (used : Used) → (answer_at noted used.index used.role ≡ Some true) ⊎ HoldsNone used.role → AreHeld pool noted s → s ≡ found_all s (names_of used.role (text_at pool used.index))
 held_again pool noted s used (inl again) h = sym (absorbed s (names_of used.role (text_at pool used.index)) (h used.index used.role again))
 held_again pool noted s used (inr none) h = sym (ap (found_all s) (none (text_at pool used.index)))
 
 -- one more use, whose names are added
-pub looked_more : (pool : Pool) (us : List Used) (i : ℕ) (d : Used) (noted noted' : List (Option Role)) (s n : List Text) (text : Text) → i < length us → Notes noted' noted (get_or us i d)
+pub looked_more : (pool : Pool) (us : List Used) (i : ℕ) (d : Used) (noted noted' : List (Option Bool)) (s n : List Text) (text : Text) → i < length us → Notes noted' noted (get_or us i d)
     → text ≡ text_at pool (get_or us i d).index → n ≡ found_all s (names_of (get_or us i d).role text)
     → Holding pool us i s → AreHeld pool noted s → Holding pool us (i + 1) n × AreHeld pool noted' n
 looked_more pool us i d noted noted' s n text lt notes is more held before =
@@ -113,7 +114,7 @@ looked_more pool us i d noted noted' s n text lt notes is more held before =
     (holding_more pool us i d s n lt all held, held_more pool noted noted' s n (get_or us i d) notes all before)
 
 -- or whose names are there
-pub looked_again : (pool : Pool) (us : List Used) (i : ℕ) (d : Used) (noted noted' : List (Option Role)) (s : List Text) → i < length us → Notes noted' noted (get_or us i d)
-    → (slice_get noted (get_or us i d).index ≡ Some (Some (get_or us i d).role)) ⊎ HoldsNone (get_or us i d).role
+pub looked_again : (pool : Pool) (us : List Used) (i : ℕ) (d : Used) (noted noted' : List (Option Bool)) (s : List Text) → i < length us → Notes noted' noted (get_or us i d)
+    → (answer_at noted (get_or us i d).index (get_or us i d).role ≡ Some true) ⊎ HoldsNone (get_or us i d).role
     → Holding pool us i s → AreHeld pool noted s → Holding pool us (i + 1) s × AreHeld pool noted' s
 looked_again pool us i d noted noted' s lt notes again held before = looked_more pool us i d noted noted' s s (text_at pool (get_or us i d).index) lt notes refl (held_again pool noted s (get_or us i d) again before) held before

@@ -9,4 +9,5 @@ pub mod MarkOrder
 pub mod Packed
 pub mod Found
 pub mod Standing
+pub mod Answers
 pub mod Noted

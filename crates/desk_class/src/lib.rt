@@ -9,6 +9,7 @@
 //! ```
 #![tactic(auto)]
 
+mod answers;
 mod body;
 mod class;
 mod found;
@@ -21,6 +22,7 @@ mod names;
 mod numbers;
 mod twins;
 
+pub use answers::TextAnswers;
 pub use class::ClassView;
 pub use desk_format::Member;
 pub use held::HeldNames;

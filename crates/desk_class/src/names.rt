@@ -1,6 +1,6 @@
 //! The class names that texts hold.
 
-ghost use Rattle.std.specs.Prelude.{◌≡◌, ◌⊎◌, ◌<◌, ◌-◌, ◌^◌, ◌∷◌, [], false, length, min, Some, OnOk, IfOk, IfSome, MatchOption, slice_get};
+ghost use Rattle.std.specs.Prelude.{◌≡◌, ◌⊎◌, ◌<◌, ◌-◌, ◌^◌, ◌∷◌, [], true, false, length, min, Some, OnOk, IfOk, IfSome, MatchOption};
 ghost use Rattle.std.specs.List.Sorted.{IsStrictlySortedBy};
 ghost use Rattle.std.specs.Ordering.{nat_cmp};
 ghost use Rattle.std.specs.Cmp.Lexicographic.{slice_cmp};
@@ -10,9 +10,11 @@ ghost use Rattle.desk_names.specs.SignatureScan.{wanted_signature};
 ghost use Rattle.desk_class.specs.Formed.{IsFormed, AreFormed};
 ghost use Rattle.desk_class.specs.Standing.{standing_in};
 ghost use Rattle.desk_class.specs.Found.{spelled};
+ghost use Rattle.desk_class.specs.Answers.{answer_at};
 ghost use Rattle.desk_class.specs.Noted.{Notes, HoldsNone};
 ghost use Rattle.desk_class.specs.Held.{found_all, each_once, ascending, signature_names, names_of, held_by};
 
+use crate::answers::TextAnswers;
 use crate::found::FoundNames;
 use crate::held::HeldNames;
 use crate::numbers::text_at;
@@ -120,26 +122,23 @@ fn add_names<'a>(names: &mut FoundNames<'a>, role: Role, text: &'a [u8]) -> Resu
     }
 }
 
-/// Notes the role in which an entry is used. The answer is whether it was last used in another; an index behind the notes
-/// never was used.
-fn note(noted: &mut Vec<Option<Role>>, used: &Used) -> bool
-    ensures noted { Notes noted.new.items noted.old.items used.now }
-    ensures again { result ≡ false → slice_get noted.old.items used.now.index ≡ Some (Some used.now.role) }
+/// Notes that a text is looked at in the role in which it is used. The answer is whether it wasn't before.
+fn note(noted: &mut TextAnswers, used: &Used) -> bool
+    ensures noted { Notes noted.new noted.old used.now }
+    ensures again { result ≡ false → answer_at noted.old used.now.index used.now.role ≡ Some true }
 {
-    let place = used.index as usize;
-    if place >= noted.len() {
-        return true;
+    if noted.get(used.index, used.role) == Some(true) {
+        return false;
     }
-    let before = noted[place];
-    noted[place] = Some(used.role);
-    before != Some(used.role)
+    noted.keep(used.index, used.role, true);
+    true
 }
 
 /// Whether a text that is used is looked at. One whose role holds no class names isn't, nor is a descriptor or a signature
-/// whose entry was last used in the same role, since it was looked at then.
-fn is_looked_at(noted: &mut Vec<Option<Role>>, used: &Used) -> bool
-    ensures noted { Notes noted.new.items noted.old.items used.now }
-    ensures again { result ≡ false → (slice_get noted.old.items used.now.index ≡ Some (Some used.now.role)) ⊎ HoldsNone used.now.role }
+/// that was looked at in this role.
+fn is_looked_at(noted: &mut TextAnswers, used: &Used) -> bool
+    ensures noted { Notes noted.new noted.old used.now }
+    ensures again { result ≡ false → (answer_at noted.old used.now.index used.now.role ≡ Some true) ⊎ HoldsNone used.now.role }
 {
     match used.role {
         Role::Class => true,
@@ -154,7 +153,7 @@ pub fn held_names(alloc: Global, pool: &Pool<'_>, uses: &[Used]) -> Result<HeldN
     ensures { IfOk result (λ names. names ≡ each_once (held_by pool.now.entries uses.now)) }
 {
     let mut names = FoundNames::new(alloc)?;
-    let mut noted = vec![in alloc; None; pool.count() as usize]?;
+    let mut noted = TextAnswers::none(alloc, pool.count())?;
     for used in uses {
         if is_looked_at(&mut noted, used) {
             add_names(&mut names, used.role, text_at(pool, used.index))?;

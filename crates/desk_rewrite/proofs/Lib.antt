@@ -11,3 +11,4 @@ pub mod Printed
 pub mod Making
 pub mod Numbered
 pub mod Listing
+pub mod Odd

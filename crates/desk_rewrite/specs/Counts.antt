@@ -1,5 +1,5 @@
 -- How many uses of a class are renamed, and how many have odd texts.
-use Rattle.std.specs.Prelude.{ℕ, Bool, false, not, count_by}
+use Rattle.std.specs.Prelude.{◌≡◌, ℕ, Bool, false, not, List, Option, Some, count_by}
 use Rattle.std.specs.Str.{bytes_eq}
 use Rattle.desk_base.specs.Names.{Text}
 use Rattle.desk_base.specs.Signatures.{SignatureKind}
@@ -7,6 +7,7 @@ use Rattle.desk_base.specs.declared.kinds.Role.{Role}
 use Rattle.desk_base.specs.declared.kinds.Role.TheVariants as roles
 use Rattle.desk_base.specs.declared.kinds.Used.{Used}
 use Rattle.desk_base.specs.Entries.{Pool, text_at}
+use Rattle.desk_class.specs.Answers.{answer_at}
 use Rattle.desk_format.specs.Classes.{Class, class_uses}
 use Rattle.desk_format.specs.Resolved.{Images, image}
 use Rattle.desk_names.specs.SignatureScan.{is_sound_signature}
@@ -28,6 +29,10 @@ is_odd _ text = false
 
 abbrev pub is_odd_use : Pool → Used → Bool
 is_odd_use pool u = is_odd u.role (text_at pool u.index)
+
+-- each answer says whether the text of its index is odd in its role
+abbrev pub AreOdd : Pool → List (Option Bool) → Type 0
+AreOdd pool answers = (i : ℕ) (r : Role) (b : Bool) → answer_at answers i r ≡ Some b → b ≡ is_odd r (text_at pool i)
 
 -- how many uses of a class have an odd text
 abbrev pub odd_count : Class → ℕ

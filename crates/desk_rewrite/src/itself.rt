@@ -1,7 +1,6 @@
 //! Classes that are their own images.
 
-ghost use Rattle.std.specs.Prelude.{◌≡◌, ◌<◌, ◌≤◌, All, Ok, IfOk, IfSome, OnOk, count_by, length, nat_eq, not};
-ghost use Rattle.desk_base.specs.declared.kinds.Used.{Used};
+ghost use Rattle.std.specs.Prelude.{◌≡◌, Ok, IfOk, IfSome, OnOk, count_by, nat_eq, not};
 ghost use Rattle.desk_follow.specs.RuleImages.{images_of};
 ghost use Rattle.desk_format.specs.Classes.{Class, read_class};
 ghost use Rattle.desk_rewrite.specs.Counts.{is_renamed};
@@ -10,34 +9,31 @@ ghost use Rattle.desk_rewrite.specs.Unchanged.{AreOwn, IsItself, odd_if_unchange
 use crate::counts::odd_uses;
 use crate::images::image_by_role;
 use crate::printing::bytes_of;
-use crate::seen::{ByRole, Looked, looked_at, note};
 use crate::table::{text_at, text_role_of};
 use desk_base::{Memory, Used};
-use desk_class::ClassView;
+use desk_class::{ClassView, TextAnswers};
 use desk_pool::Pool;
 use desk_rename::NoImages;
 use desk_rules::RuleSet;
 use std::alloc::Global;
 
 /// Whether the text of a use is its own image, which is noted of a text that is.
+#[tactic(auto, using(crate::proofs::OwnTexts::own_noted))]
 fn is_own(
     alloc: Global,
     rules: &RuleSet,
     pool: &Pool<'_>,
-    rows: &mut [ByRole],
+    noted: &mut TextAnswers,
     used: &Used,
 ) -> Result<bool, Memory>
-    requires room { used.now.index < length rows.old }
-    requires rows { AreOwn (images_of rules.now) pool.now.entries rows.old }
+    requires { AreOwn (images_of rules.now) pool.now.entries noted.old }
     ensures own { IfOk result (λ own. own ≡ not (is_renamed (images_of rules.now) pool.now.entries used.now)) }
-    ensures rows { OnOk result (AreOwn (images_of rules.now) pool.now.entries rows.new) }
-    ensures length { length rows.new ≡ length rows.old }
+    ensures noted { OnOk result (AreOwn (images_of rules.now) pool.now.entries noted.new) }
 {
     let Some(text_role) = text_role_of(used.role) else {
         return Ok(true);
     };
-    let key = (used.index, text_role);
-    if matches!(looked_at(rows, key), Looked::Own) {
+    if noted.get(used.index, used.role) == Some(true) {
         return Ok(true);
     }
     let images = NoImages::new(rules);
@@ -45,18 +41,17 @@ fn is_own(
     if image_by_role(alloc, rules, &images, text_role, text)?.is_some() {
         return Ok(false);
     }
-    note(rows, key, Looked::Own);
+    noted.keep(used.index, used.role, true);
     Ok(true)
 }
 
 /// Whether the text of each use is its own image. Each text is looked at once in a role, up to the first with another image.
 fn are_own(alloc: Global, rules: &RuleSet, pool: &Pool<'_>, uses: &[Used]) -> Result<bool, Memory>
-    requires { All (λ (u : Used). u.index ≤ length pool.now.entries) uses.now }
     ensures { IfOk result (λ own. own ≡ nat_eq (count_by (is_renamed (images_of rules.now) pool.now.entries) uses.now) 0) }
 {
-    let mut rows = vec![in alloc; ByRole::unseen(); pool.count() as usize]?;
+    let mut noted = TextAnswers::none(alloc, pool.count())?;
     for used in uses {
-        if !is_own(alloc, rules, pool, &mut rows, used)? {
+        if !is_own(alloc, rules, pool, &mut noted, used)? {
             return Ok(false);
         }
     }
@@ -78,5 +73,6 @@ pub fn odd_if_unchanged(
     if !are_own(alloc, rules, view.pool(), view.uses())? {
         return Ok(None);
     }
-    Ok(Some(odd_uses(view.pool(), view.uses())))
+    let odd = odd_uses(alloc, view.pool(), view.uses())?;
+    Ok(Some(odd))
 }

@@ -167,7 +167,7 @@ pub fn rewrite<I: Images>(
     tell_settled(rules);
     let bytes = bytes_of(view);
     let table = all_images(alloc, rules, images, view.pool(), view.uses())?;
-    let odd = odd_uses(view.pool(), view.uses());
+    let odd = odd_uses(alloc, view.pool(), view.uses())?;
     let ((bytes, added), renamed) = if table.is_empty() {
         ((Text::from_bytes(alloc, bytes)?, 0), 0)
     } else {

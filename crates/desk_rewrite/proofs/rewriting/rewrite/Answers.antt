@@ -21,8 +21,8 @@ use Rattle.desk_rewrite.proofs.Wanting.{are_wanted, within, wants_few, renamed_a
 use Rattle.desk_rewrite.proofs.rewriting.rewrite.Goals as goal
 use Rattle.desk_rewrite.proofs.rewriting.rewrite.Goals.{then-is_empty+in_ok-from_bytes, else-is_empty+in_ok-wants+in_ok-bytes}
 
-pub odd_uses-odd-requires : goal.odd_uses-odd-requires
-odd_uses-odd-requires g c =
+pub odd_uses-requires : goal.odd_uses-requires
+odd_uses-requires g c =
     let k : IsKnown c.args.view.now = known c.args.view.now c.bytes_of-bytes.ensures.each c.bytes_of-bytes.ensures.sound in
     subst (λ (us : List Used). length us < 2 ^ 32) (sym c.uses-2.ensures) (k.few c.bytes_of-bytes.ensures.short)
 
