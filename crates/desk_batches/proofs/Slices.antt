@@ -11,7 +11,7 @@ use Rattle.desk_file.specs.declared.images.Image.{Image}
 use Rattle.desk_folders.specs.Contents.{Contents}
 use Rattle.desk_report.specs.declared.lines.Reason.{Reason}
 use Rattle.desk_rules.specs.Rules.{Rules}
-use Rattle.desk_batches.specs.Notes.{IsNoteOf, StaysAsNoted}
+use Rattle.desk_batches.specs.Notes.{IsNoteOf, BecomesAsNoted}
 use Rattle.desk_batches.specs.Turns.{HasItsDigest, image_here, image_of_input, input_in, migrated}
 use Rattle.desk_batches.specs.Inputs.{WholeFile}
 use Rattle.desk_batches.specs.declared.planned.PlannedFile.{PlannedFile}
@@ -41,18 +41,18 @@ made_of rules defined = map (image_of_input rules defined)
 abbrev here_of : Rules → List Text → Text → Contents → List PlannedFile → List (Result Image Reason)
 here_of rules defined from m files = map (image_here (image_in rules defined) from m) (migrated files)
 
-pub slice_read : (rules : Rules) (defined : List Text) (from : Text) (m : Contents) (files front back : List PlannedFile) (n : ℕ) (inputs : List WholeFile) → All (λ (x : PlannedFile). IsRouteBy rules x.route) files → All (StaysAsNoted (image_in rules defined) from m) files
+pub slice_read : (rules : Rules) (defined : List Text) (from : Text) (m : Contents) (files front back : List PlannedFile) (n : ℕ) (inputs : List WholeFile) → All (λ (x : PlannedFile). IsRouteBy rules x.route) files → All (BecomesAsNoted (image_in rules defined) from m) files
     → IsSplitAt files n front back → inputs ≡ map (input_in from m) (migrated front) → here_of rules defined from m files ≡ made_of rules defined inputs ++ here_of rules defined from m back
 slice_read rules defined from m files front back n inputs routes stays split read =
     let f = image_here (image_in rules defined) from m in
     ap (map f) (migrated_parts files front back n split) ∙ map-append f (migrated front) (migrated back)
     ∙ ap (λ ys. ys ++ here_of rules defined from m back)
     (sym (images_read rules defined from m front inputs (made_of rules defined inputs) (all_front (λ (x : PlannedFile). IsRouteBy rules x.route) files front back n split routes)
-    (all_front (StaysAsNoted (image_in rules defined) from m) files front back n split stays) read refl))
+    (all_front (BecomesAsNoted (image_in rules defined) from m) files front back n split stays) read refl))
 
 -- a slice was migrated while the next was read
 pub slice_more : (rules : Rules) (defined : List Text) (from : Text) (m : Contents) (batch rest next behind : List PlannedFile) (n : ℕ) (inputs ahead : List WholeFile) (images made new : List (Result Image Reason))
-    → All (λ (x : PlannedFile). IsRouteBy rules x.route) rest → All (StaysAsNoted (image_in rules defined) from m) rest → IsSplitAt rest n next behind → here_of rules defined from m batch ≡ images ++ (made_of rules defined inputs ++ here_of rules defined from m rest)
+    → All (λ (x : PlannedFile). IsRouteBy rules x.route) rest → All (BecomesAsNoted (image_in rules defined) from m) rest → IsSplitAt rest n next behind → here_of rules defined from m batch ≡ images ++ (made_of rules defined inputs ++ here_of rules defined from m rest)
     → made ≡ made_of rules defined inputs → new ≡ images ++ made → ahead ≡ map (input_in from m) (migrated next)
     → here_of rules defined from m batch ≡ new ++ (made_of rules defined ahead ++ here_of rules defined from m behind)
 slice_more rules defined from m batch rest next behind n inputs ahead images made new routes stays split all is grown read =

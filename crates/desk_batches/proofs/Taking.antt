@@ -1,6 +1,6 @@
 -- The files of a batch, those of them that are read whole, and their images.
 use Rattle.std.proofs.Common.{◌≡◌, ℕ, zero, ◌+◌, ◌≤◌, ◌<◌, List, [], ◌∷◌, ◌++◌, Option, Some, None, Bool, refl, sym, ap, ◌∙◌, subst, take, drop, length, true, false, suc, get_or, length-append, append_assoc, arith, ◌-◌, ◌≢◌, inl}
-use Rattle.std.specs.Prelude.{IfSome, map, cond, Result, Ok, Err, unwrap_or, All, option_map}
+use Rattle.std.specs.Prelude.{IfSome, map, cond, Result, Err, unwrap_or, All, option_map}
 use Rattle.std.proofs.Math.Seq.{get_or-append_seam, take-add}
 use Rattle.std.proofs.lemmas.List.{map-append, length-map, take_more, get_or-drop, take-append-drop, drop_more}
 use Rattle.std.proofs.Math.ListN.{get_or-map}
@@ -8,16 +8,17 @@ use Rattle.desk_ledger.specs.Ledger.{Ledger}
 use Rattle.desk_batches.specs.Stops.{Broken, StoppedAt}
 use Rattle.desk_batches.specs.Works.{files_after, ledger_after, logged, logged_plan, wrote, wrote_plan, Work}
 use Rattle.desk_base.specs.Names.{Text}
-use Rattle.desk_batches.specs.Notes.{IsNoteOf, IsSound, StaysAsNoted}
+use Rattle.desk_batches.specs.Notes.{IsImageNote, IsNoteOf, IsSound, BecomesAsNoted}
 use Rattle.desk_batches.specs.declared.planned.Outcome.{Outcome}
 use Rattle.desk_base.specs.Paths.{full, is_relative_path}
 use Rattle.desk_file.proofs.Treating.{image_routed}
-use Rattle.desk_file.specs.Linked.{image_in}
+use Rattle.desk_file.specs.Linked.{image_in, with_links}
+use Rattle.desk_file.specs.Treatments.{is_selected_class}
+use Rattle.desk_file.specs.declared.treatments.Treatment.{Treatment}
 use Rattle.desk_file.specs.Routes.{IsRouteBy, image_along}
 use Rattle.desk_file.specs.declared.images.Image.{Image}
 use Rattle.desk_rules.specs.Rules.{Rules}
 use Rattle.desk_folders.specs.Contents.{Contents}
-use Rattle.desk_report.specs.declared.lines.Detail.{Detail}
 use Rattle.desk_report.specs.declared.lines.Reason.{Reason}
 use Rattle.desk_report.specs.declared.lines.Reason.TheVariants.{BadLine}
 use Rattle.desk_readings.proofs.Fronts.{split_at}
@@ -32,6 +33,8 @@ use Rattle.std.specs.FinMap as fin
 use Rattle.std.proofs.lemmas.Bool.{le-leb}
 use Rattle.desk_base.proofs.Results.{at_some}
 use Rattle.desk_batches.specs.Inputs.{WholeFile}
+use Rattle.desk_batches.specs.declared.planned.ImageNote.{ImageNote}
+use Rattle.desk_batches.specs.declared.planned.ImageNote.TheVariants.{Unknown, Unchanged, Links}
 use Rattle.desk_batches.specs.declared.planned.PlannedFile.{PlannedFile}
 use Rattle.desk_batches.specs.declared.planned.Action.{Action}
 use Rattle.desk_batches.specs.declared.planned.Action.TheVariants.{Keep, Migrate, Copy}
@@ -70,27 +73,31 @@ all_migrated P (x ∷ xs) h = one P (is_migrated x.action) x (migrated xs) (All-
   one P true x ys p h = All-cons P x ys p h
   one P false x ys p h = h
 
--- what was noted of a file that stays as it is is what it becomes
-noted_same : (bytes : Text) (stays : Option Detail) (made here : Result Image Reason) → here ≡ made → IfSome stays (λ detail. here ≡ Ok (record { bytes = bytes; detail = detail })) → image_noted bytes stays made ≡ here
-noted_same bytes None made here e h = sym e
-noted_same bytes (Some detail) made here e h = sym h
+-- what a file becomes of whose image something was noted
+noted_same : (bytes : Text) (treatment : Treatment) (note : ImageNote) (made here : Result Image Reason) → here ≡ made → IsImageNote note bytes here → image_noted bytes treatment note made ≡ here
+noted_same bytes treatment Unknown made here e h = sym e
+noted_same bytes treatment (Unchanged detail) made here e h = sym h
+noted_same bytes treatment (Links links) made here e h = linked_same (is_selected_class treatment) links made here e h where
+  linked_same : (selected : Bool) (links : ℕ) (made here : Result Image Reason) → here ≡ made → here ≡ with_links links here → cond selected (with_links links made) made ≡ here
+  linked_same true links made here e h = ap (with_links links) (sym e) ∙ sym h
+  linked_same false links made here e h = sym e
 
-images_along : (rules : Rules) (defined : List Text) (from : List ℕ) (m : Contents) (xs : List PlannedFile) → All (λ (x : PlannedFile). IsRouteBy rules x.route) xs → All (StaysAsNoted (image_in rules defined) from m) xs
+images_along : (rules : Rules) (defined : List Text) (from : List ℕ) (m : Contents) (xs : List PlannedFile) → All (λ (x : PlannedFile). IsRouteBy rules x.route) xs → All (BecomesAsNoted (image_in rules defined) from m) xs
     → map (image_of_input rules defined) (map (input_in from m) xs) ≡ map (image_here (image_in rules defined) from m) xs
 images_along rules defined from m [] h k = refl
 images_along rules defined from m (x ∷ xs) h k =
     let along = image_routed rules defined x.route (bytes_of from m x) (All-head (λ (x : PlannedFile). IsRouteBy rules x.route) x xs h) in
-    let here = noted_same (bytes_of from m x) x.stays (image_along rules defined x.route (bytes_of from m x)) (image_here (image_in rules defined) from m x) along (All-head (StaysAsNoted (image_in rules defined) from m) x xs k) in
+    let here = noted_same (bytes_of from m x) x.route.treatment x.image (image_along rules defined x.route (bytes_of from m x)) (image_here (image_in rules defined) from m x) along (All-head (BecomesAsNoted (image_in rules defined) from m) x xs k) in
     ap (λ y. y ∷ map (image_of_input rules defined) (map (input_in from m) xs)) here
     ∙ ap (λ ys. image_here (image_in rules defined) from m x ∷ ys)
-    (images_along rules defined from m xs (All-tail (λ (x : PlannedFile). IsRouteBy rules x.route) x xs h) (All-tail (StaysAsNoted (image_in rules defined) from m) x xs k))
+    (images_along rules defined from m xs (All-tail (λ (x : PlannedFile). IsRouteBy rules x.route) x xs h) (All-tail (BecomesAsNoted (image_in rules defined) from m) x xs k))
 
 -- the images of what was read
 pub images_read : (rules : Rules) (defined : List Text) (from : List ℕ) (m : Contents) (xs : List PlannedFile) (inputs : List WholeFile) (images : List (Result Image Reason)) → All (λ (x : PlannedFile). IsRouteBy rules x.route) xs
-    → All (StaysAsNoted (image_in rules defined) from m) xs → inputs ≡ map (input_in from m) (migrated xs) → images ≡ map (image_of_input rules defined) inputs → images ≡ map (image_here (image_in rules defined) from m) (migrated xs)
+    → All (BecomesAsNoted (image_in rules defined) from m) xs → inputs ≡ map (input_in from m) (migrated xs) → images ≡ map (image_of_input rules defined) inputs → images ≡ map (image_here (image_in rules defined) from m) (migrated xs)
 images_read rules defined from m xs inputs images h k read made =
     made ∙ ap (map (image_of_input rules defined)) read
-    ∙ images_along rules defined from m (migrated xs) (all_migrated (λ (x : PlannedFile). IsRouteBy rules x.route) xs h) (all_migrated (StaysAsNoted (image_in rules defined) from m) xs k)
+    ∙ images_along rules defined from m (migrated xs) (all_migrated (λ (x : PlannedFile). IsRouteBy rules x.route) xs h) (all_migrated (BecomesAsNoted (image_in rules defined) from m) xs k)
 
 -- as many were read as are read whole
 pub inputs_counted : (inputs : List WholeFile) (xs : List PlannedFile) → map (λ (input : WholeFile). input.file) inputs ≡ xs → length inputs ≡ length xs

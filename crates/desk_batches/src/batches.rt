@@ -5,7 +5,7 @@ ghost use Rattle.std.specs.List.{slice_range, sum_by};
 ghost use Rattle.desk_base.specs.Limits.{file_size};
 ghost use Rattle.desk_file.specs.Linked.{image_in};
 ghost use Rattle.desk_file.specs.Routes.{IsRouteBy};
-ghost use Rattle.desk_batches.specs.Notes.{IsNoteOf, IsSound, StaysAsNoted};
+ghost use Rattle.desk_batches.specs.Notes.{IsNoteOf, IsSound, BecomesAsNoted};
 ghost use Rattle.desk_batches.specs.Stops.{HasCause, StoppedAt};
 ghost use Rattle.desk_batches.specs.Fresh.{IsNotKept, StopsAtFresh};
 ghost use Rattle.desk_batches.specs.Turns.{SourceStays, fitting, image_here, migrated, outcome_of, weight_of, works_in};
@@ -97,7 +97,7 @@ fn write_batch<R: Threads + Sync, F: Folders, K: Keeper, G: Gate + Sync>(
     requires sound { All IsSound batch.now }
     requires routes { All (λ file. IsRouteBy job.now.graph.now.rules file.route) batch.now }
     requires notes { IfSome (F.told folders.old) (λ m. All (IsNoteOf roots.now.from m) batch.now) }
-    requires stays { IfSome (F.told folders.old) (λ m. All (StaysAsNoted (image_in job.now.graph.now.rules job.now.graph.now.defined) roots.now.from m) batch.now) }
+    requires stays { IfSome (F.told folders.old) (λ m. All (BecomesAsNoted (image_in job.now.graph.now.rules job.now.graph.now.defined) roots.now.from m) batch.now) }
     ensures folders { OnOk result (IfSome (F.told folders.old) (λ m. F.told folders.new ≡ option_map (files_after roots.now.to (works_in (image_in job.now.graph.now.rules job.now.graph.now.defined) roots.now.from m batch.now)) (F.told folders.old))) }
     ensures ledger { OnOk result (IfSome (F.told folders.old) (λ m. K.told keeper.new ≡ option_map (ledger_after (works_in (image_in job.now.graph.now.rules job.now.graph.now.defined) roots.now.from m batch.now)) (K.told keeper.old))) }
     ensures outcomes { IfOk result (λ outcomes. IfSome (F.told folders.old) (λ m. outcomes.items ≡ map outcome_of (works_in (image_in job.now.graph.now.rules job.now.graph.now.defined) roots.now.from m batch.now))) }
@@ -153,7 +153,7 @@ pub fn write_all<R: Threads + Sync, F: Folders, K: Keeper, G: Gate + Sync>(
     requires sound { All IsSound planned.now }
     requires routes { All (λ file. IsRouteBy job.now.graph.now.rules file.route) planned.now }
     requires notes { IfSome (F.told folders.old) (λ m. All (IsNoteOf roots.now.from m) planned.now) }
-    requires stays { IfSome (F.told folders.old) (λ m. All (StaysAsNoted (image_in job.now.graph.now.rules job.now.graph.now.defined) roots.now.from m) planned.now) }
+    requires stays { IfSome (F.told folders.old) (λ m. All (BecomesAsNoted (image_in job.now.graph.now.rules job.now.graph.now.defined) roots.now.from m) planned.now) }
     ensures folders { OnOk result (IfSome (F.told folders.old) (λ m. F.told folders.new ≡ option_map (files_after roots.now.to (works_in (image_in job.now.graph.now.rules job.now.graph.now.defined) roots.now.from m planned.now)) (F.told folders.old))) }
     ensures ledger { OnOk result (IfSome (F.told folders.old) (λ m. K.told keeper.new ≡ option_map (ledger_after (works_in (image_in job.now.graph.now.rules job.now.graph.now.defined) roots.now.from m planned.now)) (K.told keeper.old))) }
     ensures outcomes { IfOk result (λ outcomes. IfSome (F.told folders.old) (λ m. outcomes.items ≡ map outcome_of (works_in (image_in job.now.graph.now.rules job.now.graph.now.defined) roots.now.from m planned.now))) }

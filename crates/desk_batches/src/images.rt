@@ -3,7 +3,7 @@
 ghost use Rattle.std.specs.Prelude.{All, ◌≡◌, ◌⊎◌, ◌≤◌, ◌<◌, ◌^◌, ◌++◌, OnOk, Err, IfOk, IfErr, IfSome, IsOk, length, map};
 ghost use Rattle.desk_file.specs.Linked.{image_in};
 ghost use Rattle.desk_file.specs.Routes.{IsRouteBy};
-ghost use Rattle.desk_batches.specs.Notes.{IsNoteOf, IsSound, StaysAsNoted};
+ghost use Rattle.desk_batches.specs.Notes.{IsNoteOf, IsSound, BecomesAsNoted};
 ghost use Rattle.desk_batches.specs.Stops.{HasCause};
 ghost use Rattle.desk_batches.specs.Turns.{HasItsDigest, image_here, migrated};
 ghost use Rattle.desk_batches.specs.declared.stops.Stop.TheVariants as stop;
@@ -48,7 +48,7 @@ pub(crate) fn images_of_batch<'f, R: Threads + Sync, F: Folders, G: Gate + Sync>
     requires sound { All IsSound batch.now }
     requires routes { All (λ file. IsRouteBy job.now.graph.now.rules file.route) batch.now }
     requires notes { IfSome (F.told folders.old) (λ m. All (IsNoteOf from.now m) batch.now) }
-    requires stays { IfSome (F.told folders.old) (λ m. All (StaysAsNoted (image_in job.now.graph.now.rules job.now.graph.now.defined) from.now m) batch.now) }
+    requires stays { IfSome (F.told folders.old) (λ m. All (BecomesAsNoted (image_in job.now.graph.now.rules job.now.graph.now.defined) from.now m) batch.now) }
     ensures told { F.told folders.new ≡ F.told folders.old }
     ensures images { IfOk result (λ images. IfSome (F.told folders.old) (λ m. images.items ≡ map (image_here (image_in job.now.graph.now.rules job.now.graph.now.defined) from.now m) (migrated batch.now))) }
     ensures count { IfOk result (λ images. length images.items ≡ length (migrated batch.now)) }

@@ -1,19 +1,19 @@
 //! Migrates files that were read whole, on the workers.
 
 ghost use Rattle.std.specs.Prelude.{All, ◌≡◌, ◌≢◌, ◌≤◌, ◌<◌, ◌^◌, ◌∷◌, [], IfErr, IfOk, IfSome, OnErr, length, map};
-ghost use Rattle.desk_file.specs.Routes.{image_along};
+ghost use Rattle.desk_file.specs.Faults.{IsFaultOf};
 ghost use Rattle.desk_ledger.specs.Digests.{digest as digest_by};
 ghost use Rattle.desk_batches.specs.Notes.{IsNoteOf, IsSound};
 ghost use Rattle.desk_batches.specs.Stops.{HasCause};
-ghost use Rattle.desk_batches.specs.Turns.{HasItsDigest, MovedIn, image_of_input, input_in, migrated, reading_by};
+ghost use Rattle.desk_batches.specs.Turns.{HasItsDigest, MovedIn, image_of_input, input_in, made_of_input, migrated, reading_by};
 
 use crate::digested::DigestedImage;
 use crate::inputs::{Input, read_batch};
-use crate::planned::PlannedFile;
+use crate::planned::{ImageNote, PlannedFile};
 use crate::replacing::moved;
 use crate::stops::Stop;
 use desk_base::{MAX_FILE_SIZE, Memory, Text};
-use desk_file::{FileFault, migrate_file, outgrows};
+use desk_file::{FileFault, Image, migrate_class, migrate_file, outgrows};
 use desk_folders::Folders;
 use desk_graph::ClassGraph;
 use desk_ledger::{Digest, digest_of};
@@ -51,6 +51,22 @@ impl<'r> Migration<'r> {
     }
 }
 
+/// The image of a file along its route. Where it is known how many links a selected class has, they aren't counted again.
+#[tactic(auto, using(crate::proofs::Relinking::class_relinked, crate::proofs::Relinking::class_fault))]
+fn image_of(job: &Migration<'_>, input: &Input<'_>) -> Result<Image, FileFault>
+    ensures ok { IfOk result (λ found. made_of_input job.now.graph.now.rules job.now.graph.now.defined input.now ≡ Ok found) }
+    ensures err { IfErr result (IsFaultOf (made_of_input job.now.graph.now.rules job.now.graph.now.defined input.now)) }
+{
+    let file = input.file();
+    let bytes = input.content().as_bytes();
+    match file.image {
+        ImageNote::Links(links) if file.route.treatment.is_selected_class() => {
+            migrate_class(job.alloc, job.graph.rules(), bytes, links)
+        }
+        _ => migrate_file(job.alloc, job.graph, &file.route, bytes),
+    }
+}
+
 /// The image of a file with this digest along its route, or why it has none. The only error is want of memory, which also comes for a
 /// text whose image would have more than 67,108,864 bytes: it is measured before it is made.
 fn image_under(
@@ -59,14 +75,13 @@ fn image_under(
     digest: Digest,
 ) -> Result<Result<DigestedImage, Reason>, Memory>
     requires digest { digest ≡ digest_by input.now.bytes }
-    ensures { IfOk result (λ fate. fate ≡ image_along job.now.graph.now.rules job.now.graph.now.defined input.now.file.route input.now.bytes) }
+    ensures { IfOk result (λ fate. fate ≡ made_of_input job.now.graph.now.rules job.now.graph.now.defined input.now) }
 {
     let bytes = input.content().as_bytes();
-    let file = input.file();
-    if outgrows(job.graph.rules(), &file.route, bytes, MAX_FILE_SIZE) {
+    if outgrows(job.graph.rules(), &input.file().route, bytes, MAX_FILE_SIZE) {
         return Err(Memory);
     }
-    match migrate_file(job.alloc, job.graph, &file.route, bytes) {
+    match image_of(job, input) {
         Ok(image) => Ok(Ok(DigestedImage::of(image, bytes, digest))),
         Err(FileFault::Refused(reason)) => Ok(Err(reason)),
         Err(FileFault::Memory) => Err(Memory),
@@ -79,9 +94,11 @@ fn reading_under(job: &Migration<'_>, input: &Input<'_>) -> Result<SecondReading
 {
     let second = digest_of(input.content().as_bytes());
     if second == input.file().digest {
-        match input.file().stays {
-            Some(detail) => Ok(SecondReading::Stays(detail)),
-            None => Ok(SecondReading::Same(image_under(job, input, second)?)),
+        match input.file().image {
+            ImageNote::Unchanged(detail) => Ok(SecondReading::Stays(detail)),
+            ImageNote::Unknown | ImageNote::Links(_) => {
+                Ok(SecondReading::Same(image_under(job, input, second)?))
+            }
         }
     } else {
         Ok(SecondReading::Other(second))

@@ -1,5 +1,5 @@
 -- What becomes of a class.
-use Rattle.std.proofs.Common.{◌≡◌, Bool, true, cond, List, length, Option, Some, None, refl, sym, ap, ◌∙◌, Result, Ok, Err}
+use Rattle.std.proofs.Common.{◌≡◌, ℕ, Bool, true, cond, List, length, Option, Some, None, refl, sym, ap, ◌∙◌, Result, Ok, Err}
 use Rattle.desk_base.specs.Names.{Text}
 use Rattle.desk_base.specs.declared.faults.Malformed.{Malformed}
 use Rattle.desk_format.specs.Classes.{Class, read_class, fault_in, class_fault}
@@ -9,13 +9,22 @@ use Rattle.desk_follow.specs.RuleImages.{images_of}
 use Rattle.desk_rewrite.specs.declared.rewriting.RewriteFault.{RewriteFault}
 use Rattle.desk_rewrite.specs.declared.rewriting.RewriteFault.TheVariants as rewrite
 use Rattle.desk_rules.specs.Rules.{Rules}
+use Rattle.desk_patterns.specs.PatternTexts.{FileTexts, texts_for}
 use Rattle.desk_patterns.specs.Selections.{selects}
+use Rattle.desk_file.specs.Routes.{image_along}
+use Rattle.desk_file.specs.Treatments.{image_as, is_selected_class}
+use Rattle.desk_file.specs.declared.routes.Route.{Route}
+use Rattle.desk_file.specs.declared.treatments.Treatment.{Treatment}
+use Rattle.desk_file.specs.declared.treatments.Treatment.TheVariants as treatments
 use Rattle.desk_paths.specs.declared.Kind.TheVariants as kinds
 use Rattle.desk_paths.specs.Kinds.{kind_of}
 use Rattle.desk_file.specs.Images.{image as image_at, image_by, copied}
 use Rattle.desk_file.specs.Classes.{renamed_image, unless_refused, image_of_read, class_image}
 use Rattle.desk_file.specs.Faults.{IsClassFault, IsFaultOf, file_fault}
-use Rattle.desk_file.specs.Linked.{linked_class, with_links}
+use Rattle.desk_file.specs.Linked.{detail_with, linked_class, with_links}
+use Rattle.desk_report.specs.declared.lines.Detail.{Detail}
+use Rattle.desk_report.specs.declared.lines.Detail.TheVariants as detail
+use Rattle.desk_report.specs.declared.lines.Reason.{Reason}
 use Rattle.desk_file.specs.declared.images.FileFault.{FileFault}
 use Rattle.desk_file.specs.declared.images.FileFault.TheVariants.{Refused, Memory}
 use Rattle.desk_graph.specs.Graphs.{links_of}
@@ -87,7 +96,35 @@ class_made rules path bytes image selected class h =
     let is : image_at rules path bytes ≡ class_image rules bytes = ap (λ (b : Bool). cond b (image_by rules path bytes (kind_of path)) (Ok (copied bytes))) selected ∙ ap (image_by rules path bytes) class in
     made rules bytes image (sym is ∙ h)
 
--- the reason why a class has none is that in its application
+-- the reason why a class has none is that with any number of links, as in its application
+pub links_fault : (rules : Rules) (links : ℕ) (bytes : Text) (fault : FileFault) → IsClassFault rules bytes fault → IsFaultOf (with_links links (class_image rules bytes)) fault
+links_fault rules links bytes (Refused reason) h = ap (with_links links) h
+links_fault rules links bytes Memory h = tt
+
 pub linked_fault : (rules : Rules) (defined : List Text) (bytes : Text) (fault : FileFault) → IsClassFault rules bytes fault → IsFaultOf (linked_class rules defined bytes) fault
-linked_fault rules defined bytes (Refused reason) h = ap (with_links (length (links_of defined bytes))) h
-linked_fault rules defined bytes Memory h = tt
+linked_fault rules defined bytes fault h = links_fault rules (length (links_of defined bytes)) bytes fault h
+
+-- links that are counted twice are those of the second count
+pub relinked : (links before : ℕ) (made : Result Image Reason) → with_links links (with_links before made) ≡ with_links links made
+relinked links before (Ok image) = ap (λ (d : Detail). Ok (record { bytes = image.bytes; detail = d })) (detail_again links before image.detail) where
+  detail_again : (links before : ℕ) (d : Detail) → detail_with links (detail_with before d) ≡ detail_with links d
+  detail_again links before (detail.Class renamed added odd old) = refl
+  detail_again links before (detail.Service changed) = refl
+  detail_again links before (detail.Manifest changed) = refl
+  detail_again links before (detail.Texts changed) = refl
+  detail_again links before detail.Copy = refl
+relinked links before (Err reason) = refl
+
+along_by : (rules : Rules) (defined : List Text) (texts : Option FileTexts) (bytes : Text) (treatment : Treatment) (links : ℕ) → is_selected_class treatment ≡ true
+    → with_links links (image_as rules defined texts bytes treatment) ≡ with_links links (class_image rules bytes)
+along_by rules defined texts bytes treatments.Class links h = relinked links (length (links_of defined bytes)) (class_image rules bytes)
+along_by rules defined texts bytes treatments.UnselectedClass links h = absurd cc
+along_by rules defined texts bytes treatments.Service links h = absurd cc
+along_by rules defined texts bytes treatments.Manifest links h = absurd cc
+along_by rules defined texts bytes treatments.Texts links h = absurd cc
+along_by rules defined texts bytes treatments.Copy links h = absurd cc
+
+-- along the route of a selected class, its image with these links is the one that the class has by itself
+pub relinked_along : (rules : Rules) (defined : List Text) (route : Route) (bytes : Text) (links : ℕ) → is_selected_class route.treatment ≡ true
+    → with_links links (image_along rules defined route bytes) ≡ with_links links (class_image rules bytes)
+relinked_along rules defined route bytes links h = along_by rules defined (texts_for rules.texts route.path route.target) bytes route.treatment links h

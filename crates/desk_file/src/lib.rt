@@ -18,6 +18,7 @@ mod scans;
 mod targets;
 mod treatments;
 
+pub use classes::migrate_class;
 pub use images::{FileFault, Image, migrate_file, outgrows};
 pub use routes::{Route, route_of};
 pub use scans::{NotedClass, note_class};

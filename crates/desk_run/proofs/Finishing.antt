@@ -3,7 +3,7 @@ use Rattle.std.proofs.Common.{All, ◌≡◌, ℕ, List, ◌++◌, map, Option, 
 use Rattle.desk_base.specs.Names.{Text}
 use Rattle.desk_base.proofs.Results.{at_some}
 use Rattle.desk_readings.proofs.Fronts.{if_some}
-use Rattle.desk_batches.specs.Notes.{IsNoteOf, StaysAsNoted}
+use Rattle.desk_batches.specs.Notes.{BecomesAsNoted, IsNoteOf}
 use Rattle.desk_batches.specs.Turns.{outcome_of, works_in}
 use Rattle.desk_batches.specs.Works.{files_after, ledger_after}
 use Rattle.desk_batches.specs.declared.planned.PlannedFile.{PlannedFile}
@@ -16,7 +16,7 @@ use Rattle.desk_graph.specs.Graphs.{Graph, graph_of}
 use Rattle.desk_ledger.specs.Ledger.{Ledger, with_header}
 use Rattle.desk_words.specs.Roots.{AreRoots}
 use Rattle.desk_words.specs.declared.roots.Roots.{Roots}
-use Rattle.desk_run.proofs.Staying.{all_stay, classes_noted, lines_bare, works_bare}
+use Rattle.desk_run.proofs.Staying.{all_noted, classes_noted, lines_bare, works_bare}
 use Rattle.desk_run.proofs.Ending.{finish_stands, is_written_all, stop_finishes}
 use Rattle.desk_run.proofs.Measures.{all_notes}
 use Rattle.desk_run.proofs.Preparing.{names_of, planned_run}
@@ -27,7 +27,7 @@ use Rattle.desk_run.specs.Asked.{Asked, asked_roots}
 use Rattle.desk_intake.proofs.There.{files_there}
 use Rattle.desk_readings.specs.declared.measured.ClassNote.{ClassNote}
 use Rattle.desk_readings.specs.declared.measured.MeasuredFile.{MeasuredFile}
-use Rattle.desk_batches.specs.Details.{bare, details_of, stays_in}
+use Rattle.desk_batches.specs.Details.{bare, image_notes, notes_in}
 use Rattle.desk_run.specs.Notes.{measured_in, planned_by}
 use Rattle.desk_report.specs.Texts.{summary_text}
 use Rattle.desk_run.specs.Reports.{summary_by}
@@ -41,17 +41,17 @@ gathered_notes names g planned told h e = if_some _ told (λ m t.
     let from = at_some (λ m. GatheredFrom names m g) told m t h.told_of in
     all_notes g.ruled.value.rules names.from m g.notes.files.items planned e from.files.are)
 
--- and what it is known to become
-pub gathered_stays : (names : Roots) (g : Gathered) (graph : Graph) (planned : List PlannedFile) (told : Option Contents) → HasGathered names told g → graph ≡ graph_of g.ruled.value.rules g.notes.scanned.items
-    → map measured_in planned ≡ g.notes.files.items → stays_in planned ≡ details_of (map (λ (file : MeasuredFile). file.class) g.notes.files.items) graph.link_counts → IfSome told (λ m. All (StaysAsNoted (image_in g.ruled.value.rules graph.defined) names.from m) planned)
-gathered_stays names g graph planned told h is measured stays = if_some _ told (λ m t.
+-- and of their images
+pub gathered_images : (names : Roots) (g : Gathered) (graph : Graph) (planned : List PlannedFile) (told : Option Contents) → HasGathered names told g → graph ≡ graph_of g.ruled.value.rules g.notes.scanned.items
+    → map measured_in planned ≡ g.notes.files.items → notes_in planned ≡ image_notes (map (λ (file : MeasuredFile). file.class) g.notes.files.items) graph.link_counts → IfSome told (λ m. All (BecomesAsNoted (image_in g.ruled.value.rules graph.defined) names.from m) planned)
+gathered_images names g graph planned told h is measured images = if_some _ told (λ m t.
     let from = at_some (λ m. GatheredFrom names m g) told m t h.told_of in
     let rules = g.ruled.value.rules in
     let scanned = g.notes.scanned.items in
     let files = files_below names.from m in
-    subst (λ (x : Graph). All (StaysAsNoted (image_in rules x.defined) names.from m) planned) (sym is)
-    (all_stay rules scanned names.from m files planned graph.link_counts (files_there names.from m) from.files.bytes (measured ∙ from.files.are)
-    (ap (λ (x : Graph). x.link_counts) is ∙ ap (map (link_count (defined_in scanned))) from.files.scanned) (stays ∙ ap (λ (ns : List ClassNote). details_of ns graph.link_counts) (ap (map (λ (file : MeasuredFile). file.class)) from.files.are ∙ classes_noted rules files))))
+    subst (λ (x : Graph). All (BecomesAsNoted (image_in rules x.defined) names.from m) planned) (sym is)
+    (all_noted rules scanned names.from m files planned graph.link_counts (files_there names.from m) from.files.bytes (measured ∙ from.files.are)
+    (ap (λ (x : Graph). x.link_counts) is ∙ ap (map (link_count (defined_in scanned))) from.files.scanned) (images ∙ ap (λ (ns : List ClassNote). image_notes ns graph.link_counts) (ap (map (λ (file : MeasuredFile). file.class)) from.files.are ∙ classes_noted rules files))))
 
 -- what is known where a run was planned, of these names that classes define
 pub record IsPlanned (names : Roots) (g : Gathered) (defined : List Text) (planned : List PlannedFile) (f0 : Option Contents) (k0 k1 : Option Ledger) : Type 0 where

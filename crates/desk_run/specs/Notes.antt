@@ -1,11 +1,12 @@
 -- Files as the first reading finds them, and what is done with each by the rows of the ledger.
-use Rattle.std.specs.Prelude.{Bool, length, None, not, cond, is_some}
+use Rattle.std.specs.Prelude.{Bool, length, not, cond, is_some}
 use Rattle.std.specs.FinMap as fin
 use Rattle.desk_base.specs.Names.{Text}
 use Rattle.desk_readings.specs.Noting.{IsWithin}
 use Rattle.desk_readings.specs.Readings.{class_note, noted_route}
 use Rattle.desk_readings.specs.declared.measured.ClassNote.{ClassNote}
 use Rattle.desk_readings.specs.declared.measured.MeasuredFile.{MeasuredFile}
+use Rattle.desk_batches.specs.declared.planned.ImageNote.TheVariants.{Unknown}
 use Rattle.desk_batches.specs.declared.planned.PlannedFile.{PlannedFile}
 use Rattle.desk_batches.specs.declared.planned.Action.{Action}
 use Rattle.desk_batches.specs.declared.planned.Action.TheVariants.{Keep, Migrate, Copy}
@@ -29,7 +30,7 @@ action_of finds rows file =
     action_by (is_kept (finds file.route.target) (fin.get rows file.route.target) file.route.path file.digest.0) (not (is_copy file.route.treatment)) (is_some (fin.get rows file.route.target))
 
 abbrev pub planned_by : (Text → Held → Bool) → Rows → MeasuredFile → PlannedFile
-planned_by finds rows file = record { route = file.route; size = file.size; digest = file.digest; class = file.class; stays = None; action = action_of finds rows file }
+planned_by finds rows file = record { route = file.route; size = file.size; digest = file.digest; class = file.class; image = Unknown; action = action_of finds rows file }
 
 -- what the first reading found of a file that is planned
 abbrev pub measured_in : PlannedFile → MeasuredFile

@@ -1,7 +1,7 @@
 //! A run up to its end: what is gathered is planned, written and reported.
 
 ghost use Rattle.std.specs.Prelude.{All, ◌≡◌, ◌≤◌, ◌<◌, ◌^◌, true, None, Some, Err, IfOk, IsOkAnd, OnOk, IfErr, IfSome, IsSome, length, map, option_map};
-ghost use Rattle.desk_batches.specs.Notes.{IsNoteOf, IsSound, StaysAsNoted};
+ghost use Rattle.desk_batches.specs.Notes.{IsNoteOf, IsSound, BecomesAsNoted};
 ghost use Rattle.desk_batches.specs.Stops.{HasCause};
 ghost use Rattle.desk_batches.specs.Turns.{outcome_of, works_in};
 ghost use Rattle.desk_batches.specs.Works.{files_after, ledger_after};
@@ -20,7 +20,7 @@ ghost use Rattle.desk_run.specs.Halts.{HaltsPlan, NamedAtPlan};
 ghost use Rattle.desk_run.specs.Meaning.{finds_in, header_of, run_of_asked};
 ghost use Rattle.desk_run.specs.Asked.{asked_roots};
 ghost use Rattle.desk_intake.specs.Routes.{IsRelativeRoute};
-ghost use Rattle.desk_batches.specs.Details.{bare, details_of, stays_in};
+ghost use Rattle.desk_batches.specs.Details.{bare, image_notes, notes_in};
 ghost use Rattle.desk_run.specs.Notes.{measured_in, planned_by};
 ghost use Rattle.desk_run.specs.Reports.{ending_by, report_by, summary_by, summary_of};
 ghost use Rattle.desk_run.specs.Stops.{CommittedBehind, StopsAt};
@@ -33,7 +33,7 @@ use crate::opening::{make_header, open_ledger};
 use crate::planning::plan_files;
 use crate::report::{has_refused, summary_of, write_report};
 use crate::stops::{status_of_halt, status_of_stop};
-use desk_batches::{Migration, Outcome, PlannedFile, Stopped, with_details, write_all};
+use desk_batches::{Migration, Outcome, PlannedFile, Stopped, with_image_notes, write_all};
 use desk_folders::Folders;
 use desk_graph::ClassGraph;
 use desk_intake::{DigestedRules, Halt, build_graph};
@@ -70,7 +70,7 @@ fn plan<'r, F: Folders, K: Keeper>(
     ensures graph { IfOk result (λ p. p.graph ≡ graph_of ruled.entry.now.rules notes.scanned.items) }
     ensures told { F.told folders.new ≡ F.told folders.old }
     ensures planned { IfOk result (λ p. WhereTold (F.told folders.old) (K.told keeper.old) (λ m l. map bare p.planned.items ≡ map (planned_by (finds_in names.now m) l.rows) notes.files.items)) }
-    ensures stays { IfOk result (λ p. stays_in p.planned.items ≡ details_of (map (λ file. file.class) notes.files.items) p.graph.link_counts) }
+    ensures images { IfOk result (λ p. notes_in p.planned.items ≡ image_notes (map (λ file. file.class) notes.files.items) p.graph.link_counts) }
     ensures sound { IfOk result (λ p. All IsSound p.planned.items) }
     ensures measured { IfOk result (λ p. map measured_in p.planned.items ≡ notes.files.items) }
     ensures ledger { OnOk result (K.told keeper.new ≡ option_map (with_header (header_of names.now ruled.entry.now)) (K.told keeper.old)) }
@@ -88,7 +88,7 @@ fn plan<'r, F: Folders, K: Keeper>(
     let header = make_header(names, ruled)?;
     open_ledger(keeper, &names.ledger, &header)?;
     let planned = plan_files(alloc, folders, keeper, names, files)?;
-    let planned = with_details(planned, graph.link_counts());
+    let planned = with_image_notes(planned, graph.link_counts());
     Ok(Prepared { graph, planned })
 }
 
@@ -119,7 +119,7 @@ fn write_and_commit<R: Threads + Sync, F: Folders, K: Keeper, G: Gate + Sync>(
     requires sound { All IsSound planned.now }
     requires routes { All (λ one. IsRouteBy job.now.graph.now.rules one.route) planned.now }
     requires notes { IfSome (F.told folders.old) (λ m. All (IsNoteOf names.now.from m) planned.now) }
-    requires stays { IfSome (F.told folders.old) (λ m. All (StaysAsNoted (image_in job.now.graph.now.rules job.now.graph.now.defined) names.now.from m) planned.now) }
+    requires images { IfSome (F.told folders.old) (λ m. All (BecomesAsNoted (image_in job.now.graph.now.rules job.now.graph.now.defined) names.now.from m) planned.now) }
     ensures folders { OnOk result (IfSome (F.told folders.old) (λ m. F.told folders.new ≡ option_map (files_after names.now.to (works_in (image_in job.now.graph.now.rules job.now.graph.now.defined) names.now.from m planned.now)) (F.told folders.old))) }
     ensures ledger { OnOk result (IfSome (F.told folders.old) (λ m. K.told keeper.new ≡ option_map (ledger_after (works_in (image_in job.now.graph.now.rules job.now.graph.now.defined) names.now.from m planned.now)) (K.told keeper.old))) }
     ensures outcomes { IfOk result (λ outcomes. IfSome (F.told folders.old) (λ m. outcomes.items ≡ map outcome_of (works_in (image_in job.now.graph.now.rules job.now.graph.now.defined) names.now.from m planned.now))) }

@@ -17,7 +17,7 @@ ghost use Rattle.desk_run.specs.Runs.{has_output, is_candidate, is_kept};
 ghost use Rattle.desk_words.specs.Roots.{AreRoots, IsPathRoot};
 
 use desk_base::Text;
-use desk_batches::{Action, PlannedFile};
+use desk_batches::{Action, ImageNote, PlannedFile};
 use desk_folders::{FolderFault, Folders};
 use desk_intake::Halt;
 use desk_ledger::{Digest, Keeper, Row};
@@ -136,7 +136,7 @@ fn plan_file<F: Folders, K: Keeper>(
         size,
         digest,
         class,
-        stays: None,
+        image: ImageNote::Unknown,
         action,
     })
 }

@@ -4,7 +4,7 @@ use Rattle.std.proofs.lemmas.Result.{err_from_is_err_and}
 use Rattle.std.specs.List.{slice_range}
 use Rattle.std.proofs.lemmas.List.{map-append}
 use Rattle.desk_readings.proofs.Fronts.{if_some}
-use Rattle.desk_batches.specs.Notes.{IsNoteOf, StaysAsNoted}
+use Rattle.desk_batches.specs.Notes.{IsNoteOf, BecomesAsNoted}
 use Rattle.desk_batches.specs.Stops.{StoppedAt}
 use Rattle.desk_batches.specs.Works.{files_after, ledger_after}
 use Rattle.desk_file.specs.Linked.{image_in}
@@ -36,8 +36,8 @@ write_batch-requires-clause-notes g c κs within =
 pub write_batch-requires-clause-stays : goal.write_batch-requires-clause-stays
 write_batch-requires-clause-stays g c κs within =
     let image = image_in c.args.job.now.graph.now.rules c.args.job.now.graph.now.defined in
-    notes_part (StaysAsNoted image c.args.roots.now.from) (g.F.Folders.told c.loop-at.folders) c.args.planned.now c.loop-at.at c.batch_end-end.result
-    (notes_now (StaysAsNoted image) c.args.roots.now.from (g.F.Folders.told c.args.folders.now) (g.F.Folders.told c.loop-at.folders) c.args.planned.now (stay_of_source image) c.loop-at.invariant.stays c.requires.sound c.requires.stays)
+    notes_part (BecomesAsNoted image c.args.roots.now.from) (g.F.Folders.told c.loop-at.folders) c.args.planned.now c.loop-at.at c.batch_end-end.result
+    (notes_now (BecomesAsNoted image) c.args.roots.now.from (g.F.Folders.told c.args.folders.now) (g.F.Folders.told c.loop-at.folders) c.args.planned.now (stay_of_source image) c.loop-at.invariant.stays c.requires.sound c.requires.stays)
 
 pub loop-at-preserved : goal.loop-at-preserved
 loop-at-preserved g c =

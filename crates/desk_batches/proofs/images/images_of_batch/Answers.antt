@@ -4,7 +4,7 @@ use Rattle.std.specs.Prelude.{All, IfSome, OnErr}
 use Rattle.desk_base.proofs.Results.{at_some}
 use Rattle.desk_file.specs.Linked.{image_in}
 use Rattle.desk_file.specs.Routes.{IsRouteBy}
-use Rattle.desk_batches.specs.Notes.{IsNoteOf, IsSound, StaysAsNoted}
+use Rattle.desk_batches.specs.Notes.{IsNoteOf, IsSound, BecomesAsNoted}
 use Rattle.desk_batches.specs.Turns.{image_here, image_of_input, input_in, migrated, slice_length}
 use Rattle.desk_batches.specs.Inputs.{WholeFile}
 use Rattle.desk_batches.specs.declared.planned.PlannedFile.{PlannedFile}
@@ -30,7 +30,7 @@ loop-rest-init g c =
       counts = search rules;
       images = λ m e.
           let read = at_some (λ m. inputs ≡ map (input_in from m) (migrated slice)) told m e c.in_ok-inputs.ensures.inputs in
-          slice_read rules' defined from m batch slice rest n inputs c.requires.routes (at_some (λ m. All (StaysAsNoted (image_in rules' defined) from m) batch) told m e c.requires.stays) split read
+          slice_read rules' defined from m batch slice rest n inputs c.requires.routes (at_some (λ m. All (BecomesAsNoted (image_in rules' defined) from m) batch) told m e c.requires.stays) split read
           ∙ ap (λ ys. ys ++ (map (image_of_input rules' defined) inputs ++ map (image_here (image_in rules' defined) from m) (migrated rest))) (sym none);
       count = let first = count_first batch slice rest n inputs split c.in_ok-inputs.ensures.files in let empty = ap length none in omega (arith, first, empty);
       digests = λ m e. digests_known from told m slice inputs e (notes_front from told batch slice rest n split c.requires.notes) c.in_ok-inputs.ensures.inputs;
@@ -38,7 +38,7 @@ loop-rest-init g c =
       sound = all_back IsSound batch slice rest n split c.requires.sound;
       routes = all_back (λ (file : PlannedFile). IsRouteBy rules' file.route) batch slice rest n split c.requires.routes;
       notes = λ m e. all_back (IsNoteOf from m) batch slice rest n split (at_some (λ m. All (IsNoteOf from m) batch) told m e c.requires.notes);
-      stays = λ m e. all_back (StaysAsNoted (image_in rules' defined) from m) batch slice rest n split (at_some (λ m. All (StaysAsNoted (image_in rules' defined) from m) batch) told m e c.requires.stays);
+      stays = λ m e. all_back (BecomesAsNoted (image_in rules' defined) from m) batch slice rest n split (at_some (λ m. All (BecomesAsNoted (image_in rules' defined) from m) batch) told m e c.requires.stays);
     }
 
 pub migrate_and_read-made-requires-clause-few : goal.migrate_and_read-made-requires-clause-few
@@ -89,7 +89,7 @@ loop-rest-preserved g c =
       sound = all_back IsSound rest next behind n split c.loop-rest.invariant.sound;
       routes = all_back (λ (file : PlannedFile). IsRouteBy rules' file.route) rest next behind n split c.loop-rest.invariant.routes;
       notes = λ m e. all_back (IsNoteOf from m) rest next behind n split (c.loop-rest.invariant.notes m e);
-      stays = λ m e. all_back (StaysAsNoted (image_in rules' defined) from m) rest next behind n split (c.loop-rest.invariant.stays m e);
+      stays = λ m e. all_back (BecomesAsNoted (image_in rules' defined) from m) rest next behind n split (c.loop-rest.invariant.stays m e);
     }
 
 pub returns-in_err-inputs-clause-some : goal.returns-in_err-inputs-clause-some

@@ -3,7 +3,7 @@ use Rattle.std.specs.Prelude.{All}
 use Rattle.desk_file.specs.Linked.{image_in}
 use Rattle.desk_file.specs.Routes.{IsRouteBy}
 use Rattle.desk_folders.specs.Contents.{Contents}
-use Rattle.desk_batches.specs.Notes.{IsNoteOf, IsSound, StaysAsNoted}
+use Rattle.desk_batches.specs.Notes.{IsNoteOf, IsSound, BecomesAsNoted}
 use Rattle.desk_batches.specs.Turns.{HasItsDigest, image_here, image_of_input, migrated}
 use Rattle.desk_batches.specs.declared.planned.PlannedFile.{PlannedFile}
 use Rattle.desk_batches.proofs.images.images_of_batch.Given as goal
@@ -21,7 +21,7 @@ invariant-loop-rest g l = record {
   sound : All IsSound l.rest;
   routes : All (λ (file : PlannedFile). IsRouteBy l.job.graph.now.rules file.route) l.rest;
   notes : (m : Contents) → g.F.Folders.told l.fn.folders ≡ Some m → All (IsNoteOf l.from m) l.rest;
-  stays : (m : Contents) → g.F.Folders.told l.fn.folders ≡ Some m → All (StaysAsNoted (image_in l.job.graph.now.rules l.job.graph.now.defined) l.from m) l.rest;
+  stays : (m : Contents) → g.F.Folders.told l.fn.folders ≡ Some m → All (BecomesAsNoted (image_in l.job.graph.now.rules l.job.graph.now.defined) l.from m) l.rest;
 }
 
 abbrev pub decreases-loop-rest : goal.decreases-loop-rest

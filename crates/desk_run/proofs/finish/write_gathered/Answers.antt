@@ -1,6 +1,6 @@
 use Rattle.std.proofs.Common.{ap, sym, subst}
 use Rattle.desk_graph.specs.Graphs.{Graph}
-use Rattle.desk_run.proofs.Finishing.{gathered_notes, gathered_stays, gathered_stopped, gathered_written, is_planned}
+use Rattle.desk_run.proofs.Finishing.{gathered_notes, gathered_images, gathered_stopped, gathered_written, is_planned}
 use Rattle.desk_run.proofs.Measures.{all_routed}
 use Rattle.desk_run.proofs.Preparing.{plan_early}
 use Rattle.desk_run.proofs.Promised.{early_told}
@@ -17,11 +17,11 @@ pub write_and_commit-requires-clause-notes : goal.write_and_commit-requires-clau
 write_and_commit-requires-clause-notes g c κs within =
     rw (c.deref-2.ensures.value, c.in-Ok.ensures.told) (gathered_notes c.args.names.now c.args.gathered c.in-Ok.prepared.planned.items (g.F.Folders.told c.args.folders.now) c.requires.gathered c.in-Ok.ensures.measured)
 
-pub write_and_commit-requires-clause-stays : goal.write_and_commit-requires-clause-stays
-write_and_commit-requires-clause-stays g c κs within =
+pub write_and_commit-requires-clause-images : goal.write_and_commit-requires-clause-images
+write_and_commit-requires-clause-images g c κs within =
     let p = c.in-Ok.ensures in
     rw (c.deref-2.ensures.value, c.of-job.ensures.graph, ap (λ (x : Graph). x.rules) (rw c.deref.ensures at p.graph), p.told)
-    (gathered_stays c.args.names.now c.args.gathered c.in-Ok.prepared.graph c.in-Ok.prepared.planned.items (g.F.Folders.told c.args.folders.now) c.requires.gathered (rw c.deref.ensures at p.graph) p.measured p.stays)
+    (gathered_images c.args.names.now c.args.gathered c.in-Ok.prepared.graph c.in-Ok.prepared.planned.items (g.F.Folders.told c.args.folders.now) c.requires.gathered (rw c.deref.ensures at p.graph) p.measured p.images)
 
 pub returns-in-Err-clause-stopped : goal.returns-in-Err-clause-stopped
 returns-in-Err-clause-stopped g c = λ m l ef ek.
