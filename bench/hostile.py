@@ -11,6 +11,7 @@ from timing import timed
 ROUNDS, READINGS = 5, 10
 LONG = 60000
 AIM = 3
+NONE = b"\x00\x00"
 
 
 def two(number):
@@ -33,10 +34,11 @@ class Pool:
 
 
 def written(pool, interfaces=(), methods=(), attributes=()):
-    """The bytes of a class of a pool, with the indices of its interfaces, its methods and its attributes."""
+    """The bytes of a class of a pool, with the indices of its interfaces, its methods, each with the bytes of its attributes, and its
+    attributes."""
     parts = [b"\xca\xfe\xba\xbe\x00\x00\x00\x34", two(len(pool.entries) + 1), *pool.entries, b"\x00\x21\x00\x02\x00\x04"]
     parts += [two(len(interfaces))] + [two(index) for index in interfaces]
-    parts += [two(0), two(len(methods))] + [two(1025) + two(name) + two(descriptor) + two(0) for name, descriptor in methods]
+    parts += [two(0), two(len(methods))] + [two(1025) + two(name) + two(descriptor) + rest for name, descriptor, rest in methods]
     parts += [two(len(attributes))] + [two(name) + len(body).to_bytes(4, "big") + body for name, body in attributes]
     return b"".join(parts)
 
@@ -81,7 +83,7 @@ def members(hostile, first=b""):
     long = [pool.add(utf8(long_text(b"m", number))) for number in range(200)]
     short = [pool.add(utf8(b"m%09d" % number)) for number in range(200)]
     descriptors = [pool.add(utf8(b"(" + first + b"I" * (1 + number % 20) + b"J" * (number // 20) + b")V")) for number in range(300)]
-    return written(pool, methods=[(name, descriptor) for name in (long if hostile else short) for descriptor in descriptors])
+    return written(pool, methods=[(name, descriptor, NONE) for name in (long if hostile else short) for descriptor in descriptors])
 
 
 def entries(hostile):
@@ -90,7 +92,18 @@ def entries(hostile):
     long = [pool.add(utf8(b"m" * 900 + b"%05d" % number)) for number in range(20000)]
     short = [pool.add(utf8(b"%05d" % number)) for number in range(20000)]
     descriptor = pool.add(utf8(b"()V"))
-    return written(pool, methods=[(name, descriptor) for name in (long if hostile else short)])
+    return written(pool, methods=[(name, descriptor, NONE) for name in (long if hostile else short)])
+
+
+def signatures(hostile):
+    """20,000 methods of one long descriptor, each with the same text as its signature, so that the roles of this text take turns."""
+    pool = Pool()
+    signature = pool.add(utf8(b"Signature"))
+    long = pool.add(utf8(b"(" + long_text(b"L") + b";)V"))
+    short = pool.add(utf8(b"(LA;)V"))
+    text = long if hostile else short
+    attributes = two(1) + two(signature) + (2).to_bytes(4, "big") + two(text)
+    return written(pool, methods=[(pool.add(utf8(b"m%d" % number)), text, attributes) for number in range(20000)])
 
 
 def seconds_of(program, place, content):
@@ -147,8 +160,9 @@ def main():
         compare(make.__name__, make, lambda content: seconds_of(reader, place, content))
     if os.access(program, os.X_OK):
         compare("members, migrated", renamed_members, lambda content: seconds_to_migrate(program, place, content))
+        compare("signatures, migrated", signatures, lambda content: seconds_to_migrate(program, place, content))
     else:
-        print("members, migrated: not timed, since the program isn't built (examples/first/run.sh builds it)")
+        print("members and signatures, migrated: not timed, since the program isn't built (examples/first/run.sh builds it)")
 
 
 main()
